@@ -1,0 +1,17 @@
+//! Names, places in a file, terms as they are written, and lists that contracts see as their items.
+#![tactic(auto)]
+
+pub mod name;
+pub mod names;
+pub mod place;
+pub mod raw;
+pub mod seq;
+
+pub use name::{Name, NameRefusal};
+pub use names::{Names, NamesRefusal};
+pub use place::Place;
+pub use raw::Raw;
+pub use seq::Seq;
+
+#[cfg(test)]
+mod tests;
