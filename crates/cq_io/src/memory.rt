@@ -1,0 +1,181 @@
+//! A folder and a sink in memory, for tests. Each is told which of its calls fail.
+
+ghost use Rattle.std.specs.Prelude.{◌≡◌, ◌++◌, ◌∷◌, [], ◌≤◌, ℕ, List, map, IfOk, OnOk, OnErr, IfErr, Some, vec_len, vec_capacity};
+ghost use Rattle.cq_io.specs.Content.{file_of, find_file};
+ghost use Rattle.cq_io.specs.Failing.{is_empty, spare_room};
+ghost use Rattle.std.specs.Option.{option_copied};
+
+use crate::folder::{Folder, ReadRefusal};
+use crate::sink::{Failed, Sink};
+use std::alloc::{AllocError, Global};
+
+/// Files in memory. `failing` are the numbers, from 0, of the reads that fail.
+#[derive(Drop)]
+pub struct MemFolder {
+    alloc: Global,
+    files: Vec<(String, Vec<u8>)>,
+    failing: Vec<u64>,
+    reads: u64,
+    faults: u64,
+    absences: u64,
+    overruns: u64,
+}
+
+impl MemFolder {
+    /// These files; of two with one name the first counts.
+    pub fn new(
+        alloc: Global,
+        files: Vec<(String, Vec<u8>)>,
+        failing: Vec<u64>,
+    ) -> Result<MemFolder, AllocError>
+        ensures files { IfOk result (λ folder. ⟦<MemFolder as Folder>⟧.files folder ≡ Some (map file_of files.items)) }
+        ensures steady { IfOk result (λ folder. ⟦<MemFolder as Folder>⟧.steady folder ≡ is_empty failing.items) }
+        ensures faults { IfOk result (λ folder. ⟦<MemFolder as Folder>⟧.faults folder ≡ 0) }
+    {
+        Ok(MemFolder {
+            alloc,
+            files,
+            failing,
+            reads: 0,
+            faults: 0,
+            absences: 0,
+            overruns: 0,
+        })
+    }
+}
+
+impl Folder for MemFolder {
+    ghost files = { λ s. Some (map file_of s.files.items) };
+
+    ghost faults = { λ s. s.faults };
+
+    ghost absences = { λ s. s.absences };
+
+    ghost overruns = { λ s. s.overruns };
+
+    ghost steady = { λ s. is_empty s.failing.items };
+
+    fn read(&mut self, name: &str, limit: u64) -> Result<Vec<u8>, ReadRefusal> {
+        let number = self.reads;
+        self.reads = self.reads.saturating_add(1);
+        if self.failing.contains(&number) {
+            self.faults = self.faults.saturating_add(1);
+            return Err(ReadRefusal::Failed);
+        }
+        let Some(bytes) = find(self.files.as_slice(), name) else {
+            self.absences = self.absences.saturating_add(1);
+            return Err(ReadRefusal::Absent);
+        };
+        if bytes.len() as u64 > limit {
+            self.overruns = self.overruns.saturating_add(1);
+            return Err(ReadRefusal::TooLong);
+        }
+        match Vec::from_slice(self.alloc, bytes) {
+            Ok(copy) => Ok(copy),
+            Err(_) => Err(ReadRefusal::Memory),
+        }
+    }
+}
+
+/// The bytes of the first file with this name.
+fn find<'a>(files: &'a [(String, Vec<u8>)], name: &str) -> Option<&'a [u8]>
+    ensures { option_copied result ≡ find_file name.now (map file_of files.now) }
+{
+    for file in files {
+        if file.0.as_str() == name {
+            return Some(file.1.as_slice());
+        }
+    }
+    None
+}
+
+/// Bytes in memory, at most as many as there is room for. `failing` are the numbers, from 0, of the writes that fail.
+#[derive(Drop)]
+pub struct MemSink {
+    held: Vec<u8>,
+    room: usize,
+    failing: Vec<u64>,
+    writes: u64,
+    faults: u64,
+    ghost reserved: { room ≤ vec_capacity held },
+}
+
+impl MemSink {
+    /// An empty sink that takes the memory for `room` bytes at once. A write past the room fails after it
+    /// has appended what fits.
+    pub fn new(alloc: Global, failing: Vec<u64>, room: u64) -> Result<MemSink, AllocError>
+        ensures held { IfOk result (λ sink. ⟦<MemSink as Sink>⟧.held sink ≡ Some []) }
+        ensures spare { IfOk result (λ sink. ⟦<MemSink as Sink>⟧.spare sink ≡ spare_room failing.items room []) }
+        ensures faults { IfOk result (λ sink. ⟦<MemSink as Sink>⟧.faults sink ≡ 0) }
+    {
+        let room = room as usize;
+        Ok(MemSink {
+            held: Vec::with_capacity(alloc, room)?,
+            room,
+            failing,
+            writes: 0,
+            faults: 0,
+        })
+    }
+
+    /// What was written.
+    pub fn bytes(&self) -> &[u8]
+        ensures { ⟦<MemSink as Sink>⟧.held self.now ≡ Some result.now }
+    {
+        self.held.as_slice()
+    }
+}
+
+impl Sink for MemSink {
+    ghost held = { λ s. Some s.held.items };
+
+    ghost spare = { λ s. spare_room s.failing.items s.room s.held.items };
+
+    ghost faults = { λ s. s.faults };
+
+    fn write_all(&mut self, bytes: &[u8]) -> Result<(), Failed> {
+        let number = self.writes;
+        self.writes = self.writes.saturating_add(1);
+        if self.failing.contains(&number) {
+            self.faults = self.faults.saturating_add(1);
+            return Err(Failed);
+        }
+        let left = self.room.saturating_sub(self.held.len());
+        let fits = bytes.len().min(left);
+        self.held.extend_from_slice(&bytes[..fits]).unwrap();
+        if fits < bytes.len() {
+            self.faults = self.faults.saturating_add(1);
+            return Err(Failed);
+        }
+        Ok(())
+    }
+}
+
+#[cfg(test)]
+mod tests {
+    use super::*;
+    use std::test::Fail;
+
+    #[test]
+    fn reads_and_writes_fail_where_they_are_told_to(rt: HostRuntime) -> Result<(), Fail> {
+        let alloc = rt.alloc();
+        let mut files = Vec::new(alloc);
+        for content in ["first", "second"] {
+            let bytes = Vec::from_slice(alloc, content.as_bytes())?;
+            files.push((String::from_str(alloc, "name")?, bytes))?;
+        }
+        let mut folder = MemFolder::new(alloc, files, Vec::from_slice(alloc, &[1])?)?;
+        let found = folder.read("name", 5)?;
+        assert!(rt; found.as_slice() == b"first".as_slice());
+        assert!(rt; matches!(&folder.read("name", 5), Err(ReadRefusal::Failed)));
+        assert!(rt; matches!(&folder.read("name", 4), Err(ReadRefusal::TooLong)));
+        assert!(rt; matches!(&folder.read("other", 4), Err(ReadRefusal::Absent)));
+
+        let mut sink = MemSink::new(alloc, Vec::from_slice(alloc, &[1])?, 4)?;
+        assert_eq!(rt; sink.write_all(b"ab"), Ok(()));
+        assert_eq!(rt; sink.write_all(b"cd"), Err(Failed));
+        assert_eq!(rt; sink.write_all(b"efg"), Err(Failed));
+        assert!(rt; sink.bytes() == b"abef".as_slice());
+        Ok(())
+    }
+}
