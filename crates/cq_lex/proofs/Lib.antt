@@ -1,0 +1,9 @@
+pub mod Runs
+pub mod Contents
+pub mod Written
+pub mod Comments
+pub mod Marks
+pub mod Rules
+pub mod Unique
+pub mod Lexing
+pub mod Spanning
