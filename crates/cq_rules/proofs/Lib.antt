@@ -1,0 +1,19 @@
+pub mod ByLength
+mod Tags
+pub mod Laws
+pub mod Keep
+pub mod Seq
+pub mod Alt
+pub mod Many
+pub mod Made
+pub mod Or
+pub mod Guard
+pub mod Placed
+pub mod Limited
+pub mod Shortest
+pub mod Every
+pub mod Chain
+pub mod TermLaws
+pub mod Rules
+pub mod Deciding
+pub mod Absent
