@@ -1,0 +1,6 @@
+pub mod Terms
+pub mod Parts
+pub mod Expressions
+pub mod LeftOut
+pub mod Grammar
+pub mod Program
