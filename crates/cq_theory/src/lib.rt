@@ -1,0 +1,22 @@
+//! Typesides, schemas, presentations, terms and values.
+#![tactic(auto)]
+
+pub mod laws;
+pub mod lookup;
+pub mod parts;
+pub mod presentation;
+pub mod route;
+pub mod schema;
+pub mod term;
+pub mod typeside;
+pub mod value;
+pub mod value_text;
+
+pub use lookup::{Symbol, TermRefusal, TheoryRefusal, resolve};
+pub use parts::{ObsPart, PresentationParts, SchemaParts, TypesideParts};
+pub use presentation::{Equation, Presentation, Sort};
+pub use route::{Route, resolve_path};
+pub use schema::{Edge, ObsEq, PathEq, Schema};
+pub use term::{EntTerm, Term, TypeTerm, depth, ent_symbols, substitute, symbols};
+pub use typeside::{Fun, Typeside};
+pub use value::{Algebra, Entry, Sheet, Value, value_symbols};

@@ -1,0 +1,42 @@
+//! Looking up the names of terms.
+pub(crate) mod builds;
+pub(crate) mod declares;
+pub(crate) mod faults;
+pub(crate) mod observations;
+pub(crate) mod parts;
+pub(crate) mod passes;
+pub(crate) mod paths;
+pub(crate) mod schema_parts;
+pub(crate) mod typeside_parts;
+
+pub use builds::resolve;
+
+/// A function, a foreign key or an attribute, by its number.
+#[derive(Clone, Copy, Debug, PartialEq, Eq)]
+pub enum Symbol {
+    Function(u32),
+    Key(u32),
+    Attribute(u32),
+}
+
+/// Why a term could not be looked up.
+#[derive(Clone, Copy, Debug, PartialEq, Eq)]
+pub enum TermRefusal {
+    Unknown,
+    WrongCount,
+    WrongSort,
+    TooLarge,
+    Memory,
+}
+
+/// Why parts make no typeside, schema or presentation, with the number of the first wrong part.
+#[derive(Clone, Copy, Debug, PartialEq, Eq)]
+pub enum TheoryRefusal {
+    Duplicate(u32),
+    Unknown(u32),
+    WrongCount(u32),
+    WrongSort(u32),
+    Reserved(u32),
+    TooLarge(u32),
+    Memory,
+}

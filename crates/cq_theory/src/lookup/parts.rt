@@ -1,0 +1,205 @@
+//! The parts of a presentation.
+ghost use Rattle.std.specs.Prelude.{◌≡◌, ◌-◌, ◌<◌, ◌^◌, ◌⊎◌, ◌++◌, ◌∷◌, [], IfOk, IfErr, Some, None, length};
+ghost use Rattle.std.specs.Prelude.{◌+◌, map};
+ghost use Rattle.cq_base.specs.Names.{AreDistinct};
+ghost use Rattle.cq_theory.specs.Presentation.{IsPresentation};
+ghost use Rattle.cq_theory.specs.Resolve.{sort_named};
+ghost use Rattle.cq_theory.specs.Resolved.{resolved};
+ghost use Rattle.cq_theory.specs.Parts.{presentation_fault, presented, equation_of, sort_or_first, generator_fault, first_generator_fault, generator_names, generator_sorts};
+
+use crate::lookup::TheoryRefusal;
+use crate::lookup::builds::build;
+use crate::lookup::faults::first_equation_fault;
+use crate::parts::PresentationParts;
+use crate::presentation::{Equation, Presentation, Sort};
+use crate::schema::Schema;
+use crate::term::{Term, TypeTerm};
+use cq_base::{Name, Names, Raw, Seq};
+use std::alloc::{AllocError, Global};
+
+/// The most generators of a presentation.
+const MOST_GENERATORS: u32 = 16_000_000;
+
+/// Adds the name of generator `part` to the names, and gives its sort.
+fn add_generator(
+    schema: &Schema,
+    names: &mut Names,
+    part: u32,
+    name: &Name,
+    sort: &Name,
+) -> Result<Sort, TheoryRefusal>
+    requires { length names.old < 2 ^ 32 - 1 }
+    ensures ok { IfOk result (λ found. (generator_fault schema.now names.old part (name.now, sort.now) ≡ None) × (names.new ≡ names.old ++ name.now ∷ []) × (sort_named schema.now sort.now ≡ Some found)) }
+    ensures refused { IfErr result (λ refusal. (refusal ≡ TheoryRefusal.Memory) ⊎ (generator_fault schema.now names.old part (name.now, sort.now) ≡ Some refusal)) }
+{
+    if names.find(name).is_some() {
+        return Err(TheoryRefusal::Duplicate(part));
+    }
+    let Some(found) = schema.find_sort(sort) else {
+        return Err(TheoryRefusal::Unknown(part));
+    };
+    if part >= MOST_GENERATORS {
+        return Err(TheoryRefusal::TooLarge(part));
+    }
+    let Ok(name) = name.clone() else {
+        return Err(TheoryRefusal::Memory);
+    };
+    match names.add(name) {
+        Ok(_) => Ok(found),
+        Err(_) => Err(TheoryRefusal::Memory),
+    }
+}
+
+/// The names and the sorts of the generators.
+pub(crate) fn add_generators(
+    alloc: Global,
+    schema: &Schema,
+    parts: &[(Name, Name)],
+) -> Result<(Names, Vec<Sort>), TheoryRefusal>
+    requires { length parts.now < 2 ^ 32 }
+    ensures accepted { IfOk result (λ _. first_generator_fault schema.now [] 0 parts.now ≡ None) }
+    ensures made { IfOk result (λ made. (made.0 ≡ generator_names parts.now) × (made.1.items ≡ generator_sorts schema.now parts.now)) }
+    ensures refused { IfErr result (λ refusal. (refusal ≡ TheoryRefusal.Memory) ⊎ (first_generator_fault schema.now [] 0 parts.now ≡ Some refusal)) }
+{
+    let mut names = Names::new(alloc);
+    let mut sorts = Vec::new(alloc);
+    let mut part = 0;
+    for generator in parts {
+        let sort = add_generator(schema, &mut names, part, &generator.0, &generator.1)?;
+        if sorts.push(sort).is_err() {
+            return Err(TheoryRefusal::Memory);
+        }
+        part += 1;
+    }
+    Ok((names, sorts))
+}
+
+impl Presentation {
+    /// The presentation that the parts give. Where parts break rules, the answer is the first such part with the least rule that it breaks, or want of memory.
+    pub fn new(
+        alloc: Global,
+        schema: &Schema,
+        parts: PresentationParts,
+    ) -> Result<Presentation, TheoryRefusal>
+        requires { length parts.generators + length parts.equations < 2 ^ 32 }
+        ensures accepted { IfOk result (λ _. presentation_fault schema.now parts.generators parts.equations ≡ None) }
+        ensures made { IfOk result (λ made. made ≡ presented schema.now parts.generators parts.equations) }
+        ensures presentation { IfOk result (λ made. IsPresentation schema.now made) }
+        ensures distinct { IfOk result (λ made. AreDistinct (map (λ generator. generator.0) made.generators)) }
+        ensures refused { IfErr result (λ refusal. (refusal ≡ TheoryRefusal.Memory) ⊎ (presentation_fault schema.now parts.generators parts.equations ≡ Some refusal)) }
+    {
+        let generators = parts.generators.as_slice();
+        let equations = parts.equations.as_slice();
+        let (names, sorts) = add_generators(alloc, schema, generators)?;
+        if let Some(refusal) = fault_after_generators(
+            schema,
+            &names,
+            sorts.as_slice(),
+            generators,
+            equations,
+        ) {
+            return Err(refusal);
+        }
+        match build_presentation(
+            alloc,
+            schema,
+            &names,
+            sorts.as_slice(),
+            generators,
+            equations,
+        ) {
+            Ok(presentation) => Ok(presentation),
+            Err(_) => Err(TheoryRefusal::Memory),
+        }
+    }
+}
+
+/// The first fault of the parts, of whose generators none breaks a rule.
+fn fault_after_generators(
+    schema: &Schema,
+    names: &Names,
+    sorts: &[Sort],
+    generators: &[(Name, Name)],
+    equations: &[(Raw, Raw)],
+) -> Option<TheoryRefusal>
+    requires generators { first_generator_fault schema.now [] 0 generators.now ≡ None }
+    requires names { names.now ≡ generator_names generators.now }
+    requires sorts { sorts.now ≡ generator_sorts schema.now generators.now }
+    requires parts { length generators.now + length equations.now < 2 ^ 32 }
+    ensures { result ≡ presentation_fault schema.now generators.now equations.now }
+{
+    first_equation_fault(schema, names, sorts, equations, generators.len() as u32)
+}
+
+fn build_presentation(
+    alloc: Global,
+    schema: &Schema,
+    names: &Names,
+    sorts: &[Sort],
+    generators: &[(Name, Name)],
+    equations: &[(Raw, Raw)],
+) -> Result<Presentation, AllocError>
+    requires names { names.now ≡ generator_names generators.now }
+    requires sorts { sorts.now ≡ generator_sorts schema.now generators.now }
+    ensures { IfOk result (λ made. made ≡ presented schema.now generators.now equations.now) }
+{
+    let generators = build_generators(alloc, schema, generators)?;
+    let equations = build_equations(alloc, schema, names, sorts, equations)?;
+    Ok(Presentation {
+        generators: Seq::from_vec(generators),
+        equations: Seq::from_vec(equations),
+    })
+}
+
+fn first_sort(sort: Option<Sort>) -> Sort
+    ensures { result ≡ sort_or_first sort }
+{
+    match sort {
+        Some(sort) => sort,
+        None => Sort::Plain(0),
+    }
+}
+
+fn build_generators(
+    alloc: Global,
+    schema: &Schema,
+    generators: &[(Name, Name)],
+) -> Result<Vec<(Name, Sort)>, AllocError>
+    ensures { IfOk result (λ made. made.items ≡ map (λ part. (part.0, sort_or_first (sort_named schema.now part.1))) generators.now) }
+{
+    let mut made = Vec::new(alloc);
+    for generator in generators {
+        let name = generator.0.clone()?;
+        made.push((name, first_sort(schema.find_sort(&generator.1))))?;
+    }
+    Ok(made)
+}
+
+/// An equation of two terms of one kind, which they are where the parts break no rule.
+fn make_equation(left: Term, right: Term) -> Equation
+    ensures { result ≡ equation_of left right }
+{
+    match (left, right) {
+        (Term::Ent(left), Term::Ent(right)) => Equation::Ent(left, right),
+        (Term::Typ(left), Term::Typ(right)) => Equation::Typ(left, right),
+        _ => Equation::Typ(TypeTerm::Const(0), TypeTerm::Const(0)),
+    }
+}
+
+fn build_equations(
+    alloc: Global,
+    schema: &Schema,
+    names: &Names,
+    sorts: &[Sort],
+    equations: &[(Raw, Raw)],
+) -> Result<Vec<Equation>, AllocError>
+    ensures { IfOk result (λ made. made.items ≡ map (λ e. equation_of (resolved schema.now names.now sorts.now e.0) (resolved schema.now names.now sorts.now e.1)) equations.now) }
+{
+    let mut made = Vec::new(alloc);
+    for equation in equations {
+        let left = build(alloc, schema, names, sorts, &equation.0)?;
+        let right = build(alloc, schema, names, sorts, &equation.1)?;
+        made.push(make_equation(left, right))?;
+    }
+    Ok(made)
+}

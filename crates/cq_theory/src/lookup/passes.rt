@@ -1,0 +1,219 @@
+//! The rules of a term, one pass for each.
+ghost use Rattle.std.specs.Prelude.{◌≡◌, ◌||◌, is_none, map, length, IfSome, Some};
+ghost use Rattle.std.specs.List.{list_any};
+ghost use Rattle.cq_theory.specs.Sorts.{followed};
+ghost use Rattle.cq_theory.specs.Resolve.{constant_of, symbol_of, has_unknown as unknown_in, has_wrong_count as wrong_count_in, takes_another_count, IsSymbol, raw_sort as raw_sort_of, constant_sort, word_sort, symbol_sort, is_plain_of, are_plain_of, entity_in, type_in, only};
+
+use crate::lookup::Symbol;
+use crate::presentation::Sort;
+use crate::schema::{Edge, Schema};
+use cq_base::{Name, Names, Raw};
+
+/// Whether a name of the term isn't declared.
+#[cycle(unknown)]
+pub(crate) fn has_unknown(schema: &Schema, names: &Names, raw: &Raw) -> bool
+    ensures { result ≡ unknown_in schema.now names.now raw.now }
+{
+    match raw {
+        Raw::Word(name) => names.find(name).is_none() && schema.find_constant(name).is_none(),
+        Raw::Text(name) => schema.find_constant(name).is_none(),
+        Raw::App(name, args) => has_unknown_part(schema, names, name, args.as_slice()),
+    }
+}
+
+#[cycle(unknown)]
+fn has_unknown_part(schema: &Schema, names: &Names, name: &Name, args: &[Raw]) -> bool
+    ensures { result ≡ (is_none (symbol_of schema.now name.now) || list_any (λ b. b) (map (unknown_in schema.now names.now) args.now)) }
+{
+    if schema.find_symbol(name).is_none() {
+        return true;
+    }
+    for arg in args {
+        if has_unknown(schema, names, arg) {
+            return true;
+        }
+    }
+    false
+}
+
+/// Whether a symbol of the term is applied to another number of arguments than it has.
+#[cycle(count)]
+pub(crate) fn has_wrong_count(schema: &Schema, raw: &Raw) -> bool
+    ensures { result ≡ wrong_count_in schema.now raw.now }
+{
+    match raw {
+        Raw::Word(_) => false,
+        Raw::Text(_) => false,
+        Raw::App(name, args) => has_wrong_count_part(schema, name, args.as_slice()),
+    }
+}
+
+#[cycle(count)]
+fn has_wrong_count_part(schema: &Schema, name: &Name, args: &[Raw]) -> bool
+    ensures { result ≡ (takes_another_count schema.now (symbol_of schema.now name.now) (length (map (wrong_count_in schema.now) args.now)) || list_any (λ b. b) (map (wrong_count_in schema.now) args.now)) }
+{
+    if takes_other_count(schema, schema.find_symbol(name), args.len()) {
+        return true;
+    }
+    for arg in args {
+        if has_wrong_count(schema, arg) {
+            return true;
+        }
+    }
+    false
+}
+
+fn takes_other_count(schema: &Schema, symbol: Option<Symbol>, count: usize) -> bool
+    requires { IfSome symbol (IsSymbol schema.now) }
+    ensures { result ≡ takes_another_count schema.now symbol count }
+{
+    match symbol {
+        Some(Symbol::Function(function)) => schema.typeside.functions.as_slice()[function as usize]
+            .args
+            .len()
+            != count,
+        Some(_) => count != 1,
+        None => false,
+    }
+}
+
+/// The sort of a constant.
+fn sort_of_constant(schema: &Schema, constant: Option<u32>) -> Option<Sort>
+    ensures { result ≡ constant_sort schema.now constant }
+{
+    match schema.typeside.constants.as_slice().get(constant? as usize) {
+        Some(constant) => Some(Sort::Plain(constant.1)),
+        None => None,
+    }
+}
+
+/// The sort of a word: a generator's where one is declared, else a constant's.
+fn sort_of_word(
+    schema: &Schema,
+    sorts: &[Sort],
+    generator: Option<u32>,
+    name: &Name,
+) -> Option<Sort>
+    ensures { result ≡ word_sort schema.now sorts.now generator (constant_of schema.now name.now) }
+{
+    match generator {
+        Some(generator) => sorts.get(generator as usize).copied(),
+        None => sort_of_constant(schema, schema.find_constant(name)),
+    }
+}
+
+/// Where an edge leads from an entity.
+fn followed_from(edge: &Edge, entity: u32) -> Option<u32>
+    ensures { result ≡ followed (Some edge.now) entity }
+{
+    if edge.from == entity {
+        Some(edge.to)
+    } else {
+        None
+    }
+}
+
+fn is_plain_sort(sort: Option<Sort>, expected: u32) -> bool
+    ensures { result ≡ is_plain_of sort expected }
+{
+    match sort {
+        Some(Sort::Plain(found)) => found == expected,
+        Some(Sort::Entity(_)) => false,
+        None => false,
+    }
+}
+
+pub(crate) fn entity_of_sort(sort: Option<Sort>) -> Option<u32>
+    ensures { result ≡ entity_in sort }
+{
+    match sort {
+        Some(Sort::Entity(entity)) => Some(entity),
+        Some(Sort::Plain(_)) => None,
+        None => None,
+    }
+}
+
+pub(crate) fn type_of_sort(sort: Option<Sort>) -> Option<u32>
+    ensures { result ≡ type_in sort }
+{
+    match sort {
+        Some(Sort::Plain(number)) => Some(number),
+        Some(Sort::Entity(_)) => None,
+        None => None,
+    }
+}
+
+/// The sort of the term, if its names, counts and sorts are right.
+#[cycle(sort)]
+pub(crate) fn sort_of_raw(schema: &Schema, names: &Names, sorts: &[Sort], raw: &Raw) -> Option<Sort>
+    ensures { result ≡ raw_sort_of schema.now names.now sorts.now raw.now }
+{
+    match raw {
+        Raw::Word(name) => sort_of_word(schema, sorts, names.find(name), name),
+        Raw::Text(name) => sort_of_constant(schema, schema.find_constant(name)),
+        Raw::App(name, args) => sort_of_application(schema, names, sorts, name, args.as_slice()),
+    }
+}
+
+#[cycle(sort)]
+fn sort_of_application(
+    schema: &Schema,
+    names: &Names,
+    sorts: &[Sort],
+    name: &Name,
+    args: &[Raw],
+) -> Option<Sort>
+    ensures { result ≡ symbol_sort schema.now (symbol_of schema.now name.now) (map (raw_sort_of schema.now names.now sorts.now) args.now) }
+{
+    match schema.find_symbol(name) {
+        Some(Symbol::Function(function)) => {
+            let function = schema.typeside.functions.as_slice().get(function as usize)?;
+            if are_plain(schema, names, sorts, args, function.args.as_slice()) {
+                Some(Sort::Plain(function.result))
+            } else {
+                None
+            }
+        }
+        Some(Symbol::Key(key)) => {
+            let entity = entity_of_only(schema, names, sorts, args)?;
+            let target = followed_from(schema.keys.as_slice().get(key as usize)?, entity)?;
+            Some(Sort::Entity(target))
+        }
+        Some(Symbol::Attribute(attribute)) => {
+            let entity = entity_of_only(schema, names, sorts, args)?;
+            let target = followed_from(
+                schema.attributes.as_slice().get(attribute as usize)?,
+                entity,
+            )?;
+            Some(Sort::Plain(target))
+        }
+        None => None,
+    }
+}
+
+/// The entity of the one argument.
+#[cycle(sort)]
+fn entity_of_only(schema: &Schema, names: &Names, sorts: &[Sort], args: &[Raw]) -> Option<u32>
+    ensures { result ≡ entity_in (only (map (raw_sort_of schema.now names.now sorts.now) args.now)) }
+{
+    match args {
+        [arg] => entity_of_sort(sort_of_raw(schema, names, sorts, arg)),
+        _ => None,
+    }
+}
+
+/// Whether the arguments have these types.
+#[cycle(sort)]
+fn are_plain(schema: &Schema, names: &Names, sorts: &[Sort], args: &[Raw], types: &[u32]) -> bool
+    ensures { result ≡ are_plain_of (map (raw_sort_of schema.now names.now sorts.now) args.now) types.now }
+{
+    if args.len() != types.len() {
+        return false;
+    }
+    for (i, arg) in args.iter().enumerate() {
+        if !is_plain_sort(sort_of_raw(schema, names, sorts, arg), types[i]) {
+            return false;
+        }
+    }
+    true
+}

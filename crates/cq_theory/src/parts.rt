@@ -1,0 +1,37 @@
+//! Parts: what the constructors of typesides, schemas and presentations take, with names that are not yet looked up.
+//! The parts of a call are numbered list after list, from 0.
+use cq_base::{Name, Raw, Seq};
+
+/// The parts of a typeside: types, constants with their types, and functions with the types of their arguments and result.
+#[derive(Drop)]
+pub struct TypesideParts {
+    pub types: Seq<Name>,
+    pub constants: Seq<(Name, Name)>,
+    pub functions: Seq<(Name, Seq<Name>, Name)>,
+}
+
+/// The parts of a schema. A foreign key or an attribute has its name, the entity from which it goes, and where it leads.
+#[derive(Drop)]
+pub struct SchemaParts {
+    pub entities: Seq<Name>,
+    pub keys: Seq<(Name, Name, Name)>,
+    pub path_eqs: Seq<(Seq<Name>, Seq<Name>)>,
+    pub attributes: Seq<(Name, Name, Name)>,
+    pub obs_eqs: Seq<ObsPart>,
+}
+
+/// An equation of two terms over a variable, whose entity may be left out.
+#[derive(Drop)]
+pub struct ObsPart {
+    pub variable: Name,
+    pub entity: Option<Name>,
+    pub left: Raw,
+    pub right: Raw,
+}
+
+/// The parts of a presentation: generators with their sorts, and equations.
+#[derive(Drop)]
+pub struct PresentationParts {
+    pub generators: Seq<(Name, Name)>,
+    pub equations: Seq<(Raw, Raw)>,
+}

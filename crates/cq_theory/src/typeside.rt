@@ -1,0 +1,125 @@
+//! Typesides: types, constants and functions.
+ghost use Rattle.std.specs.Prelude.{◌≡◌, ◌+◌, ◌<◌, ◌^◌, ◌⊎◌, length, slice_get, IfOk, IfErr, Some, None};
+ghost use Rattle.cq_theory.specs.ValueText.{constant_name};
+ghost use Rattle.cq_theory.specs.TypesideParts.{typeside_fault, typeside_made};
+ghost use Rattle.cq_base.specs.Names.{number_of};
+ghost use Rattle.cq_theory.specs.Typeside.{IsTypeside, constant_names, function_names};
+
+use crate::lookup::TheoryRefusal;
+use crate::lookup::typeside_parts::{add_constants, add_functions, add_types};
+use crate::parts::TypesideParts;
+use cq_base::{Name, Names, Seq};
+use std::alloc::Global;
+use std::marker::Model;
+
+/// A function from types to a type.
+#[derive(Drop)]
+pub struct Fun {
+    pub name: Name,
+    pub args: Seq<u32>,
+    pub result: u32,
+}
+
+/// Types, constants with their types, and functions, all free. Contracts see these three lists, which are well sorted
+/// and in which no name stands twice.
+#[derive(Drop)]
+pub struct Typeside {
+    pub types: Seq<Name>,
+    pub constants: Seq<(Name, u32)>,
+    pub functions: Seq<Fun>,
+    type_table: Names,
+    constant_table: Names,
+    function_table: Names,
+}
+
+impl Model for Typeside {
+    ghost use Rattle.std.specs.Prelude.{◌≡◌};
+    ghost use Rattle.cq_theory.specs.TypesideData.{TypesideData};
+
+    ghost Value = { TypesideData };
+
+    ghost use Rattle.cq_theory.specs.Typeside.{IsTypeside, constant_names, function_names};
+
+    ghost view = { λ t. record { types = t.types; constants = t.constants; functions = t.functions } };
+
+    // Each table has the names of its list.
+    ghost invariant = { λ t.
+        let typeside : TypesideData = record { types = t.types; constants = t.constants; functions = t.functions } in
+        IsTypeside typeside
+        × (t.type_table ≡ t.types)
+        × (t.constant_table ≡ constant_names typeside)
+        × (t.function_table ≡ function_names typeside) };
+}
+
+impl Typeside {
+    /// The typeside that the parts give. Where parts break rules, the answer is the first such part with the least rule that it breaks,
+    /// or want of memory.
+    pub fn new(alloc: Global, parts: TypesideParts) -> Result<Typeside, TheoryRefusal>
+        requires { length parts.types + length parts.constants + length parts.functions < 2 ^ 32 }
+        ensures accepted { IfOk result (λ _. typeside_fault parts ≡ None) }
+        ensures made { IfOk result (λ made. made ≡ typeside_made parts) }
+        ensures refused { IfErr result (λ refusal. (refusal ≡ TheoryRefusal.Memory) ⊎ (typeside_fault parts ≡ Some refusal)) }
+    {
+        let TypesideParts {
+            types,
+            constants,
+            functions,
+        } = parts;
+        let first_constant = types.len() as u32;
+        let first_function = first_constant + constants.len() as u32;
+        let type_table = add_types(alloc, types.as_slice())?;
+        let (constant_table, constants) = add_constants(
+            alloc,
+            &type_table,
+            first_constant,
+            constants.as_slice(),
+        )?;
+        match add_functions(alloc, &type_table, first_function, functions.as_slice()) {
+            Ok((function_table, functions)) => Ok(Typeside {
+                types,
+                constants: Seq::from_vec(constants),
+                functions: Seq::from_vec(functions),
+                type_table,
+                constant_table,
+                function_table,
+            }),
+            Err(refusal) => Err(refusal),
+        }
+    }
+
+    /// Every typeside is well sorted. The call does nothing.
+    pub fn is_well_sorted(&self)
+        ensures { IsTypeside self.now }
+    {
+        let _types = self.types.len();
+    }
+
+    /// The number of a type.
+    pub fn find_type(&self, name: &Name) -> Option<u32>
+        ensures { result ≡ number_of self.now.types name.now }
+    {
+        self.type_table.find(name)
+    }
+
+    /// The number of a constant.
+    pub fn find_constant(&self, name: &Name) -> Option<u32>
+        ensures { result ≡ number_of (constant_names self.now) name.now }
+    {
+        self.constant_table.find(name)
+    }
+
+    /// The name of a constant.
+    pub fn name_of_constant(&self, constant: u32) -> &Name
+        requires { constant < length self.now.constants }
+        ensures { result.now ≡ constant_name (slice_get self.now.constants constant) }
+    {
+        &self.constants.as_slice()[constant as usize].0
+    }
+
+    /// The number of a function.
+    pub fn find_function(&self, name: &Name) -> Option<u32>
+        ensures { result ≡ number_of (function_names self.now) name.now }
+    {
+        self.function_table.find(name)
+    }
+}
