@@ -1,0 +1,12 @@
+pub mod Inverses
+pub mod Lists
+pub mod Sums
+pub mod Placing
+pub mod Stored
+pub mod Added
+pub mod Filled
+pub mod Renamed
+pub mod Mentioned
+pub mod Planned
+pub mod Reading
+pub mod Empty

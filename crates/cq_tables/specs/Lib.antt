@@ -1,0 +1,10 @@
+pub mod Content
+pub mod Changes
+pub mod Mentions
+pub mod Places
+pub mod Shape
+pub mod PlanView
+pub mod View
+pub mod Inverse
+pub mod CellsView
+pub mod Tables
