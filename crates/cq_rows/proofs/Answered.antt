@@ -1,0 +1,57 @@
+-- What the end of a stage says of the schema and the presentation.
+use Rattle.std.proofs.Common.{◌≡◌, ℕ, ◌<◌, ◌≤◌, true, List, length, map, Option, Some, None, IsSome, refl, sym, ◌∙◌, ap, arith}
+use Rattle.std.proofs.lemmas.List.{length-map}
+use Rattle.std.proofs.lemmas.Option.{none-some, slice_get_within}
+use Rattle.std.specs.Prelude.{slice_get, slice_index, option_and_then}
+use Rattle.cq_tables.specs.Content.{Content, live_of}
+use Rattle.cq_tables.specs.Content.{entity_of as row_entity}
+use Rattle.cq_theory.specs.declared.presentation.Equation.TheVariants.{Ent as EntEquation}
+use Rattle.cq_theory.specs.declared.presentation.Presentation.{Presentation}
+use Rattle.cq_theory.specs.SchemaData.{SchemaData}
+use Rattle.cq_theory.specs.declared.term.EntTerm.{EntTerm}
+use Rattle.cq_theory.specs.declared.term.Term.TheVariants.{Ent}
+use Rattle.cq_theory.specs.Sorts.{entity_of, entity_at}
+use Rattle.cq_theory.specs.Derivation.{Within}
+use Rattle.cq_rows.specs.Theory.{IsTheory}
+use Rattle.cq_rows.specs.Plain.{theory_of, generator_entity}
+use Rattle.cq_rows.specs.Rows.{row_of_term}
+use Rattle.cq_rows.specs.Rows as rows
+use Rattle.cq_rows.specs.Saturated.{HasEntries, OneRowIsEqual, AllTraced, WithinIsOneRow, IsName, AllNamed, PathEquationsHold, EntityEquationsHold, NoneCloses, SomeWide}
+use Rattle.cq_rows.specs.Stage.{IsStage}
+use Rattle.cq_rows.proofs.Bridge.{sort_same, start_same, tree, from_within, closes_plain, wide_tree, is_given}
+use Rattle.cq_rows.proofs.Stages.{stage_sound, within_one_row, have_rows}
+
+found_at : (o : Option (Option ℕ)) (e : ℕ) → option_and_then (λ x. x) o ≡ Some e → o ≡ Some (Some e)
+found_at None e h = absurd (none-some e h)
+found_at (Some x) e h = ap (λ y. Some y) h
+
+module _ (S : SchemaData) (P : Presentation) (th : IsTheory (theory_of S P)) (m : Content) (entries : List ℕ) (k : ℕ) (h : IsStage (theory_of S P) m entries k) where
+  pub has_entries : HasEntries P m entries
+  has_entries = record {
+    count = h.grown.count ∙ length-map P.generators generator_entity;
+    entity = λ g e f. have_rows (theory_of S P) m entries k h.grown g e (found_at (slice_get (theory_of S P).generators g) e (start_same S P g ∙ f));
+  }
+
+  pub one_row : OneRowIsEqual S P m entries
+  one_row t u d e a qt qu ft fu = tree S P None (stage_sound (theory_of S P) m entries k h.grown t u d e a (sort_same S P t ∙ qt) (sort_same S P u ∙ qu) ft fu)
+
+  pub all_traced : AllTraced S P m entries k
+  all_traced t e q b = h.grown.traced t e (sort_same S P t ∙ q) b
+
+  pub within_row : WithinIsOneRow S P m entries k
+  within_row t u d = within_one_row (theory_of S P) m entries k th h (from_within S P k t u d)
+
+  pub all_named : AllNamed S P m entries k
+  all_named r l = let n = h.grown.named r l in (n.0, record { entity = sym (sort_same S P n.0) ∙ n.1.sort; depth = n.1.depth; row = n.1.row })
+
+  pub path_equations : PathEquationsHold S m
+  path_equations r n e l f q = h.rules r n e l f q
+
+  pub entity_equations : EntityEquationsHold P m entries
+  entity_equations n t u f = h.given n t u (is_given S P n t u f)
+
+pub none_closes : (S : SchemaData) (P : Presentation) (k : ℕ) → rows.NoneCloses (theory_of S P) k → NoneCloses S P k
+none_closes S P k h j b c = h j b (closes_plain S P j c)
+
+pub some_wide : (S : SchemaData) (P : Presentation) (k : ℕ) → rows.SomeWide (theory_of S P) k 200000 → SomeWide S P k
+some_wide S P k h = (h.0, h.1, wide_tree S P h.0 200000 h.2)

@@ -1,0 +1,276 @@
+-- Empty cells are filled with new rows.
+use Rattle.std.proofs.Common.{◌≡◌, ◌≢◌, ℕ, ◌+◌, ◌<◌, ◌≤◌, Bool, true, false, List, [], ◌∷◌, length, get_or, Option, Some, None, cond, not, eqb, refl, sym, ◌∙◌, ap, arith, ⊎_elim, ◌⊎◌, inl, inr}
+use Rattle.std.proofs.lemmas.Bool.{cases_eq, cases_lt, eq-eqb, ne_eqb, false≢true}
+use Rattle.std.proofs.lemmas.Option.{none-some, same_Some, slice_get-get_or, slice_get_past}
+use Rattle.std.proofs.lemmas.List.Elements.{All-get_or}
+use Rattle.std.specs.Prelude.{All, slice_get, slice_index, IsSome, is_some}
+use Rattle.cq_tables.specs.Content.{Content, made_of, live_of, entity_of, cell_of, step_of, IsWhole, keys_of}
+use Rattle.cq_tables.specs.Changes.{AddsRow, SetsCell}
+use Rattle.cq_rows.specs.Theory.{Term, Theory, reflexive, along, sort_of, Derives, IsTheory}
+use Rattle.cq_rows.specs.Rows.{IsSound, Extends, KeepsSound, FillsCell, FillsRow, RowFilled, IsCellOf}
+use Rattle.cq_rows.proofs.Cells.{live_made, below_or_at}
+use Rattle.cq_rows.proofs.Sorts.{sort-along, end_one}
+
+-- a key from an entity
+pub step_at : (keys : List (ℕ × ℕ)) (e k : ℕ) (p : ℕ × ℕ) → slice_get keys k ≡ Some p → p.0 ≡ e → step_of keys e k ≡ Some p.1
+unfolding step_of
+step_at keys e k p h q = rw (h, eq-eqb p.0 e q) refl
+
+-- a key from another entity
+pub step_other : (keys : List (ℕ × ℕ)) (e k d : ℕ) (p : ℕ × ℕ) → slice_get keys k ≡ Some p → p.0 ≢ e → step_of keys e k ≡ Some d → ⊥
+unfolding step_of
+step_other keys e k d p h n s = none-some d (rw (h, ne_eqb p.0 e n) at s)
+
+-- the new row
+pub added_live : (old mid : Content) (e n : ℕ) → AddsRow old mid e n → live_of mid n ≡ true
+added_live old mid e n a = a.live n ∙ rw (eq-eqb n n refl) refl
+
+pub added_kind : (old mid : Content) (e n : ℕ) → AddsRow old mid e n → entity_of mid n ≡ e
+added_kind old mid e n a = a.kind n ∙ rw (eq-eqb n n refl) refl
+
+module _ (old mid : Content) (e n : ℕ) (a : AddsRow old mid e n) (w : IsWhole old) where
+  not_new : (r : ℕ) → live_of old r ≡ true → r ≢ n
+  not_new r l q = omega (arith, live_made old r w l, a.number, q)
+
+  pub added_old : (r : ℕ) → live_of old r ≡ true → (live_of mid r ≡ true) × (entity_of mid r ≡ entity_of old r)
+  added_old r l = (a.live r ∙ rw (ne_eqb r n (not_new r l)) l, a.kind r ∙ rw (ne_eqb r n (not_new r l)) refl)
+
+  pub added_empty : (r k : ℕ) → live_of old r ≡ true → cell_of old r k ≡ None → cell_of mid r k ≡ None
+  added_empty r k l c = a.cell r k ∙ rw (ne_eqb r n (not_new r l)) c
+
+  pub added_step : (row key : ℕ) → live_of old row ≡ true → step_of (keys_of old) (entity_of old row) key ≡ Some e → step_of (keys_of mid) (entity_of mid row) key ≡ Some (entity_of mid n)
+  added_step row key l s = rw ((added_old row l).1, added_kind old mid e n a, a.keys) s
+
+  pub FillsCell-set : (m : Content) (row key : ℕ) → SetsCell mid m row key n → FillsCell old m row key e
+  FillsCell-set m row key s = record {
+    keys = s.keys ∙ a.keys;
+    entities = s.entities ∙ a.entities;
+    made = s.made ∙ a.made;
+    live = λ r. s.live r ∙ rw (← a.number) (a.live r);
+    kind = λ r. s.kind r ∙ rw (← a.number) (a.kind r);
+    there = s.there ∙ ap (λ x. Some x) a.number;
+    others = λ r k h. s.others r k h ∙ rw (← a.number) (a.cell r k);
+  }
+
+module _ (old m : Content) (row key to : ℕ) (f : FillsCell old m row key to) (w : IsWhole old) (lr : live_of old row ≡ true) (st : step_of (keys_of old) (entity_of old row) key ≡ Some to) (empty : cell_of old row key ≡ None) where
+  old_row : (r : ℕ) → live_of old r ≡ true → r ≢ made_of old
+  old_row r l q = omega (arith, live_made old r w l, q)
+
+  fill_live : (r : ℕ) → live_of old r ≡ true → live_of m r ≡ true
+  fill_live r l = f.live r ∙ rw (ne_eqb r (made_of old) (old_row r l)) l
+
+  fill_kind : (r : ℕ) → live_of old r ≡ true → entity_of m r ≡ entity_of old r
+  fill_kind r l = f.kind r ∙ rw (ne_eqb r (made_of old) (old_row r l)) refl
+
+  fill_was : (r : ℕ) → r ≢ made_of old → live_of m r ≡ true → live_of old r ≡ true
+  fill_was r n l = sym (f.live r ∙ rw (ne_eqb r (made_of old) n) refl) ∙ l
+
+  fill_cells : (r k q : ℕ) → live_of old r ≡ true → cell_of old r k ≡ Some q → cell_of m r k ≡ Some q
+  fill_cells r k q l c = f.others r k (λ er ek. none-some q (sym empty ∙ (rw (er, ek) at c))) ∙ rw (ne_eqb r (made_of old) (old_row r l)) c
+
+  pub Extends-fill : Extends old m
+  Extends-fill = record {
+    keys = f.keys;
+    entities = f.entities;
+    made = omega (arith, f.made);
+    live = fill_live;
+    kind = fill_kind;
+    cell = fill_cells;
+    fresh = λ r h l. fill_was r (λ q. omega (arith, q)) l;
+  }
+
+  pub origin-fill : (r : ℕ) → live_of m r ≡ true → (live_of old r ≡ true) ⊎ IsCellOf m row r
+  origin-fill r l = elim (cases_eq r (made_of old)) as (λ _. (live_of old r ≡ true) ⊎ IsCellOf m row r) [
+    | inl q ↦ inr (record { key = key; cell = f.there ∙ ap (λ x. Some x) (sym q) })
+    | inr n ↦ inl (fill_was r n l)
+  ]
+
+  -- the term of the new row
+  abbrev with_term : (ℕ → Term) → ℕ → Term
+  with_term terms r = cond (eqb r (made_of old)) (along (terms row) (key ∷ [])) (terms r)
+
+  term_new : (terms : ℕ → Term) (r : ℕ) → r ≡ made_of old → with_term terms r ≡ along (terms row) (key ∷ [])
+  term_new terms r q = rw (eq-eqb r (made_of old) q) refl
+
+  term_old : (terms : ℕ → Term) (r : ℕ) → r ≢ made_of old → with_term terms r ≡ terms r
+  term_old terms r n = rw (ne_eqb r (made_of old) n) refl
+
+  module _ (s : Theory) (rows : List ℕ) (terms : ℕ → Term) (h : IsSound s old rows terms) where
+    new_sort : sort_of s (along (terms row) (key ∷ [])) ≡ Some to
+    new_sort = sort-along s (terms row) (entity_of old row) to (key ∷ []) (h.sorts row lr) (end_one s.keys (entity_of old row) key to (rw (← h.keys) st))
+
+    sorts : (r : ℕ) → live_of m r ≡ true → sort_of s (with_term terms r) ≡ Some (entity_of m r)
+    sorts r l = elim (cases_eq r (made_of old)) as (λ _. sort_of s (with_term terms r) ≡ Some (entity_of m r)) [
+      | inl q ↦ rw (term_new terms r q) (new_sort ∙ ap (λ x. Some x) (sym (f.kind r ∙ rw (eq-eqb r (made_of old) q) refl)))
+      | inr n ↦ rw (term_old terms r n) (h.sorts r (fill_was r n l) ∙ ap (λ x. Some x) (sym (fill_kind r (fill_was r n l))))
+    ]
+
+    old_cell : (r k q : ℕ) → live_of old r ≡ true → cell_of old r k ≡ Some q → Derives s (along (with_term terms r) (k ∷ [])) (with_term terms q)
+    old_cell r k q l c = rw (term_old terms r (old_row r l), term_old terms q (old_row q (w.held r k q l c).live)) (h.cells r k q l c)
+
+    cells_other : (r k q : ℕ) → live_of m r ≡ true → (r ≡ row → k ≡ key → ⊥) → cell_of m r k ≡ Some q → Derives s (along (with_term terms r) (k ∷ [])) (with_term terms q)
+    cells_other r k q l n c = elim (cases_eq r (made_of old)) as (λ _. Derives s (along (with_term terms r) (k ∷ [])) (with_term terms q)) [
+      | inl e ↦ absurd (none-some q (sym (f.others r k n ∙ rw (eq-eqb r (made_of old) e) refl) ∙ c))
+      | inr ne ↦ old_cell r k q (fill_was r ne l) (sym (f.others r k n ∙ rw (ne_eqb r (made_of old) ne) refl) ∙ c)
+    ]
+
+    cells_new : (q : ℕ) → cell_of m row key ≡ Some q → Derives s (along (with_term terms row) (key ∷ [])) (with_term terms q)
+    cells_new q c = rw (term_old terms row (old_row row lr), term_new terms q (same_Some q (made_of old) (sym c ∙ f.there))) (reflexive to new_sort tt)
+
+    pub IsSound-fill : IsSound s m rows (with_term terms)
+    IsSound-fill = record {
+      keys = f.keys ∙ h.keys;
+      entities = f.entities ∙ h.entities;
+      sorts = sorts;
+      cells = λ r k q l c. elim (cases_eq r row) as (λ _. Derives s (along (with_term terms r) (k ∷ [])) (with_term terms q)) [
+        | inl er ↦ elim (cases_eq k key) as (λ _. Derives s (along (with_term terms r) (k ∷ [])) (with_term terms q)) [
+          | inl ek ↦ rw (er, ek) (cells_new q (rw (er, ek) at c))
+          | inr nk ↦ cells_other r k q l (λ _ y. nk y) c
+        ]
+        | inr nr ↦ cells_other r k q l (λ x _. nr x) c
+      ];
+      generators = λ g e found.
+          let o = h.generators g e found in
+          let r = slice_index rows g in
+          record {
+            live = fill_live r o.live;
+            kind = fill_kind r o.live ∙ o.kind;
+            equal = rw (term_old terms r (old_row r o.live)) o.equal;
+          };
+    }
+
+  pub KeepsSound-fill : KeepsSound old m
+  KeepsSound-fill s rows terms h = (with_term terms, IsSound-fill s rows terms h)
+
+pub Extends-same : (m : Content) → Extends m m
+Extends-same m = record { keys = refl; entities = refl; made = omega arith; live = λ r l. l; kind = λ r l. refl; cell = λ r k q l c. c; fresh = λ r h l. l }
+
+pub Extends-then : (a b c : Content) → IsWhole b → Extends a b → Extends b c → Extends a c
+Extends-then a b c w x y = record {
+  keys = y.keys ∙ x.keys;
+  entities = y.entities ∙ x.entities;
+  made = omega (arith, x.made, y.made);
+  live = λ r l. y.live r (x.live r l);
+  kind = λ r l. y.kind r (x.live r l) ∙ x.kind r l;
+  cell = λ r k q l e. y.cell r k q (x.live r l) (x.cell r k q l e);
+  fresh = λ r h l. x.fresh r h (y.fresh r (omega (arith, x.made)) l);
+}
+
+pub KeepsSound-then : (a b c : Content) → KeepsSound a b → KeepsSound b c → KeepsSound a c
+KeepsSound-then a b c x y s rows terms h = let o = x s rows terms h in y s rows o.0 o.1
+
+-- the cells of a row below key i are filled
+pub record IsFillingRow (old m : Content) (row i : ℕ) : Type 0 where
+  pub whole : IsWhole m
+  pub extends : Extends old m
+  pub origin : (r : ℕ) → live_of m r ≡ true → (live_of old r ≡ true) ⊎ IsCellOf m row r
+  pub filled : (k d : ℕ) → k < i → step_of (keys_of m) (entity_of m row) k ≡ Some d → IsSome (cell_of m row k)
+  pub sound : KeepsSound old m
+
+pub IsFillingRow-start : (m : Content) (row : ℕ) → IsWhole m → IsFillingRow m m row 0
+IsFillingRow-start m row w = record { whole = w; extends = Extends-same m; origin = λ r l. inl l; filled = λ k d h. absurd (omega arith); sound = λ s rows terms h. (terms, h) }
+
+-- this cell needs no row
+pub IsFillingRow-skip : (old m : Content) (row i : ℕ) → IsFillingRow old m row i → ((d : ℕ) → step_of (keys_of m) (entity_of m row) i ≡ Some d → IsSome (cell_of m row i)) → IsFillingRow old m row (i + 1)
+IsFillingRow-skip old m row i h x = record {
+  whole = h.whole;
+  extends = h.extends;
+  origin = h.origin;
+  filled = λ k d l s. ⊎_elim (λ p. h.filled k d p s) (λ q. rw q (x d (rw q at s))) (below_or_at k i l);
+  sound = h.sound;
+}
+
+some_filled : (o : Option ℕ) (q : ℕ) → o ≡ Some q → IsSome o
+some_filled o q e = rw e refl
+
+is_filled : (o p : Option ℕ) → ((q : ℕ) → o ≡ Some q → p ≡ Some q) → IsSome o → IsSome p
+is_filled None p h x = absurd (false≢true x)
+is_filled (Some q) p h x = some_filled p q (h q refl)
+
+pub RowFilled-extends : (old new : Content) (r k d : ℕ) → Extends old new → live_of old r ≡ true → (step_of (keys_of old) (entity_of old r) k ≡ Some d → IsSome (cell_of old r k)) → step_of (keys_of new) (entity_of new r) k ≡ Some d → IsSome (cell_of new r k)
+RowFilled-extends old new r k d x l h s = is_filled (cell_of old r k) (cell_of new r k) (λ q e. x.cell r k q l e) (h (rw (x.kind r l, x.keys) at s))
+
+moved_origin : (a b : Content) (row r : ℕ) → Extends a b → live_of a row ≡ true → IsCellOf a row r → IsCellOf b row r
+moved_origin a b row r x l o = record { key = o.key; cell = x.cell row o.key r l o.cell }
+
+pub IsFillingRow-fill : (old m m' : Content) (row i to : ℕ) → live_of old row ≡ true → IsFillingRow old m row i → IsWhole m' → FillsCell m m' row i to → step_of (keys_of m) (entity_of m row) i ≡ Some to → cell_of m row i ≡ None → IsFillingRow old m' row (i + 1)
+IsFillingRow-fill old m m' row i to l h w' f st e =
+    let lm = h.extends.live row l in
+    let x = Extends-fill m m' row i to f h.whole lm st e in
+    record {
+      whole = w';
+      extends = Extends-then old m m' h.whole h.extends x;
+      origin = λ r lr. ⊎_elim (λ p. ⊎_elim (λ q. inl q) (λ q. inr (moved_origin m m' row r x lm q)) (h.origin r p)) (λ q. inr q) (origin-fill m m' row i to f h.whole lm st e r lr);
+      filled = λ k d b s. ⊎_elim (λ p. RowFilled-extends m m' row k d x lm (h.filled k d p) s) (λ q. rw q (some_filled (cell_of m' row i) (made_of m) f.there)) (below_or_at k i b);
+      sound = KeepsSound-then old m m' h.sound (KeepsSound-fill m m' row i to f h.whole lm st e);
+    }
+
+-- the cells of the rows below i are filled
+pub record IsFilling (old m : Content) (i : ℕ) : Type 0 where
+  pub whole : IsWhole m
+  pub extends : Extends old m
+  pub origin : (r : ℕ) → live_of m r ≡ true → (live_of old r ≡ true) ⊎ ((q : ℕ) × (live_of old q ≡ true) × IsCellOf m q r)
+  pub filled : (r : ℕ) → r < i → live_of old r ≡ true → RowFilled m r
+  pub sound : KeepsSound old m
+
+pub IsFilling-start : (m : Content) → IsWhole m → IsFilling m m 0
+IsFilling-start m w = record { whole = w; extends = Extends-same m; origin = λ r l. inl l; filled = λ r h l. absurd (omega arith); sound = λ s rows terms h. (terms, h) }
+
+pub IsFilling-skip : (old m : Content) (i : ℕ) → IsFilling old m i → live_of m i ≡ false → IsFilling old m (i + 1)
+IsFilling-skip old m i h n = record {
+  whole = h.whole;
+  extends = h.extends;
+  origin = h.origin;
+  filled = λ r l lr. ⊎_elim (λ p. h.filled r p lr) (λ q. absurd (false≢true (sym n ∙ h.extends.live i (rw q at lr)))) (below_or_at r i l);
+  sound = h.sound;
+}
+
+pub IsFilling-fill : (old m m' : Content) (i : ℕ) → live_of old i ≡ true → IsFilling old m i → IsWhole m' → FillsRow m m' i → IsFilling old m' (i + 1)
+IsFilling-fill old m m' i l h w' f = record {
+  whole = w';
+  extends = Extends-then old m m' h.whole h.extends f.extends;
+  origin = λ r lr. ⊎_elim
+      (λ p. ⊎_elim (λ q. inl q) (λ q. inr (q.0, q.1, moved_origin m m' q.0 r f.extends (h.extends.live q.0 q.1) q.2)) (h.origin r p))
+      (λ q. inr (i, l, q))
+      (f.origin r lr);
+  filled = λ r b lr. ⊎_elim
+      (λ p k d s. RowFilled-extends m m' r k d f.extends (h.extends.live r lr) (λ z. h.filled r p lr k d z) s)
+      (λ q. rw q f.filled)
+      (below_or_at r i b);
+  sound = KeepsSound-then old m m' h.sound f.sound;
+}
+
+step_same : (a b : List (ℕ × ℕ)) (c d k : ℕ) (o : Option ℕ) → a ≡ b → c ≡ d → step_of b d k ≡ o → step_of a c k ≡ o
+step_same a b c d k o e f h = rw (e, f) h
+
+-- the key that a loop reads, at the row's entity
+pub read_step : (old m : Content) (row key e : ℕ) (keys : List (ℕ × ℕ)) → Extends old m → live_of old row ≡ true → keys_of old ≡ keys → e ≡ entity_of old row → key < length keys → (get_or keys key (0, 0)).0 ≡ e
+    → step_of (keys_of m) (entity_of m row) key ≡ Some (get_or keys key (0, 0)).1
+read_step old m row key e keys x l ko ee h q =
+    step_same (keys_of m) keys (entity_of m row) (entity_of old row) key (Some (get_or keys key (0, 0)).1) (x.keys ∙ ko) (x.kind row l)
+    (step_at keys (entity_of old row) key (get_or keys key (0, 0)) (slice_get-get_or keys key (0, 0) h) (q ∙ ee))
+
+pub read_other : (old m : Content) (row key e d : ℕ) (keys : List (ℕ × ℕ)) → Extends old m → live_of old row ≡ true → keys_of old ≡ keys → e ≡ entity_of old row → key < length keys → (get_or keys key (0, 0)).0 ≢ e
+    → step_of (keys_of m) (entity_of m row) key ≡ Some d → ⊥
+read_other old m row key e d keys x l ko ee h n s =
+    step_other keys (entity_of old row) key d (get_or keys key (0, 0)) (slice_get-get_or keys key (0, 0) h) (λ q. n (q ∙ sym ee))
+    (step_same keys (keys_of m) (entity_of old row) (entity_of m row) key (Some d) (sym (x.keys ∙ ko)) (sym (x.kind row l)) s)
+
+-- the entity to which it leads
+pub read_target : (keys : List (ℕ × ℕ)) (n m key : ℕ) → All (λ (k : ℕ × ℕ). (k.0 < n) × (k.1 < n)) keys → m ≡ n → key < length keys → (get_or keys key (0, 0)).1 < m
+read_target keys n m key all same h = rw same (All-get_or (λ (k : ℕ × ℕ). (k.0 < n) × (k.1 < n)) keys key (0, 0) h all).1
+
+pub none_if : (o : Option ℕ) (b : Bool) → b ≡ is_some o → b ≡ false → o ≡ None
+none_if None b e f = refl
+none_if (Some x) b e f = absurd (false≢true (sym f ∙ e))
+
+step_past : (keys : List (ℕ × ℕ)) (e k : ℕ) → length keys ≤ k → step_of keys e k ≡ None
+unfolding step_of
+step_past keys e k h = rw (slice_get_past keys k h) refl
+
+pub step_below : (a keys : List (ℕ × ℕ)) (e k d : ℕ) → a ≡ keys → step_of a e k ≡ Some d → k < length keys
+step_below a keys e k d q h =
+    ⊎_elim (λ p. p) (λ p. absurd (none-some d (sym (step_past keys e k p) ∙ (rw q at h)))) (cases_lt k (length keys))
+
+pub no_cell : (o : Option ℕ) (b : Bool) → is_some o ≡ not b → b ≡ true → IsSome o → ⊥
+no_cell o b e f h = false≢true (sym (ap not f) ∙ sym e ∙ h)

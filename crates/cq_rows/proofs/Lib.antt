@@ -1,0 +1,16 @@
+pub mod Cells
+pub mod Pairs
+pub mod Renaming
+pub mod Merging
+pub mod Sorts
+pub mod Equations
+pub mod Tracing
+pub mod Settling
+pub mod Filling
+pub mod Beginning
+pub mod Stages
+pub mod Wideness
+pub mod Passing
+pub mod Bridge
+pub mod WellSorted
+pub mod Answered

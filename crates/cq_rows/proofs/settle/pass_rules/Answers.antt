@@ -1,0 +1,18 @@
+use Rattle.std.proofs.Common.{arith}
+use Rattle.cq_rows.specs.Plain.{theory_of}
+use Rattle.cq_rows.proofs.Cells.{live_made}
+use Rattle.cq_rows.proofs.Passing.{Passes-start, Passes-keep, Passes-inner, Passes-outer, one_more_row}
+use Rattle.cq_rows.proofs.settle.pass_rules.Goals as goal
+
+pub loop-row-init : goal.loop-row-init
+loop-row-init c = Passes-start _ _ _ _ c.requires.whole (λ r b. absurd (omega arith))
+
+pub returns : goal.returns
+returns c = Passes-keep _ _ _ _ _ _ _ _ c.loop-row.invariant (λ e f h r i u l. h r (omega (arith, live_made c.args.tables.now r c.requires.whole l, c.made-row-end.ensures)) l i u)
+
+pub loop-row-preserved : goal.loop-row-preserved
+loop-row-preserved c = Passes-inner (theory_of c.args.schema.now c.args.presentation.now) c.args.tables.now c.loop-row.tables c.pass_row.new.tables c.args.rows.now c.loop-row.rows c.pass_row.new.rows c.loop-row.merged c.in_ok-one.one _ _ _ c.if-not-one.false c.loop-row.invariant c.in_ok-one.ensures
+
+pub loop-row-preserved-then-not-one : goal.loop-row-preserved-then-not-one
+loop-row-preserved-then-not-one c = Passes-outer (theory_of c.args.schema.now c.args.presentation.now) c.args.tables.now c.loop-row.tables c.pass_row.new.tables c.args.rows.now c.loop-row.rows c.pass_row.new.rows c.loop-row.merged c.in_ok-one.one _ _ _ c.if-not-one.true c.loop-row.invariant c.in_ok-one.ensures
+    (λ e h q. one_more_row (theory_of c.args.schema.now c.args.presentation.now) c.args.tables.now c.loop-row.tables c.loop-row.row e h q)

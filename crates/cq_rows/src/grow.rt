@@ -1,0 +1,173 @@
+//! The stages.
+ghost use Rattle.std.specs.Prelude.{◌≡◌, ℕ, ◌<◌, ◌≤◌, ◌^◌, length, map, Err, IfOk, OnOk, MatchBool, false, All};
+ghost use Rattle.cq_tables.specs.Content.{keys_of, entities_of, IsWhole};
+ghost use Rattle.cq_theory.specs.Schema.{IsSchema};
+ghost use Rattle.cq_theory.specs.Presentation.{IsPresentation};
+ghost use Rattle.cq_rows.specs.Theory.{IsTheory};
+ghost use Rattle.cq_rows.specs.Plain.{theory_of, ends_of};
+ghost use Rattle.cq_rows.specs.Rows as rows;
+ghost use Rattle.cq_rows.specs.Stage.{IsStage};
+ghost use Rattle.cq_rows.specs.Saturated as saturated;
+ghost use Rattle.cq_rows.specs.declared.grow.RowsRefusal.TheVariants.{TooManyRows, Memory};
+
+use crate::fill::{all_filled, count_live, fill};
+use crate::settle::settle;
+use cq_base::Seq;
+use cq_tables::Tables;
+use cq_theory::{Presentation, Schema, Sort};
+use std::alloc::{AllocError, Global};
+
+/// The most live rows at the end of a stage.
+pub const MOST_ROWS: u64 = 200_000;
+
+/// Rows that were made up to some depth. The entry of a generator of an entity is its row, that of a generator of a type is
+/// `u64::MAX`. It is closed exactly where all cells are filled.
+#[derive(Drop)]
+pub struct Partial {
+    pub tables: Tables,
+    pub generator_rows: Seq<u64>,
+    pub closed: bool,
+}
+
+/// Why there are no rows.
+#[derive(Clone, Copy, Debug, PartialEq, Eq)]
+pub enum RowsRefusal {
+    /// A stage ended with more than 200,000 live rows.
+    TooManyRows,
+    Memory,
+}
+
+impl From<AllocError> for RowsRefusal {
+    ghost use Rattle.cq_rows.specs.declared.grow.RowsRefusal.TheVariants.{Memory};
+
+    ghost from_gives = { λ _ e. e ≡ Memory };
+
+    fn from(_error: AllocError) -> RowsRefusal {
+        RowsRefusal::Memory
+    }
+}
+
+// The entities between which each key goes.
+fn key_ends(alloc: Global, schema: &Schema) -> Result<Vec<(u32, u32)>, AllocError>
+    ensures ends { IfOk result (λ keys. keys.items ≡ map ends_of schema.now.keys) }
+    ensures schema { IsSchema schema.now }
+{
+    let mut keys = Vec::new(alloc);
+    for edge in schema.keys.as_slice() {
+        keys.push((edge.from, edge.to))?;
+    }
+    Ok(keys)
+}
+
+// How many entities there are.
+fn count_entities(schema: &Schema) -> u32
+    ensures { result ≡ length schema.now.entities }
+{
+    schema.entities.len() as u32
+}
+
+// One row for each generator of an entity.
+fn begin(
+    alloc: Global,
+    schema: &Schema,
+    presentation: &Presentation,
+    keys: &[(u32, u32)],
+) -> Result<(Tables, Vec<u64>), AllocError>
+    requires theory { IsTheory (theory_of schema.now presentation.now) }
+    requires keys { keys.now ≡ (theory_of schema.now presentation.now).keys }
+    requires range { All (λ k. (k.0 < length schema.now.entities) × (k.1 < length schema.now.entities)) keys.now }
+    ensures { IfOk result (λ p. rows.HasBegun (theory_of schema.now presentation.now) p.0 p.1.items) }
+{
+    let mut tables = Tables::new(alloc, count_entities(schema), keys)?;
+    let mut entries = Vec::new(alloc);
+    for generator in presentation.generators.as_slice() {
+        let Sort::Entity(entity) = generator.1 else {
+            entries.push(u64::MAX)?;
+            continue;
+        };
+        let row = tables.add_row(entity)?;
+        entries.push(row)?;
+    }
+    Ok((tables, entries))
+}
+
+// The tables at the end of the last stage, the entries of the generators, and whether all cells are filled.
+fn grow(
+    alloc: Global,
+    schema: &Schema,
+    presentation: &Presentation,
+    keys: &[(u32, u32)],
+    depth: u32,
+) -> Result<(Tables, Vec<u64>, bool), RowsRefusal>
+    requires theory { IsTheory (theory_of schema.now presentation.now) }
+    requires keys { keys.now ≡ (theory_of schema.now presentation.now).keys }
+    requires range { All (λ k. (k.0 < length schema.now.entities) × (k.1 < length schema.now.entities)) keys.now }
+    ensures stage { IfOk result (λ p. IsStage (theory_of schema.now presentation.now) p.0 p.1.items depth) }
+    ensures closed { IfOk result (λ p. MatchBool p.2 (rows.AllFilled p.0) (rows.AllFilled p.0 → ⊥)) }
+    ensures unclosed { IfOk result (λ p. p.2 ≡ false → rows.NoneCloses (theory_of schema.now presentation.now) depth) }
+    ensures many { result ≡ Err TooManyRows → rows.SomeWide (theory_of schema.now presentation.now) depth MOST_ROWS }
+{
+    let (mut tables, mut entries) = begin(alloc, schema, presentation, keys)?;
+    settle(alloc, schema, presentation, &mut tables, &mut entries)?;
+    if count_live(&tables) > MOST_ROWS {
+        return Err(RowsRefusal::TooManyRows);
+    }
+    for _stage in 0..depth {
+        if all_filled(keys, &tables) {
+            return Ok((tables, entries, true));
+        }
+        fill(keys, &mut tables)?;
+        settle(alloc, schema, presentation, &mut tables, &mut entries)?;
+        if count_live(&tables) > MOST_ROWS {
+            return Err(RowsRefusal::TooManyRows);
+        }
+    }
+    let closed = all_filled(keys, &tables);
+    Ok((tables, entries, closed))
+}
+
+/// Makes the rows of a term model stage by stage. Stage 0 makes a row for each generator of an entity; each further stage
+/// fills each empty cell of each live row with a new row; at the end of every stage rows are merged until no equation joins
+/// two. The work stops where all cells are filled, or after stage `depth`. The answer is Ok also where cells are empty then.
+///
+/// `TooManyRows` says that a stage ended with more than 200,000 live rows.
+pub fn saturate(
+    alloc: Global,
+    schema: &Schema,
+    presentation: &Presentation,
+    depth: u32,
+) -> Result<Partial, RowsRefusal>
+    requires presentation { IsPresentation schema.now presentation.now }
+    requires depth { depth ≤ 64 }
+
+    // The tables are over the schema, and each generator has its entry.
+    ensures whole { IfOk result (λ p. IsWhole p.tables) }
+    ensures keys { IfOk result (λ p. keys_of p.tables ≡ map ends_of schema.now.keys) }
+    ensures entities { IfOk result (λ p. entities_of p.tables ≡ length schema.now.entities) }
+    ensures entries { IfOk result (λ p. saturated.HasEntries presentation.now p.tables p.generator_rows) }
+
+    // Two terms of one row are derivably equal.
+    ensures sound { IfOk result (λ p. saturated.OneRowIsEqual schema.now presentation.now p.tables p.generator_rows) }
+
+    // Terms within the depth have rows, one for those that are equal within it, and each row is named by such a term.
+    ensures traced { IfOk result (λ p. saturated.AllTraced schema.now presentation.now p.tables p.generator_rows depth) }
+    ensures within { IfOk result (λ p. saturated.WithinIsOneRow schema.now presentation.now p.tables p.generator_rows depth) }
+    ensures named { IfOk result (λ p. saturated.AllNamed schema.now presentation.now p.tables p.generator_rows depth) }
+
+    // It is closed exactly where all cells are filled. The equations hold at all rows, also where it is not closed.
+    ensures closed { IfOk result (λ p. MatchBool p.closed (rows.AllFilled p.tables) (rows.AllFilled p.tables → ⊥)) }
+    ensures rules { IfOk result (λ p. saturated.PathEquationsHold schema.now p.tables) }
+    ensures given { IfOk result (λ p. saturated.EntityEquationsHold presentation.now p.tables p.generator_rows) }
+
+    // When it is not closed, and when there are too many rows.
+    ensures unclosed { IfOk result (λ p. p.closed ≡ false → saturated.NoneCloses schema.now presentation.now depth) }
+    ensures many { result ≡ Err TooManyRows → saturated.SomeWide schema.now presentation.now depth }
+{
+    let keys = key_ends(alloc, schema)?;
+    let (tables, entries, closed) = grow(alloc, schema, presentation, &keys, depth)?;
+    Ok(Partial {
+        tables,
+        generator_rows: Seq::from_vec(entries),
+        closed,
+    })
+}
