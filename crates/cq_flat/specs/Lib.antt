@@ -1,0 +1,10 @@
+pub mod Nodes
+pub mod Congruence
+pub mod Values
+pub mod Keys
+pub mod Partition
+pub mod Closing
+pub mod State
+pub mod Constants
+pub mod Labels
+pub mod Entries

@@ -1,0 +1,374 @@
+//! Closures that are known, and closures compared with a slow one.
+ghost use Rattle.std.specs.Prelude.{◌≡◌, ◌≤◌, length, IfOk};
+
+use crate::{Flat, Node};
+use cq_base::Seq;
+use cq_theory::Value;
+use std::alloc::{AllocError, Global};
+use std::process::Abort;
+use std::test::Fail;
+
+#[derive(Clone, Copy, Debug, PartialEq, Eq)]
+enum Plain {
+    Const(u32),
+    Null(u64),
+    Built,
+}
+
+/// What a closure tells.
+#[derive(Debug, PartialEq, Drop)]
+struct Told {
+    values: Vec<Plain>,
+    nulls: Vec<u64>,
+    entries: Vec<(u32, Vec<Plain>, Plain)>,
+    clash: Option<(u32, u32)>,
+}
+
+fn plain_of(value: &Value) -> Plain {
+    match value {
+        Value::Const(constant) => Plain::Const(*constant),
+        Value::Null(label) => Plain::Null(*label),
+        Value::Fun(_, _) => Plain::Built,
+    }
+}
+
+fn fun(alloc: Global, function: u32, args: &[u64]) -> Result<Node, AllocError> {
+    Ok(Node::Fun(function, Seq::from_vec(args.to_vec(alloc)?)))
+}
+
+fn closed(
+    rt: &impl Abort,
+    alloc: Global,
+    nodes: Vec<Node>,
+    equations: Vec<(u64, u64)>,
+) -> Result<Told, AllocError> {
+    let count = nodes.len() as u64;
+    let fits = Flat::can_close(nodes.as_slice(), equations.as_slice());
+    assert!(rt; fits);
+    let flat = Flat::close(alloc, nodes, equations)?;
+    read(alloc, &flat, count)
+}
+
+fn read(alloc: Global, flat: &Flat, count: u64) -> Result<Told, AllocError>
+    requires { count ≤ length flat.now.values }
+{
+    let mut values = Vec::new(alloc);
+    for node in 0..count {
+        values.push(plain_of(flat.value(node)))?;
+    }
+    let mut entries = Vec::new(alloc);
+    for entry in flat.entries() {
+        let args = plain_list(alloc, entry.args.as_slice())?;
+        entries.push((entry.function, args, plain_of(&entry.value)))?;
+    }
+    Ok(Told {
+        values,
+        nulls: flat.nulls().to_vec(alloc)?,
+        entries,
+        clash: flat.clash(),
+    })
+}
+
+fn plain_list(alloc: Global, values: &[Value]) -> Result<Vec<Plain>, AllocError> {
+    values.iter().map(plain_of).collect(alloc)
+}
+
+// The slow closure: all pairs of nodes, as many times as there are nodes.
+
+fn slow(alloc: Global, nodes: &[Node], equations: &[(u64, u64)]) -> Result<Told, AllocError> {
+    let classes = slow_classes(alloc, nodes, equations)?;
+    let (values, nulls) = slow_values(alloc, nodes, classes.as_slice())?;
+    let entries = slow_entries(alloc, nodes, values.as_slice())?;
+    let clash = slow_clash(nodes, classes.as_slice());
+    Ok(Told {
+        values,
+        nulls,
+        entries,
+        clash,
+    })
+}
+
+fn slow_classes(
+    alloc: Global,
+    nodes: &[Node],
+    equations: &[(u64, u64)],
+) -> Result<Vec<u64>, AllocError> {
+    let mut classes = Vec::new(alloc);
+    for node in 0..nodes.len() {
+        classes.push(node as u64)?;
+    }
+    for (left, right) in equations {
+        unite(&mut classes, *left, *right);
+    }
+    for _pass in 0..nodes.len() {
+        unite_alike(nodes, &mut classes);
+    }
+    Ok(classes)
+}
+
+fn unite_alike(nodes: &[Node], classes: &mut Vec<u64>) {
+    for (left, node) in nodes.iter().enumerate() {
+        for (right, other) in nodes.iter().enumerate() {
+            if are_alike(node, other, classes.as_slice()) {
+                unite(classes, left as u64, right as u64);
+            }
+        }
+    }
+}
+
+fn are_alike(node: &Node, other: &Node, classes: &[u64]) -> bool {
+    match (node, other) {
+        (Node::Const(constant), Node::Const(second)) => constant == second,
+        (Node::Fun(function, args), Node::Fun(second, others)) => {
+            function == second && are_equal(args.as_slice(), others.as_slice(), classes)
+        }
+        _ => false,
+    }
+}
+
+fn are_equal(args: &[u64], others: &[u64], classes: &[u64]) -> bool {
+    let mut equal = args.len() == others.len();
+    for (arg, other) in args.iter().zip(others) {
+        if class_of(classes, *arg) != class_of(classes, *other) {
+            equal = false;
+        }
+    }
+    equal
+}
+
+fn class_of(classes: &[u64], node: u64) -> u64 {
+    classes.get(node as usize).copied().unwrap_or(u64::MAX)
+}
+
+fn unite(classes: &mut Vec<u64>, left: u64, right: u64) {
+    let from = class_of(classes.as_slice(), left);
+    let to = class_of(classes.as_slice(), right);
+    for class in classes.iter_mut() {
+        if *class == from {
+            *class = to;
+        }
+    }
+}
+
+fn slow_values(
+    alloc: Global,
+    nodes: &[Node],
+    classes: &[u64],
+) -> Result<(Vec<Plain>, Vec<u64>), AllocError> {
+    let mut values = Vec::new(alloc);
+    let mut nulls: Vec<u64> = Vec::new(alloc);
+    for node in 0..nodes.len() as u64 {
+        let class = class_of(classes, node);
+        let Some(constant) = least_in(nodes, classes, class) else {
+            let label = label_of(nulls.as_slice(), classes, class);
+            if label == nulls.len() as u64 {
+                nulls.push(node)?;
+            }
+            values.push(Plain::Null(label))?;
+            continue;
+        };
+        values.push(Plain::Const(constant))?;
+    }
+    Ok((values, nulls))
+}
+
+fn label_of(nulls: &[u64], classes: &[u64], class: u64) -> u64 {
+    for (label, node) in nulls.iter().enumerate() {
+        if class_of(classes, *node) == class {
+            return label as u64;
+        }
+    }
+    nulls.len() as u64
+}
+
+fn least_in(nodes: &[Node], classes: &[u64], class: u64) -> Option<u32> {
+    let mut least: Option<u32> = None;
+    for (node, content) in nodes.iter().enumerate() {
+        if let Node::Const(constant) = content {
+            if class_of(classes, node as u64) == class {
+                least = Some(least.map_or(*constant, |other| other.min(*constant)));
+            }
+        }
+    }
+    least
+}
+
+fn slow_entries(
+    alloc: Global,
+    nodes: &[Node],
+    values: &[Plain],
+) -> Result<Vec<(u32, Vec<Plain>, Plain)>, AllocError> {
+    let mut entries: Vec<(u32, Vec<Plain>, Plain)> = Vec::new(alloc);
+    for (node, content) in nodes.iter().enumerate() {
+        if let Node::Fun(function, args) = content {
+            let mut list = Vec::new(alloc);
+            for arg in args.as_slice() {
+                list.push(value_of(values, *arg))?;
+            }
+            if !is_listed(entries.as_slice(), *function, list.as_slice()) {
+                entries.push((*function, list, value_of(values, node as u64)))?;
+            }
+        }
+    }
+    Ok(entries)
+}
+
+fn is_listed(entries: &[(u32, Vec<Plain>, Plain)], function: u32, args: &[Plain]) -> bool {
+    let mut listed = false;
+    for entry in entries {
+        if entry.0 == function && entry.1.as_slice() == args {
+            listed = true;
+        }
+    }
+    listed
+}
+
+fn value_of(values: &[Plain], node: u64) -> Plain {
+    values.get(node as usize).copied().unwrap_or(Plain::Built)
+}
+
+fn slow_clash(nodes: &[Node], classes: &[u64]) -> Option<(u32, u32)> {
+    let mut clash = None;
+    for (left, node) in nodes.iter().enumerate() {
+        for (right, other) in nodes.iter().enumerate() {
+            if class_of(classes, left as u64) == class_of(classes, right as u64) {
+                clash = lesser(clash, node, other);
+            }
+        }
+    }
+    clash
+}
+
+fn lesser(clash: Option<(u32, u32)>, node: &Node, other: &Node) -> Option<(u32, u32)> {
+    if let (Node::Const(constant), Node::Const(second)) = (node, other) {
+        let (constant, second) = (*constant, *second);
+        let (first, next) = clash.unwrap_or((u32::MAX, u32::MAX));
+        let is_less = constant < first || (constant == first && second < next);
+        if constant < second && is_less {
+            return Some((constant, second));
+        }
+    }
+    clash
+}
+
+// Small tables by a fixed rule.
+
+fn next(state: &mut u64) -> u64 {
+    *state = state
+        .wrapping_mul(6364136223846793005)
+        .wrapping_add(1442695040888963407);
+    *state >> 33
+}
+
+fn node_from(alloc: Global, state: &mut u64, node: u64) -> Result<Node, AllocError> {
+    let kind = next(state) % 5;
+    if kind == 0 || node == 0 {
+        return Ok(Node::Leaf);
+    }
+    if kind == 1 {
+        let constant = next(state) % 3;
+        return Ok(Node::Const(constant as u32));
+    }
+    let first = next(state) % node;
+    let second = next(state) % node;
+    if kind == 2 {
+        return fun(alloc, 1, &[first, second]);
+    }
+    fun(alloc, 0, &[first])
+}
+
+fn table(alloc: Global, seed: u64) -> Result<(Vec<Node>, Vec<(u64, u64)>), AllocError> {
+    let mut state = seed;
+    let count = 3 + next(&mut state) % 10;
+    let mut nodes = Vec::new(alloc);
+    for node in 0..count {
+        nodes.push(node_from(alloc, &mut state, node)?)?;
+    }
+    let mut equations = Vec::new(alloc);
+    for _equation in 0..next(&mut state) % 5 {
+        let left = next(&mut state) % count;
+        let right = next(&mut state) % count;
+        equations.push((left, right))?;
+    }
+    Ok((nodes, equations))
+}
+
+#[test]
+fn agrees_with_all_pairs_of_small_tables(rt: HostRuntime) -> Result<(), Fail> {
+    let alloc = rt.alloc();
+    for seed in 0..400u64 {
+        let (nodes, equations) = table(alloc, seed)?;
+        let expected = slow(alloc, nodes.as_slice(), equations.as_slice())?;
+        let found = closed(&rt, alloc, nodes, equations)?;
+        assert_eq!(rt; found, expected, "at {seed}");
+    }
+    Ok(())
+}
+
+// h(Al) = Bob, h(x) = Carl and x = Al: Bob and Carl are equal.
+#[test]
+fn two_constants_clash(rt: HostRuntime) -> Result<(), Fail> {
+    let alloc = rt.alloc();
+    let nodes = vec![in alloc;
+        Node::Leaf,
+        Node::Const(0),
+        fun(alloc, 0, &[1])?,
+        Node::Const(1),
+        Node::Leaf,
+        fun(alloc, 0, &[4])?,
+        Node::Const(2),
+        Node::Leaf,
+        Node::Const(0),
+    ]?;
+    let equations = vec![in alloc; (0, 4), (0, 7), (2, 3), (5, 6), (7, 8)]?;
+    let found = closed(&rt, alloc, nodes, equations)?;
+    assert_eq!(rt; found.clash, Some((1, 2)));
+    Ok(())
+}
+
+// h(Al) = h(Bob): one null, and an entry for each of the two arguments.
+#[test]
+fn a_null_is_the_value_of_two_functions(rt: HostRuntime) -> Result<(), Fail> {
+    let alloc = rt.alloc();
+    let nodes = vec![in alloc;
+        Node::Const(0),
+        fun(alloc, 0, &[0])?,
+        Node::Const(1),
+        fun(alloc, 0, &[2])?,
+    ]?;
+    let equations = vec![in alloc; (1, 3)]?;
+    let found = closed(&rt, alloc, nodes, equations)?;
+    let first = vec![in alloc; Plain::Const(0)]?;
+    let second = vec![in alloc; Plain::Const(1)]?;
+    let expected = Told {
+        values: vec![in alloc;
+            Plain::Const(0),
+            Plain::Null(0),
+            Plain::Const(1),
+            Plain::Null(0),
+        ]?,
+        nulls: vec![in alloc; 1]?,
+        entries: vec![in alloc; (0, first, Plain::Null(0)), (0, second, Plain::Null(0))]?,
+        clash: None,
+    };
+    assert_eq!(rt; found, expected);
+    Ok(())
+}
+
+// u = succ(u): one null, which is the value of the function at itself.
+#[test]
+fn a_null_is_the_value_of_a_function_at_itself(rt: HostRuntime) -> Result<(), Fail> {
+    let alloc = rt.alloc();
+    let nodes = vec![in alloc; Node::Leaf, fun(alloc, 2, &[0])?]?;
+    let equations = vec![in alloc; (0, 1)]?;
+    let found = closed(&rt, alloc, nodes, equations)?;
+    let args = vec![in alloc; Plain::Null(0)]?;
+    let expected = Told {
+        values: vec![in alloc; Plain::Null(0), Plain::Null(0)]?,
+        nulls: vec![in alloc; 0]?,
+        entries: vec![in alloc; (2, args, Plain::Null(0))]?,
+        clash: None,
+    };
+    assert_eq!(rt; found, expected);
+    Ok(())
+}
