@@ -1,0 +1,96 @@
+-- What is counted out from grouped numbers is the numbering of the cells.
+use Rattle.std.proofs.Common.{ℕ, suc, List, [], ◌≡◌, ◌≤◌, ◌<◌, ◌+◌, ◌*◌, map, length, slice_index, slice_index_or, sym, ap, subst, ◌∙◌, arith}
+use Rattle.std.specs.Prelude.{All}
+use Rattle.std.specs.List.{flat_map}
+use Rattle.std.proofs.lemmas.List.{length-map}
+use Rattle.std.proofs.lemmas.Option.{slice_get_within}
+use Rattle.std.proofs.lemmas.List.FromFn.{get_or-map-range_with_len}
+use Rattle.cq_theory.specs.Canonical.{below}
+use Rattle.cq_theory.specs.declared.value.Value.{Value}
+use Rattle.cq_theory.specs.declared.value.Value.TheVariants.{Null}
+use Rattle.cq_model.specs.Numbering.{positions, rank, members, Cell, row_cells, entity_cells, cells, label, column, entity_types, types, starts, column_from}
+use Rattle.cq_model.specs.Free.{generator_term, names_over}
+use Rattle.cq_model.proofs.Lists.{flat_map_same, map_same, map-map, map-flat_map, in_range}
+use Rattle.cq_model.proofs.Ranks.{positions_at, members-length}
+use Rattle.cq_model.proofs.Numbering.{next_start, cells-monotone}
+use Rattle.cq_model.proofs.FreeModel.{All_from, get-map_from}
+
+-- lists of groups, of which each has a property
+pub All_groups : (P : List ℕ → Type 0) (xs : List ℕ) (n : ℕ) → ((e : ℕ) → P (positions xs e)) → All P (map (positions xs) (below n))
+All_groups P xs n h = All_from P (map (positions xs) (below n)) (λ k group is.
+    let e = get-map_from (positions xs) (below n) k group is in subst P e.2 (h e.0))
+
+pub few_members : (xs : List ℕ) (n limit : ℕ) → length xs < limit → All (λ group. length group < limit) (map (positions xs) (below n))
+few_members xs n limit few = All_groups (λ group. length group < limit) xs n (λ e. omega (arith, members-length xs e))
+
+pub members_within : (xs : List ℕ) (n limit : ℕ) → length xs ≡ limit → All (λ group. All (λ k. k < limit) group) (map (positions xs) (below n))
+members_within xs n limit size = All_groups (λ group. All (λ k. k < limit) group) xs n (λ e.
+    All_from (λ k. k < limit) (positions xs e) (λ r k is. omega (arith, slice_get_within xs k e (positions_at xs e r k is).0)))
+
+module _ (owners sources targets : List ℕ) (entities : ℕ) where
+  abbrev rows : List (List ℕ)
+  rows = map (positions owners) (below entities)
+
+  abbrev attributes : List (List ℕ)
+  attributes = map (positions sources) (below entities)
+
+  abbrev firsts : List ℕ
+  firsts = starts rows attributes targets entities
+
+  rows_at : (e : ℕ) → e < entities → slice_index_or rows e [] ≡ positions owners e
+  rows_at e within = get_or-map-range_with_len (positions owners) 0 entities e e [] within (omega arith)
+
+  attributes_at : (e : ℕ) → e < entities → slice_index_or attributes e [] ≡ positions sources e
+  attributes_at e within = get_or-map-range_with_len (positions sources) 0 entities e e [] within (omega arith)
+
+  abbrev type_of_cell : Cell → ℕ
+  type_of_cell c = slice_index targets c.attribute
+
+  entity_types_are : (e : ℕ) → e < entities → entity_types rows attributes targets e ≡ map type_of_cell (entity_cells owners sources e)
+  entity_types_are e within =
+      (λ i. flat_map (λ (row : ℕ). map (slice_index targets) (attributes_at e within i)) (rows_at e within i))
+      ∙ flat_map_same (λ n. map (slice_index targets) (positions sources e)) (λ n. map type_of_cell (row_cells owners sources e n)) (positions owners e)
+      (λ n _. sym (map-map type_of_cell (λ (a : ℕ). record { entity = e; generator = n; attribute = a }) (positions sources e)))
+      ∙ sym (map-flat_map type_of_cell (row_cells owners sources e) (positions owners e))
+
+  -- the types counted out are those of the cells
+  pub types_are : (n : ℕ) → n ≤ entities → types rows attributes targets n ≡ map type_of_cell (cells owners sources n)
+  types_are n h =
+      flat_map_same (entity_types rows attributes targets) (λ e. map type_of_cell (entity_cells owners sources e)) (below n)
+      (λ e is. let inside : e < n = in_range n e is in entity_types_are e (omega arith))
+      ∙ sym (map-flat_map type_of_cell (entity_cells owners sources) (below n))
+
+  first_is : (e : ℕ) → e < entities → slice_index firsts e ≡ length (cells owners sources e)
+  first_is e within =
+      get_or-map-range_with_len (λ n. length (types rows attributes targets n)) 0 entities e e 0 within (omega arith)
+      ∙ ap length (types_are e (omega arith)) ∙ length-map (cells owners sources e) type_of_cell
+
+  -- each entity's cells end below a limit of all cells
+  pub starts_fit : (limit : ℕ) → length (types rows attributes targets entities) < limit
+      → (e : ℕ) → e < entities → slice_index firsts e + length (slice_index_or rows e []) * length (slice_index_or attributes e []) < limit
+  starts_fit limit few e within =
+      let whole : length (types rows attributes targets entities) ≡ length (cells owners sources entities) =
+      ap length (types_are entities (omega arith)) ∙ length-map (cells owners sources entities) type_of_cell in
+      let first : length (cells owners sources e) + members owners e * members sources e ≡ length (cells owners sources (suc e)) = sym (next_start owners sources e) in
+      let last : length (cells owners sources (suc e)) ≤ length (cells owners sources entities) = cells-monotone owners sources (suc e) entities (omega arith) in
+      let below_limit : length (cells owners sources e) + members owners e * members sources e < limit = omega arith in
+      subst (λ n. n < limit) (sym (λ i. first_is e within i + length (rows_at e within i) * length (attributes_at e within i))) below_limit
+
+  column_is : (a : ℕ) → slice_index sources a < entities → column_from rows attributes firsts sources a ≡ column owners sources a
+  column_is a within =
+      let e : ℕ = slice_index sources a in
+      let f : ℕ → Value = λ row. Null (length (cells owners sources e) + rank sources e a + row * members sources e) in
+      (λ i. map (λ row. Null (first_is e within i + rank sources e a + row * length (attributes_at e within i))) (below (length (rows_at e within i))))
+      ∙ map_same f (λ row. Null (label owners sources e row a)) (below (members owners e)) (λ row _.
+      let same : length (cells owners sources e) + rank sources e a + row * members sources e ≡ label owners sources e row a = omega arith in
+      ap (λ n. Null n) same)
+
+  -- the columns counted out are those of the numbering
+  pub columns_are : All (λ e. e < entities) sources → map (column_from rows attributes firsts sources) (below (length sources)) ≡ map (column owners sources) (below (length sources))
+  columns_are within = map_same (column_from rows attributes firsts sources) (column owners sources) (below (length sources)) (λ a is. column_is a (within a 0 (in_range (length sources) a is)))
+
+  pub counts_are : map length rows ≡ map (members owners) (below entities)
+  counts_are = map-map length (positions owners) (below entities)
+
+  pub names_are : map (map generator_term) rows ≡ names_over owners entities
+  names_are = map-map (map generator_term) (positions owners) (below entities)

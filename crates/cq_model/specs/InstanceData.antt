@@ -1,0 +1,32 @@
+-- What contracts see of an instance.
+use Rattle.std.specs.Prelude.{ℕ, List, [], ◌≡◌, ◌<◌, All, length, slice_index_or}
+use Rattle.cq_theory.specs.declared.presentation.Presentation.{Presentation}
+use Rattle.cq_theory.specs.declared.term.EntTerm.{EntTerm}
+use Rattle.cq_theory.specs.SchemaData.{SchemaData}
+use Rattle.cq_theory.specs.Tables.{Tables, count_of, IsWellFormed}
+
+-- a schema, the presentation that is modelled, the name of each row by entity, and the tables
+pub record InstanceData : Type 0 where
+  pub schema : SchemaData
+  pub presentation : Presentation
+  pub names : List (List EntTerm)
+  pub tables : Tables
+
+-- the names of an entity's rows
+abbrev pub names_at : List (List EntTerm) → ℕ → List EntTerm
+names_at names entity = slice_index_or names entity []
+
+-- the name of a row of an entity
+abbrev pub name_at : List (List EntTerm) → ℕ → ℕ → EntTerm
+name_at names entity row = slice_index_or (names_at names entity) row (record { generator = 0; path = [] })
+
+-- the generator and the keys of a name exist
+abbrev pub IsName : InstanceData → EntTerm → Type 0
+IsName i t = (t.generator < length i.presentation.generators) × All (λ k. k < length i.schema.keys) t.path
+
+-- the tables are well formed over the schema, and each row has a name over the presentation
+pub record IsInstance (i : InstanceData) : Type 0 where
+  pub well_formed : IsWellFormed i.schema i.tables
+  pub entities : length i.names ≡ length i.schema.entities
+  pub counted : (entity : ℕ) → length (names_at i.names entity) ≡ count_of i.tables entity
+  pub named : All (λ names. All (IsName i) names) i.names

@@ -1,0 +1,4 @@
+pub mod InstanceData
+pub mod Listed
+pub mod Free
+pub mod Numbering

@@ -1,0 +1,69 @@
+-- The numbering of cells: by entity, then by row, then by attribute.
+-- Everything here is of plain numbers: `owners` has the entity of each generator, `sources` that of each attribute.
+use Rattle.std.specs.Prelude.{ℕ, zero, suc, List, [], ◌∷◌, ◌+◌, ◌*◌, ◌==◌, if◌then◌else◌, map, length, slice_index, slice_index_or}
+use Rattle.std.specs.List.{flat_map}
+use Rattle.cq_theory.specs.Canonical.{below}
+use Rattle.cq_theory.specs.declared.value.Value.{Value}
+use Rattle.cq_theory.specs.declared.value.Value.TheVariants.{Null}
+
+-- the numbers of the members that are e, where the first member has the number s
+abbrev pub positions_from : ℕ → List ℕ → ℕ → List ℕ
+positions_from s [] e = []
+positions_from s (x ∷ xs) e = if x == e then s ∷ positions_from (s + 1) xs e else positions_from (s + 1) xs e
+
+abbrev pub positions : List ℕ → ℕ → List ℕ
+positions xs e = positions_from 0 xs e
+
+-- how many of the first n members are e
+abbrev pub rank : List ℕ → ℕ → ℕ → ℕ
+rank [] e n = 0
+rank (x ∷ xs) e zero = 0
+rank (x ∷ xs) e (suc n) = if x == e then suc (rank xs e n) else rank xs e n
+
+-- how many members are e
+abbrev pub members : List ℕ → ℕ → ℕ
+members xs e = length (positions xs e)
+
+-- a cell: a generator of an entity, and an attribute from it
+pub record Cell : Type 0 where
+  pub entity : ℕ
+  pub generator : ℕ
+  pub attribute : ℕ
+
+module _ (owners sources : List ℕ) where
+  abbrev pub row_cells : ℕ → ℕ → List Cell
+  row_cells e n = map (λ a. record { entity = e; generator = n; attribute = a }) (positions sources e)
+
+  abbrev pub entity_cells : ℕ → List Cell
+  entity_cells e = flat_map (row_cells e) (positions owners e)
+
+  -- the cells of the first entities, in order
+  abbrev pub cells : ℕ → List Cell
+  cells entities = flat_map entity_cells (below entities)
+
+  -- the number of an attribute's cell at a row of an entity
+  abbrev pub label : ℕ → ℕ → ℕ → ℕ
+  label e row a = length (cells e) + row * members sources e + rank sources e a
+
+  -- the column of an attribute, with a null of its own at each row
+  abbrev pub column : ℕ → List Value
+  column a = map (λ row. Null (label (slice_index sources a) row a)) (below (members owners (slice_index sources a)))
+
+-- What is counted out from the rows and the attributes of each entity, given as lists by entity.
+module _ (rows attributes : List (List ℕ)) where
+  -- the types of the nulls of an entity's cells, where `targets` has the type of each attribute
+  abbrev pub entity_types : List ℕ → ℕ → List ℕ
+  entity_types targets e = flat_map (λ row. map (slice_index targets) (slice_index_or attributes e [])) (slice_index_or rows e [])
+
+  abbrev pub types : List ℕ → ℕ → List ℕ
+  types targets entities = flat_map (entity_types targets) (below entities)
+
+  -- how many cells the first entities have, for each number of them
+  abbrev pub starts : List ℕ → ℕ → List ℕ
+  starts targets entities = map (λ e. length (types targets e)) (below entities)
+
+  -- the column of an attribute, where `firsts` has the number of each entity's first cell
+  abbrev pub column_from : List ℕ → List ℕ → ℕ → List Value
+  column_from firsts sources a =
+      let e = slice_index sources a in
+      map (λ row. Null (slice_index firsts e + rank sources e a + row * length (slice_index_or attributes e []))) (below (length (slice_index_or rows e [])))

@@ -1,0 +1,42 @@
+//! Numbers grouped by what they belong to.
+ghost use Rattle.std.specs.Prelude.{◌≡◌, ◌<◌, ◌≤◌, ◌^◌, map, length, All, IfOk, []};
+ghost use Rattle.cq_theory.specs.Canonical.{below};
+ghost use Rattle.cq_model.specs.Numbering.{positions};
+
+use cq_base::Seq;
+use std::alloc::{AllocError, Global};
+
+/// For each number below `count` the places at which it stands in the list, in order.
+pub fn grouped(alloc: Global, count: usize, members: &[u32]) -> Result<Seq<Seq<u32>>, AllocError>
+    requires within { All (λ member. member < count) members.now }
+    requires numbers { length members.now ≤ 2 ^ 32 }
+    ensures { IfOk result (λ groups. groups ≡ map (positions members.now) (below count)) }
+{
+    let mut groups = empty_groups(alloc, count)?;
+    for (number, member) in members.iter().enumerate() {
+        groups[*member as usize].push(number as u32)?;
+    }
+    sealed(alloc, groups)
+}
+
+/// That many empty lists.
+fn empty_groups(alloc: Global, count: usize) -> Result<Vec<Vec<u32>>, AllocError>
+    ensures { IfOk result (λ groups. map (λ group. group.items) groups.items ≡ map (λ _. []) (below count)) }
+{
+    let mut groups = Vec::new(alloc);
+    for _number in 0..count {
+        groups.push(Vec::new(alloc))?;
+    }
+    Ok(groups)
+}
+
+/// The same lists, each as a list of its own.
+fn sealed(alloc: Global, groups: Vec<Vec<u32>>) -> Result<Seq<Seq<u32>>, AllocError>
+    ensures { IfOk result (λ lists. lists ≡ map (λ group. group.items) groups.items) }
+{
+    let lists: Vec<Seq<u32>> = groups
+        .into_iter()
+        .map(|group| Seq::from_vec(group))
+        .collect(alloc)?;
+    Ok(Seq::from_vec(lists))
+}
