@@ -1,0 +1,80 @@
+-- The transcript of an instance of employees and departments, written out.
+use Rattle.std.proofs.Common.{[], ◌∷◌, ◌≡◌, refl}
+use Rattle.std.specs.Prelude.{codes}
+use Rattle.std.specs.Fmt.{digits}
+use Rattle.cq_theory.specs.declared.presentation.Sort.TheVariants.{Entity}
+use Rattle.cq_theory.specs.declared.value.Value.TheVariants.{Const, Null}
+use Rattle.cq_theory.specs.TypesideData.{TypesideData}
+use Rattle.cq_theory.specs.SchemaData.{SchemaData}
+use Rattle.cq_theory.proofs.Values.{fold-Const, fold-Null}
+use Rattle.cq_model.specs.InstanceData.{InstanceData}
+use Rattle.cq_text.specs.Transcript.{transcript_of, name_text}
+
+abbrev typeside : TypesideData
+typeside = record {
+  types = codes "string" ∷ codes "nat" ∷ [];
+  constants = (codes "Al", 0) ∷ (codes "Bob", 0) ∷ (codes "Bo", 0) ∷ (codes "Carl", 0) ∷ (codes "Math", 0) ∷ (codes "CS", 0) ∷ (codes "zero", 1) ∷ [];
+  functions = record { name = codes "plus"; args = 1 ∷ 1 ∷ []; result = 1 } ∷ [];
+}
+
+abbrev schema : SchemaData
+schema = record {
+  typeside = typeside;
+  entities = codes "Employee" ∷ codes "Department" ∷ [];
+  keys =
+      record { name = codes "manager"; from = 0; to = 0 }
+      ∷ record { name = codes "worksIn"; from = 0; to = 1 }
+      ∷ record { name = codes "secretary"; from = 1; to = 0 }
+      ∷ [];
+  attributes =
+      record { name = codes "first"; from = 0; to = 0 }
+      ∷ record { name = codes "last"; from = 0; to = 0 }
+      ∷ record { name = codes "age"; from = 0; to = 1 }
+      ∷ record { name = codes "cummulative_age"; from = 0; to = 1 }
+      ∷ record { name = codes "name"; from = 1; to = 0 }
+      ∷ [];
+  path_eqs = [];
+  obs_eqs = [];
+}
+
+abbrev employees : InstanceData
+employees = record {
+  schema = schema;
+  presentation = record {
+    generators = (codes "a", Entity 0) ∷ (codes "b", Entity 0) ∷ (codes "c", Entity 0) ∷ (codes "m", Entity 1) ∷ (codes "s", Entity 1) ∷ [];
+    equations = [];
+  };
+  names =
+      (record { generator = 0; path = [] } ∷ record { generator = 1; path = [] } ∷ record { generator = 2; path = [] } ∷ [])
+      ∷ (record { generator = 3; path = [] } ∷ record { generator = 4; path = [] } ∷ [])
+      ∷ [];
+  tables = record {
+    sheet = record {
+      counts = 3 ∷ 2 ∷ [];
+      keys = (1 ∷ 1 ∷ 2 ∷ []) ∷ (0 ∷ 0 ∷ 1 ∷ []) ∷ (1 ∷ 2 ∷ []) ∷ [];
+      cells =
+          (Const 0 ∷ Const 1 ∷ Const 3 ∷ [])
+          ∷ (Null 0 ∷ Const 2 ∷ Null 4 ∷ [])
+          ∷ (Const 6 ∷ Null 2 ∷ Const 6 ∷ [])
+          ∷ (Null 1 ∷ Null 3 ∷ Null 5 ∷ [])
+          ∷ (Const 4 ∷ Const 5 ∷ [])
+          ∷ [];
+    };
+    algebra = record {
+      nulls = 0 ∷ 1 ∷ 1 ∷ 1 ∷ 0 ∷ 1 ∷ [];
+      entries =
+          record { function = 0; args = Const 6 ∷ Null 2 ∷ []; value = Null 1 }
+          ∷ record { function = 0; args = Null 2 ∷ Null 2 ∷ []; value = Null 3 }
+          ∷ record { function = 0; args = Const 6 ∷ Const 6 ∷ []; value = Null 5 }
+          ∷ [];
+    };
+  };
+}
+
+employees_transcript : transcript_of (codes "I") (codes "S") employees ≡ codes "instance I : S\nentity Employee 3\n1 a first=Al last=?0 age=zero cummulative_age=?1 manager=2 worksIn=1\n2 b first=Bob last=Bo age=?2 cummulative_age=?3 manager=2 worksIn=1\n3 c first=Carl last=?4 age=zero cummulative_age=?5 manager=3 worksIn=2\nentity Department 2\n1 m name=Math secretary=2\n2 s name=CS secretary=3\nnulls 6\n?0 string\n?1 nat\n?2 nat\n?3 nat\n?4 string\n?5 nat\nentries 3\nplus(zero, ?2) = ?1\nplus(?2, ?2) = ?3\nplus(zero, zero) = ?5\nend\n"
+unfolding digits
+employees_transcript = simp (fold-Const, fold-Null)
+
+-- a name with keys
+manager_of_secretary : name_text schema.keys employees.presentation.generators (record { generator = 4; path = 2 ∷ 0 ∷ [] }) ≡ codes "s.secretary.manager"
+manager_of_secretary = refl

@@ -1,0 +1,5 @@
+pub mod Belows
+pub mod Examples
+pub mod Groups
+pub mod Numbers
+pub mod Typed

@@ -1,0 +1,58 @@
+//! The transcript of an instance.
+ghost use Rattle.std.specs.Prelude.{◌≡◌, ◌++◌, IfOk, OnOk, codes, length};
+ghost use Rattle.std.specs.List.{flat_map};
+ghost use Rattle.cq_theory.specs.Canonical.{below};
+ghost use Rattle.cq_text.specs.Transcript.{entity_lines, line, transcript_of};
+
+use crate::algebra::{push_entries, push_nulls};
+use crate::edges::group_by_source;
+use crate::pieces::push_name;
+use crate::rows::push_entities;
+use cq_base::Name;
+use cq_model::Instance;
+use std::alloc::{AllocError, Global};
+
+/// The transcript of an instance under a name: its schema's name, each entity with its rows in order, the nulls
+/// with their types, and the entries of functions. Each line ends with LF.
+///
+/// A row is shown by its number from 1, its least name, the values of its attributes and the numbers of the rows to
+/// which its keys lead, both in the order of the schema. The only refusal is want of memory.
+pub fn transcript(
+    alloc: Global,
+    name: &Name,
+    schema: &Name,
+    instance: &Instance,
+) -> Result<Vec<u8>, AllocError>
+    ensures { IfOk result (λ text. text.items ≡ transcript_of name.now schema.now instance.now) }
+{
+    let mut text = Vec::new(alloc);
+    push_first_line(name, schema, &mut text)?;
+    push_tables(alloc, instance, &mut text)?;
+    push_nulls(instance, &mut text)?;
+    push_entries(instance, &mut text)?;
+    text.extend_from_slice(b"end\n")?;
+    Ok(text)
+}
+
+fn push_first_line(name: &Name, schema: &Name, text: &mut Vec<u8>) -> Result<(), AllocError>
+    ensures { OnOk result (text.new.items ≡ text.old.items ++ line (codes "instance " ++ name.now ++ codes " : " ++ schema.now)) }
+{
+    text.extend_from_slice(b"instance ")?;
+    push_name(name, text)?;
+    text.extend_from_slice(b" : ")?;
+    push_name(schema, text)?;
+    text.extend_from_slice(b"\n")?;
+    Ok(())
+}
+
+/// Appends the lines of all entities and rows.
+fn push_tables(alloc: Global, instance: &Instance, text: &mut Vec<u8>) -> Result<(), AllocError>
+    ensures { OnOk result (text.new.items ≡ text.old.items ++ flat_map (entity_lines instance.now) (below (length instance.now.schema.entities))) }
+{
+    let schema = instance.schema();
+    let entities = schema.entities.len();
+    let attributes = group_by_source(alloc, schema.attributes.as_slice(), entities)?;
+    let keys = group_by_source(alloc, schema.keys.as_slice(), entities)?;
+    push_entities(instance, &attributes, &keys, text)?;
+    Ok(())
+}
