@@ -1,0 +1,6 @@
+mod Combined
+mod Freedom
+mod Gives
+mod Loops
+mod Meets
+mod SmallLaws

@@ -1,0 +1,20 @@
+-- The lines that a run writes in place of a transcript.
+use Rattle.std.specs.Prelude.{ℕ, List, ◌++◌, codes}
+use Rattle.cq_run.specs.declared.answer.ReadCause.{ReadCause}
+use Rattle.cq_run.specs.declared.answer.ReadCause.TheVariants.{Absent, TooLong, Failed}
+
+abbrev pub usage_line : List ℕ
+usage_line = codes "usage: cqlrun run FILE [--depth K] [--only csv|cql]\n"
+
+-- of a text in a form that isn't built
+abbrev pub refusal_line : List ℕ
+refusal_line = codes "refused 1:1 90 NotBuilt\n"
+
+abbrev pub cause_word : ReadCause → List ℕ
+cause_word Absent = codes " absent\n"
+cause_word TooLong = codes " too long\n"
+cause_word Failed = codes " failed\n"
+
+-- of a file that was not read
+abbrev pub read_line : List ℕ → ReadCause → List ℕ
+read_line name cause = codes "read " ++ name ++ cause_word cause

@@ -1,0 +1,20 @@
+-- What a contract sees of the objects that are handed to a run.
+use Rattle.std.specs.Prelude.{ℕ, Bool, List}
+use Rattle.std.specs.declared.option.Option.{Option}
+use Rattle.cq_io.specs.Content.{File}
+
+-- of the folder
+pub record Shelf : Type 0 where
+  pub files : Option (List File)
+  pub faults : ℕ
+  pub absences : ℕ
+  pub overruns : ℕ
+  -- it never fails
+  pub steady : Bool
+
+-- of the sink
+pub record Drain : Type 0 where
+  pub held : Option (List ℕ)
+  pub faults : ℕ
+  -- how many more bytes it takes without a fault
+  pub spare : Option ℕ

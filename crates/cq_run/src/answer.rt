@@ -1,0 +1,73 @@
+//! Reading the text of a file, and judging it.
+ghost use Rattle.std.specs.Prelude.{◌≡◌, IfOk};
+ghost use Rattle.cq_run.specs.Ask.{ask_of};
+ghost use Rattle.cq_run.specs.Answer.{Answers, Judges, SaysUnread};
+ghost use Rattle.cq_run.specs.Lines.{read_line};
+
+use crate::judge::judge;
+use cq_io::{Folder, ReadRefusal};
+use std::alloc::{AllocError, Global};
+
+/// What is to be written, by what became of the file.
+#[derive(Drop)]
+pub enum Answer {
+    /// The transcript.
+    Accepted(Vec<u8>),
+    /// The line of a refused text.
+    Refused(Vec<u8>),
+    /// The line of a file that was not read.
+    Unread(Vec<u8>),
+    Memory,
+}
+
+/// Why a file was not read.
+#[derive(Clone, Copy, Debug, PartialEq, Eq)]
+pub enum ReadCause {
+    Absent,
+    TooLong,
+    Failed,
+}
+
+/// The most bytes of a program file: 8 MiB.
+const FILE_LIMIT: u64 = 8388608;
+
+/// Reads the file, and judges its text.
+pub fn answer_to<F: Folder>(alloc: Global, file: &str, folder: &mut F) -> Answer
+    ensures files { F.files folder.new ≡ F.files folder.old }
+    ensures answers { Answers (ask_of file.now)
+        (record { files = F.files folder.old; faults = F.faults folder.old; absences = F.absences folder.old; overruns = F.overruns folder.old; steady = F.steady folder.old })
+        (record { files = F.files folder.new; faults = F.faults folder.new; absences = F.absences folder.new; overruns = F.overruns folder.new; steady = F.steady folder.new })
+        result }
+{
+    match folder.read(file, FILE_LIMIT) {
+        Ok(text) => judge(alloc, text.as_slice()),
+        Err(ReadRefusal::Absent) => unread(alloc, file, ReadCause::Absent),
+        Err(ReadRefusal::TooLong) => unread(alloc, file, ReadCause::TooLong),
+        Err(ReadRefusal::Failed) => unread(alloc, file, ReadCause::Failed),
+        Err(ReadRefusal::Memory) => Answer::Memory,
+    }
+}
+
+fn unread(alloc: Global, name: &str, cause: ReadCause) -> Answer
+    ensures { SaysUnread name.now cause result }
+{
+    match unread_line(alloc, name, cause) {
+        Ok(line) => Answer::Unread(line),
+        Err(_) => Answer::Memory,
+    }
+}
+
+/// The line of a file that was not read.
+fn unread_line(alloc: Global, name: &str, cause: ReadCause) -> Result<Vec<u8>, AllocError>
+    ensures { IfOk result (λ line. line.items ≡ read_line name.now cause) }
+{
+    let mut line = Vec::from_slice(alloc, b"read ")?;
+    line.extend_from_slice(name.as_bytes())?;
+    let word = match cause {
+        ReadCause::Absent => " absent\n",
+        ReadCause::TooLong => " too long\n",
+        ReadCause::Failed => " failed\n",
+    };
+    line.extend_from_slice(word.as_bytes())?;
+    Ok(line)
+}

@@ -1,0 +1,177 @@
+//! Runs over the fakes in memory.
+use crate::{Status, run};
+use cq_io::{MemFolder, MemSink};
+use std::alloc::{AllocError, Global};
+use std::test::Fail;
+
+const USAGE: &str = "usage: cqlrun run FILE [--depth K] [--only csv|cql]\n";
+
+const NOT_BUILT: &str = "refused 1:1 90 NotBuilt\n";
+
+fn words(alloc: Global, texts: &[&str]) -> Result<Vec<String>, AllocError> {
+    let mut words = Vec::new(alloc);
+    for text in texts {
+        words.push(String::from_str(alloc, text)?)?;
+    }
+    Ok(words)
+}
+
+/// A folder with one file, whose reads with these numbers fail.
+fn folder(alloc: Global, text: &str, failing: &[u64]) -> Result<MemFolder, AllocError> {
+    let mut files = Vec::new(alloc);
+    let bytes = Vec::from_slice(alloc, text.as_bytes())?;
+    files.push((String::from_str(alloc, "p.cql")?, bytes))?;
+    MemFolder::new(alloc, files, Vec::from_slice(alloc, failing)?)
+}
+
+struct Case {
+    words: &'static [&'static str],
+    text: &'static str,
+    status: Status,
+    written: &'static str,
+}
+
+const RUN: &[&str] = &["run", "p.cql"];
+
+const FIRST: &str = "typeside T = literal { types s constants Al Bob : s }
+schema S = literal : T { entities E attributes x : E -> s }
+instance I = literal : S { generators a b : E }
+";
+
+static CASES: [Case; 14] = [
+    Case {
+        words: &["run"],
+        text: FIRST,
+        status: Status::Usage,
+        written: USAGE,
+    },
+    Case {
+        words: &["draw", "p.cql"],
+        text: FIRST,
+        status: Status::Usage,
+        written: USAGE,
+    },
+    Case {
+        words: &["run", "p.cql", "--depth", "65"],
+        text: FIRST,
+        status: Status::Usage,
+        written: USAGE,
+    },
+    Case {
+        words: &["example", "0"],
+        text: FIRST,
+        status: Status::Usage,
+        written: USAGE,
+    },
+    Case {
+        words: &["run", "none.cql"],
+        text: FIRST,
+        status: Status::Read,
+        written: "read none.cql absent\n",
+    },
+    Case {
+        words: RUN,
+        text: FIRST,
+        status: Status::Ok,
+        written: "instance I : S\nentity E 2\n1 a x=?0\n2 b x=?1\nnulls 2\n?0 s\n?1 s\nentries 0\nend\n",
+    },
+    Case {
+        words: RUN,
+        text: "typeside literal = literal { types s n }
+// comments are blanks, and `literal` is a name where no operation is wanted
+schema S=literal:literal{entities E D attributes x:D->s y:E->n /* two
+lines */ z : D -> n}instance I = literal : S { generators c : D a : E b : D }",
+        status: Status::Ok,
+        written: "instance I : S\nentity E 1\n1 a y=?0\nentity D 2\n1 c x=?1 z=?2\n2 b x=?3 z=?4\nnulls 5\n?0 n\n?1 s\n?2 n\n?3 s\n?4 n\nentries 0\nend\n",
+    },
+    Case {
+        words: RUN,
+        text: "typeside T = literal {} schema S = literal : T {} instance I = literal : S {}",
+        status: Status::Ok,
+        written: "instance I : S\nnulls 0\nentries 0\nend\n",
+    },
+    Case {
+        words: RUN,
+        text: "typeside T = literal { types s } schema S = literal : T { entities E } instance I = literal : S { generators a : Q }",
+        status: Status::Refused,
+        written: NOT_BUILT,
+    },
+    Case {
+        words: RUN,
+        text: "typeside T = literal { types s } schema S = literal : T { entities E } instance I = literal : S { generators a : s }",
+        status: Status::Refused,
+        written: NOT_BUILT,
+    },
+    Case {
+        words: RUN,
+        text: "typeside T = literal { types s s } schema S = literal : T { } instance I = literal : S { }",
+        status: Status::Refused,
+        written: NOT_BUILT,
+    },
+    Case {
+        words: RUN,
+        text: "typeside T = literal { } schema S = literal : R { } instance I = literal : S { }",
+        status: Status::Refused,
+        written: NOT_BUILT,
+    },
+    Case {
+        words: RUN,
+        text: "typeside T = literal { } schema S = literal : T { } instance S = literal : S { }",
+        status: Status::Refused,
+        written: NOT_BUILT,
+    },
+    Case {
+        words: RUN,
+        text: "typeside T = literal { } @",
+        status: Status::Refused,
+        written: NOT_BUILT,
+    },
+];
+
+#[test]
+fn each_status_with_its_line(rt: HostRuntime) -> Result<(), Fail> {
+    let alloc = rt.alloc();
+    for case in &CASES {
+        let mut folder = folder(alloc, case.text, &[])?;
+        let mut out = MemSink::new(alloc, Vec::new(alloc), 1000)?;
+        let words = words(alloc, case.words)?;
+        let status = run(alloc, words.as_slice(), &mut folder, &mut out);
+        assert!(rt; out.bytes() == case.written.as_bytes(), "{}", case.text);
+        assert_eq!(rt; status, case.status);
+    }
+    Ok(())
+}
+
+#[test]
+fn devices_that_fail(rt: HostRuntime) -> Result<(), Fail> {
+    let alloc = rt.alloc();
+    let words = words(alloc, RUN)?;
+    let mut unreadable = folder(alloc, FIRST, &[0])?;
+    let mut out = MemSink::new(alloc, Vec::new(alloc), 100)?;
+    let status = run(alloc, words.as_slice(), &mut unreadable, &mut out);
+    assert_eq!(rt; status, Status::Read);
+    assert!(rt; out.bytes() == b"read p.cql failed\n".as_slice());
+
+    let mut folder = folder(alloc, FIRST, &[])?;
+    let mut small = MemSink::new(alloc, Vec::new(alloc), 10)?;
+    let status = run(alloc, words.as_slice(), &mut folder, &mut small);
+    assert_eq!(rt; status, Status::Write);
+    assert!(rt; small.bytes() == b"instance I".as_slice());
+    Ok(())
+}
+
+#[test]
+fn a_file_at_the_limit_and_past_it(rt: HostRuntime) -> Result<(), Fail> {
+    let alloc = rt.alloc();
+    let words = words(alloc, RUN)?;
+    for (length, written) in [(8388608, NOT_BUILT), (8388609, "read p.cql too long\n")] {
+        let mut files = Vec::new(alloc);
+        let blanks = vec![in alloc; b' '; length]?;
+        files.push((String::from_str(alloc, "p.cql")?, blanks))?;
+        let mut folder = MemFolder::new(alloc, files, Vec::new(alloc))?;
+        let mut out = MemSink::new(alloc, Vec::new(alloc), 100)?;
+        run(alloc, words.as_slice(), &mut folder, &mut out);
+        assert!(rt; out.bytes() == written.as_bytes());
+    }
+    Ok(())
+}
