@@ -21,3 +21,12 @@ pub mod RawSymbols
 pub mod MadeObservations
 pub mod MadeSchemas
 pub mod MadePresentations
+pub mod Conclusions
+pub mod OnValues
+pub mod Identities
+pub mod Orders
+pub mod Typing
+pub mod Labels
+pub mod Every
+pub mod NodeLists
+pub mod OneModel

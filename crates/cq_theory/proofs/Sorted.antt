@@ -62,7 +62,7 @@ module _ (S : Schema) (G : Generators) (at : EntTerm) (e : ℕ) (of_entity : ent
       entity_of-extended S (record { generators = G; equations = [] }) at t.path ∙ ap (option_and_then (target_of S.keys t.path)) of_entity
       ∙ ap (target_of S.keys t.path) (variable_entity e t.generator start first) ∙ rest)
 
-  type_of-substituted : (t : TypeTerm) → KeepsType t
+  pub type_of-substituted : (t : TypeTerm) → KeepsType t
   type_of-substituted = on_terms KeepsType
       (λ n type h. absurd (no_type_variable e n type (sym (fold-Gen (Option ℕ) (type_step S (one_of e)) n) ∙ h)))
       (λ c type h. ap (type_of S G) (fold-Const TypeTerm (substituted_step at) c) ∙ fold-Const (Option ℕ) (type_step S G) c ∙ sym (fold-Const (Option ℕ) (type_step S (one_of e)) c) ∙ h)

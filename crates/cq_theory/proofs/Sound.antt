@@ -32,7 +32,7 @@ followed_some (Some edge) e target h =
     let parts : ((edge.from == e) ≡ true) × (edge.to ≡ target) = cond_some _ _ _ h in
     (edge, refl, eqb-true _ _ parts.0, parts.1)
 
-row_from-append : (M : Tables) (row : ℕ) (p q : List ℕ) → row_from M row (p ++ q) ≡ row_from M (row_from M row p) q
+pub row_from-append : (M : Tables) (row : ℕ) (p q : List ℕ) → row_from M row (p ++ q) ≡ row_from M (row_from M row p) q
 row_from-append M row [] q = refl
 row_from-append M row (k ∷ p) q = row_from-append M (key_at M k row) p q
 
@@ -77,7 +77,7 @@ module _ (S : Schema) (P : Presentation) (M : Tables) (A : Assignment) (holds : 
   row_in-within (AtValue v) e h = absurd h
 
   -- an entity term names a row of its entity
-  row_of-within : (t : EntTerm) (e : ℕ) → entity_of S P.generators t ≡ Some e → row_of M A t < count_of M e
+  pub row_of-within : (t : EntTerm) (e : ℕ) → entity_of S P.generators t ≡ Some e → row_of M A t < count_of M e
   row_of-within t e h = option_and_then_some (target_of S.keys t.path) (entity_at (slice_get P.generators t.generator)) e h (λ start first rest.
       let g : (g : Name × Sort) × (slice_get P.generators t.generator ≡ Some g) × (g.1 ≡ Entity start) = entity_at_some (slice_get P.generators t.generator) start first in
       let m = slice_index_or A t.generator (AtRow 0) in

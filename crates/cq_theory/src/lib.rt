@@ -12,8 +12,10 @@ pub mod typeside;
 pub mod value;
 pub mod value_text;
 
-pub use lookup::{Symbol, TermRefusal, TheoryRefusal, resolve};
-pub use parts::{ObsPart, PresentationParts, SchemaParts, TypesideParts};
+pub use lookup::{ArrowRefusal, SizeRefusal, Symbol, TermRefusal, TheoryRefusal, resolve};
+pub use parts::{
+    ArrowImage, ArrowPart, MappingParts, ObsPart, PresentationParts, SchemaParts, TypesideParts,
+};
 pub use presentation::{Equation, Presentation, Sort};
 pub use route::{Route, resolve_path};
 pub use schema::{Edge, ObsEq, PathEq, Schema};

@@ -10,6 +10,7 @@ pub(crate) mod schema_parts;
 pub(crate) mod typeside_parts;
 
 pub use builds::resolve;
+use cq_base::Name;
 
 /// A function, a foreign key or an attribute, by its number.
 #[derive(Clone, Copy, Debug, PartialEq, Eq)]
@@ -38,5 +39,26 @@ pub enum TheoryRefusal {
     WrongSort(u32),
     Reserved(u32),
     TooLarge(u32),
+    Memory,
+}
+
+/// Why parts make no mapping or query: a rule of `TheoryRefusal`, broken by the part with this number, or the first entity,
+/// foreign key or attribute that has no image.
+#[derive(Drop)]
+pub enum ArrowRefusal {
+    Duplicate(u32),
+    Unknown(u32),
+    WrongCount(u32),
+    WrongSort(u32),
+    Reserved(u32),
+    TooLarge(u32),
+    Missing(Name),
+    Memory,
+}
+
+/// Why no presentation could be made of another one: a term would have over 1,024 symbols, or there would be over 16,000,000 generators.
+#[derive(Clone, Copy, Debug, PartialEq, Eq)]
+pub enum SizeRefusal {
+    TooLarge,
     Memory,
 }

@@ -35,3 +35,27 @@ pub struct PresentationParts {
     pub generators: Seq<(Name, Name)>,
     pub equations: Seq<(Raw, Raw)>,
 }
+
+/// The parts of a mapping: the image of each entity, and then the images of foreign keys and attributes in the order of the text.
+#[derive(Drop)]
+pub struct MappingParts {
+    pub entities: Seq<(Name, Name)>,
+    pub arrows: Seq<ArrowPart>,
+}
+
+/// The image of a foreign key or an attribute, given in the block of an entity.
+#[derive(Drop)]
+pub struct ArrowPart {
+    pub block: Name,
+    pub name: Name,
+    pub image: ArrowImage,
+}
+
+/// The path to which a foreign key goes, or the path or the term to which an attribute goes. A term is over a variable,
+/// whose entity may be left out.
+#[derive(Drop)]
+pub enum ArrowImage {
+    Key(Seq<Name>),
+    Path(Seq<Name>),
+    Lambda(Name, Option<Name>, Raw),
+}
