@@ -1,5 +1,5 @@
 -- What holds of every member of a list that is made of lists.
-use Rattle.std.proofs.Common.{ℕ, zero, suc, Bool, true, List, [], ◌∷◌, ◌++◌, Option, Some, None, ◌≡◌, ◌<◌, ◌+◌, cond, map, filter, length, refl, sym, ap, subst, ◌∙◌, arith}
+use Rattle.std.proofs.Common.{ℕ, zero, suc, Bool, true, List, [], ◌∷◌, ◌++◌, Option, Some, None, ◌≡◌, ◌<◌, ◌+◌, cond, map, filter, refl, sym, ap, subst, ◌∙◌, arith}
 use Rattle.std.specs.Prelude.{slice_get, All}
 use Rattle.std.specs.List.{flat_map, enumerate_from, filter_map, cons_option, range_with_len}
 use Rattle.std.proofs.lemmas.List.Elements.{All-head, All-tail}

@@ -1,15 +1,13 @@
 -- The identity is a homomorphism.
-use Rattle.std.proofs.Common.{ℕ, zero, suc, Bool, true, List, [], ◌∷◌, Option, Some, ◌≡◌, ◌<◌, ◌+◌, map, length, get_or, refl, sym, ap, subst, ◌∙◌, arith}
+use Rattle.std.proofs.Common.{ℕ, zero, suc, true, List, [], ◌∷◌, Option, Some, ◌≡◌, ◌<◌, ◌+◌, map, length, get_or, refl, sym, ap, subst, ◌∙◌, arith}
 use Rattle.std.specs.Prelude.{slice_get, slice_index, slice_index_or, All}
 use Rattle.std.proofs.lemmas.Bool.{and_parts}
 use Rattle.std.proofs.lemmas.Option.{slice_get_within, slice_get-get_or}
 use Rattle.std.proofs.lemmas.List.Elements.{All-head, All-tail}
 use Rattle.std.proofs.lemmas.List.FromFn.{get_or-range_with_len, get_or-map-range_with_len, length-map-range_with_len}
-use Rattle.cq_theory.specs.declared.schema.Edge.{Edge}
 use Rattle.cq_theory.specs.SchemaData.{SchemaData as Schema}
 use Rattle.cq_theory.specs.declared.value.Value.{Value}
-use Rattle.cq_theory.specs.declared.value.Value.TheVariants.{Const, Null, Fun}
-use Rattle.cq_theory.specs.declared.value.Value.TheOpen as layer
+use Rattle.cq_theory.specs.declared.value.Value.TheVariants.{Const, Null}
 use Rattle.cq_theory.specs.declared.value.Entry.{Entry}
 use Rattle.cq_theory.specs.Canonical.{below}
 use Rattle.cq_theory.specs.Sorts.{is_type, have_types}

@@ -38,7 +38,7 @@ either_some (Some y) p x h = inl h
 none_is_some : (e : ℕ) → None ≡ Some e → ⊥
 none_is_some e h = cc
 
-some_if : {X : Type 0} (b : Bool) (o : Option X) (x : X) → cond b o None ≡ Some x → o ≡ Some x
+pub some_if : {X : Type 0} (b : Bool) (o : Option X) (x : X) → cond b o None ≡ Some x → o ≡ Some x
 some_if true o x h = h
 some_if false o x h = cc
 
@@ -48,7 +48,7 @@ entity_by : (S : Schema) (part : ObsPart) (stated : Option Name) → part.entity
 entity_by S part stated is e h =
     subst (λ (o : Option Name). elim o [ Some name ↦ entity_in (sort_named S name) | None ↦ or_else (applied_source S part.variable part.left) (applied_source S part.variable part.right) ] ≡ Some e) is h
 
-agrees : (e n : ℕ) (sort : Sort) → slice_get (Entity e ∷ []) n ≡ Some sort → (g : Name × Sort) × (slice_get (one_of e) n ≡ Some g) × (g.1 ≡ sort)
+pub agrees : (e n : ℕ) (sort : Sort) → slice_get (Entity e ∷ []) n ≡ Some sort → (g : Name × Sort) × (slice_get (one_of e) n ≡ Some g) × (g.1 ≡ sort)
 agrees e zero sort h = (([], Entity e), refl, (let same : Entity e ≡ sort = cc in same))
 agrees e (suc n) sort h = cc
 
@@ -60,7 +60,7 @@ one_type (Some (Plain t)) (Some (Entity e)) h = cc
 one_type (Some (Plain t)) (Some (Plain u)) h = (t, refl, ap (λ n. Some (Plain n)) (sym (eqb-true t u h)))
 
 module _ (S : Schema) (schema : IsSchema S) where
-  attribute_begins : (a : ℕ) (edge : Edge) → slice_get S.attributes a ≡ Some edge → edge.from < length S.entities
+  pub attribute_begins : (a : ℕ) (edge : Edge) → slice_get S.attributes a ≡ Some edge → edge.from < length S.entities
   attribute_begins a edge is =
       subst (λ (e : Edge). e.from < length S.entities) (get_or_from_slice_get S.attributes a edge edge is)
       (All-get_or (λ e. (e.from < length S.entities) × (e.to < length S.typeside.types)) S.attributes a edge (slice_get_within S.attributes a edge is) schema.attributes).0
@@ -112,13 +112,13 @@ module _ (S : Schema) (schema : IsSchema S) where
   variable_within part (Some name) is e h = stated_within name e (entity_by S part (Some name) is e h)
 
   -- a side of a type has that type when it is looked up, and at most 1,024 symbols
-  side_type : (variable : Name) (entity type : ℕ) (raw : Raw) → raw_sort S (variable ∷ []) (Entity entity ∷ []) raw ≡ Some (Plain type)
+  pub side_type : (variable : Name) (entity type : ℕ) (raw : Raw) → raw_sort S (variable ∷ []) (Entity entity ∷ []) raw ≡ Some (Plain type)
       → type_of S (one_of entity) (type_term_in (resolved S (variable ∷ []) (Entity entity ∷ []) raw)) ≡ Some type
   side_type variable entity type raw h =
       type_of-in S (one_of entity) (resolved S (variable ∷ []) (Entity entity ∷ []) raw) type
       (sort_of-resolved S (one_of entity) (variable ∷ []) (Entity entity ∷ []) (agrees entity) raw (Plain type) h)
 
-  side_fits : (names : List Name) (sorts : List Sort) (raw : Raw) → has_wrong_count S raw ≡ false → is_too_large raw ≡ false → symbols_of (type_term_in (resolved S names sorts raw)) ≤ 1024
+  pub side_fits : (names : List Name) (sorts : List Sort) (raw : Raw) → has_wrong_count S raw ≡ false → is_too_large raw ≡ false → symbols_of (type_term_in (resolved S names sorts raw)) ≤ 1024
   side_fits names sorts raw counted short =
       let a = type_part (resolved S names sorts raw) in
       let b = resolved-no_longer S names sorts raw counted in

@@ -34,7 +34,7 @@ stays (Some f) e next h =
     let parts : ((f == e) ≡ true) × (f ≡ next) = cond_some _ _ _ h in
     sym (eqb-true f e parts.0) ∙ parts.1
 
-map_pair : (start : ℕ) (o : Option ℕ) (ends : ℕ × ℕ) → option_map (λ target. (start, target)) o ≡ Some ends → (start ≡ ends.0) × (o ≡ Some ends.1)
+pub map_pair : (start : ℕ) (o : Option ℕ) (ends : ℕ × ℕ) → option_map (λ target. (start, target)) o ≡ Some ends → (start ≡ ends.0) × (o ≡ Some ends.1)
 map_pair start None ends h = cc
 map_pair start (Some t) ends h = let same : (start, t) ≡ ends = cc in (ap (λ p. p.0) same, ap (λ p. Some p.1) same)
 

@@ -1,5 +1,5 @@
 -- The nodes of a presentation are ground terms, and with a node stand its arguments.
-use Rattle.std.proofs.Common.{ℕ, Bool, true, List, [], ◌∷◌, ◌++◌, Option, Some, None, ◌≡◌, ◌<◌, ◌+◌, ◌==◌, ◌&&◌, if◌then◌else◌, map, filter, length, refl, sym, ap, subst, ◌∙◌, arith}
+use Rattle.std.proofs.Common.{ℕ, Bool, true, List, [], ◌∷◌, ◌++◌, Option, Some, None, ◌≡◌, ◌==◌, if◌then◌else◌, map, filter, length, refl, sym, ap, subst, ◌∙◌, arith}
 use Rattle.std.specs.Prelude.{slice_get, slice_index_or, option_and_then, option_map}
 use Rattle.std.specs.List.{flat_map, enumerate_from, filter_map}
 use Rattle.std.proofs.lemmas.Bool.{and_parts, eqb-true}
@@ -15,10 +15,9 @@ use Rattle.cq_theory.specs.SchemaData.{SchemaData as Schema}
 use Rattle.cq_theory.specs.declared.term.EntTerm.{EntTerm}
 use Rattle.cq_theory.specs.declared.term.TypeTerm.{TypeTerm}
 use Rattle.cq_theory.specs.declared.term.TypeTerm.TheVariants.{Gen, Const, Att, Fun}
-use Rattle.cq_theory.specs.declared.term.Term.{Term}
-use Rattle.cq_theory.specs.declared.term.Term.TheVariants.{Ent, Typ}
+use Rattle.cq_theory.specs.declared.term.Term.TheVariants.{Typ}
 use Rattle.cq_theory.specs.TypeTerm.{substituted}
-use Rattle.cq_theory.specs.Sorts.{followed, type_at, entity_of, is_type, have_types, type_of, type_step, sort_of, IsGround}
+use Rattle.cq_theory.specs.Sorts.{followed, type_at, entity_of, is_type, have_types, type_of, type_step, IsGround}
 use Rattle.cq_theory.specs.Schema.{IsSchema}
 use Rattle.cq_theory.specs.Presentation.{IsPresentation}
 use Rattle.cq_theory.specs.Derivation.{left_of, right_of}

@@ -1,8 +1,8 @@
 -- Two models that are listed for one presentation are equal.
-use Rattle.std.proofs.Common.{ℕ, Bool, true, false, List, [], ◌∷◌, ◌++◌, Option, Some, None, ◌≡◌, ◌<◌, ◌≤◌, ◌+◌, ◌==◌, ◌↔◌, if◌then◌else◌, inl, inr, map, filter, length, get_or, refl, sym, ap, subst, ◌∙◌, slice_index_or, arith}
+use Rattle.std.proofs.Common.{ℕ, Bool, false, List, [], ◌∷◌, ◌++◌, Option, Some, None, ◌≡◌, ◌<◌, ◌≤◌, ◌+◌, ◌==◌, ◌↔◌, if◌then◌else◌, inl, inr, map, filter, length, refl, sym, ap, subst, ◌∙◌, slice_index_or, arith}
 use Rattle.std.specs.Prelude.{slice_get, option_map, option_and_then, nat_eq}
 use Rattle.std.specs.List.{flat_map, enumerate_from, filter_map, cons_option}
-use Rattle.std.specs.Ordering.{is_gt, is_lt}
+use Rattle.std.specs.Ordering.{is_gt}
 use Rattle.std.proofs.lemmas.Bool.{eq-eqb}
 use Rattle.std.proofs.lemmas.Option.{slice_get_within, slice_get_cases, get_or_from_slice_get}
 use Rattle.cq_theory.specs.declared.presentation.Presentation.{Presentation}
@@ -17,32 +17,30 @@ use Rattle.cq_theory.specs.declared.term.TypeTerm.{TypeTerm}
 use Rattle.cq_theory.specs.declared.term.TypeTerm.TheVariants as term
 use Rattle.cq_theory.specs.declared.term.TypeTerm.TheOpen as layer
 use Rattle.cq_theory.specs.declared.term.TypeTerm.TheViews.{out-TypeTerm, out-roll-TypeTerm}
-use Rattle.cq_theory.specs.declared.term.Term.{Term}
 use Rattle.cq_theory.specs.declared.term.Term.TheVariants.{Ent, Typ}
 use Rattle.cq_theory.specs.declared.value.Value.{Value}
-use Rattle.cq_theory.specs.declared.value.Value.TheVariants.{Const, Null, Fun}
-use Rattle.cq_theory.specs.declared.value.Entry.{Entry}
+use Rattle.cq_theory.specs.declared.value.Value.TheVariants.{Const, Null}
 use Rattle.cq_theory.specs.EntTerm.{extended}
 use Rattle.cq_theory.specs.TypeTerm.{substituted}
-use Rattle.cq_theory.specs.Sorts.{followed, target_of, entity_at, entity_of, type_of, type_step, sort_of}
+use Rattle.cq_theory.specs.Sorts.{followed, target_of, entity_at, entity_of, type_of, type_step}
 use Rattle.cq_theory.specs.Schema.{IsSchema}
 use Rattle.cq_theory.specs.Presentation.{IsPresentation}
 use Rattle.cq_theory.specs.Derivation.{Derives}
 use Rattle.cq_theory.specs.Canonical.{below, edges_from}
-use Rattle.cq_theory.specs.Tables.{Tables, Meaning, AtRow, AtValue, Assignment, row_in, value_in, count_of, key_at, cell_at, row_of, value_of, value_step, meaning_of, is_for, value_type, value_type_step, HasSort, IsPlain, Holds}
+use Rattle.cq_theory.specs.Tables.{Tables, Meaning, AtRow, AtValue, Assignment, row_in, value_in, count_of, key_at, cell_at, row_of, value_of, value_step, is_for, value_type, value_type_step, HasSort, IsPlain, Holds}
 use Rattle.cq_theory.specs.Listed.{term_cmp, subterms, firsts, names_of, cell_nodes, generator_node, equation_nodes, observation_nodes, nodes, null_label, node_entry, IsLeastName, Lists}
 use Rattle.cq_theory.proofs.TypeTerms.{fold-Gen, fold-Const, fold-Att, Each}
 use Rattle.cq_theory.proofs.Values as values
 use Rattle.cq_theory.proofs.OnValues.{All_at}
 use Rattle.cq_theory.proofs.Sound.{row_of-within, row_from-append}
 use Rattle.cq_theory.proofs.Closings.{entity_of-extended}
-use Rattle.cq_theory.proofs.Orders.{IsIn, IsBefore, Includes, one_order, before-irreflexive, before-asymmetric, both_least, same_lists}
+use Rattle.cq_theory.proofs.Orders.{IsIn, IsBefore, one_order, before-irreflexive, before-asymmetric, both_least, same_lists}
 use Rattle.cq_theory.proofs.Typing.{value_typed}
 use Rattle.cq_theory.proofs.Labels.{Aligned, BothLabelled, aligned-cons, aligned-firsts, diagonal}
 use Rattle.cq_theory.proofs.Every.{Every, Every-from_All, Every-parts, Every-in_flat_map, Every-in_filter_map, Every-unmap, Every-in_filter, Every-weaker, Every-both, enumerated, at_range}
 use Rattle.cq_theory.proofs.NodeLists.{HasType, nodes_typed, nodes_pass}
 
-out-Gen : (n : ℕ) → out-TypeTerm (term.Gen n) ≡ layer.Gen n
+pub out-Gen : (n : ℕ) → out-TypeTerm (term.Gen n) ≡ layer.Gen n
 out-Gen n = ap out-TypeTerm (sym (term.rolls-Gen n)) ∙ out-roll-TypeTerm (layer.Gen n)
 
 out-Const : (c : ℕ) → out-TypeTerm (term.Const c) ≡ layer.Const c
@@ -51,7 +49,7 @@ out-Const c = ap out-TypeTerm (sym (term.rolls-Const c)) ∙ out-roll-TypeTerm (
 out-Att : (a : ℕ) (t : EntTerm) → out-TypeTerm (term.Att a t) ≡ layer.Att a t
 out-Att a t = ap out-TypeTerm (sym (term.rolls-Att a t)) ∙ out-roll-TypeTerm (layer.Att a t)
 
-out-Fun : (f : ℕ) (ts : List TypeTerm) → out-TypeTerm (term.Fun f ts) ≡ layer.Fun f ts
+pub out-Fun : (f : ℕ) (ts : List TypeTerm) → out-TypeTerm (term.Fun f ts) ≡ layer.Fun f ts
 out-Fun f ts = ap out-TypeTerm (sym (term.rolls-Fun f ts)) ∙ out-roll-TypeTerm (layer.Fun f ts)
 
 same_null : (x y : ℕ) → Null x ≡ Null y → x ≡ y

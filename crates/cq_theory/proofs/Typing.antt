@@ -1,23 +1,20 @@
 -- What a term means has the type of the term.
-use Rattle.std.proofs.Common.{ℕ, Bool, true, List, [], ◌∷◌, Option, Some, None, ◌≡◌, ◌<◌, ◌==◌, ◌&&◌, if◌then◌else◌, map, length, refl, sym, ap, subst, ◌∙◌, slice_index_or}
-use Rattle.std.specs.Prelude.{slice_get, option_and_then, option_map, find}
-use Rattle.std.proofs.lemmas.Bool.{and_parts, eq-eqb}
+use Rattle.std.proofs.Common.{ℕ, Bool, true, List, [], ◌∷◌, Option, Some, None, ◌≡◌, ◌<◌, ◌&&◌, if◌then◌else◌, map, refl, sym, ap, subst, ◌∙◌, slice_index_or}
+use Rattle.std.specs.Prelude.{slice_get, find}
+use Rattle.std.proofs.lemmas.Bool.{and_parts}
 use Rattle.std.proofs.lemmas.Option.{option_and_then_some}
 use Rattle.cq_base.specs.declared.name.Name.{Name}
 use Rattle.cq_theory.specs.declared.presentation.Presentation.{Presentation}
 use Rattle.cq_theory.specs.declared.presentation.Sort.{Sort}
 use Rattle.cq_theory.specs.declared.presentation.Sort.TheVariants.{Plain, Entity}
-use Rattle.cq_theory.specs.declared.schema.Edge.{Edge}
 use Rattle.cq_theory.specs.SchemaData.{SchemaData as Schema}
 use Rattle.cq_theory.specs.declared.typeside.Fun.{Fun as Function}
-use Rattle.cq_theory.specs.declared.term.EntTerm.{EntTerm}
 use Rattle.cq_theory.specs.declared.term.TypeTerm.{TypeTerm}
-use Rattle.cq_theory.specs.declared.term.TypeTerm.TheVariants as term
 use Rattle.cq_theory.specs.declared.value.Value.{Value}
-use Rattle.cq_theory.specs.declared.value.Value.TheVariants.{Const, Null, Fun}
+use Rattle.cq_theory.specs.declared.value.Value.TheVariants.{Const}
 use Rattle.cq_theory.specs.declared.value.Entry.{Entry}
 use Rattle.cq_theory.specs.Sorts.{followed, type_at, entity_of, is_type, have_types, applied_type, type_of, type_step}
-use Rattle.cq_theory.specs.Tables.{Tables, Meaning, AtRow, AtValue, Assignment, value_in, count_of, cell_at, row_of, value_of, value_step, is_for, entry_or_built, applied, value_type, value_type_step, normal_of, HasSort, IsSoundEntry, IsWellFormed, Holds}
+use Rattle.cq_theory.specs.Tables.{Tables, Meaning, AtRow, AtValue, Assignment, value_in, count_of, row_of, value_of, value_step, is_for, entry_or_built, applied, value_type, value_type_step, HasSort, IsSoundEntry, IsWellFormed, Holds}
 use Rattle.cq_theory.proofs.TypeTerms.{fold-Gen, fold-Const, fold-Att, fold-Fun, Each, on_terms}
 use Rattle.cq_theory.proofs.Values as values
 use Rattle.cq_theory.proofs.OnValues.{All_at, entry_for, found_passes}

@@ -9,8 +9,14 @@ pub(crate) mod paths;
 pub(crate) mod schema_parts;
 pub(crate) mod typeside_parts;
 
-pub use builds::resolve;
+// The tests of rules and the terms that are made, for the parts of mappings and queries.
+pub use builds::{build, resolve, type_term};
 use cq_base::Name;
+pub use declares::declare;
+pub use faults::{in_part_of, is_too_large};
+pub use observations::{is_unknown_entity, table_of};
+pub use passes::{entity_of_sort, has_unknown, has_wrong_count, sort_of_raw, type_of_sort};
+pub use paths::{has_unknown_name, path_keys};
 
 /// A function, a foreign key or an attribute, by its number.
 #[derive(Clone, Copy, Debug, PartialEq, Eq)]

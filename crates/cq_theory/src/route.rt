@@ -37,7 +37,7 @@ pub fn resolve_path(alloc: Global, schema: &Schema, names: &[Name]) -> Result<Ro
 }
 
 /// The attribute in the last place of a path.
-fn path_attribute(schema: &Schema, names: &[Name]) -> Option<u32>
+pub fn path_attribute(schema: &Schema, names: &[Name]) -> Option<u32>
     ensures { result ≡ attribute_of_path schema.now names.now }
 {
     match names.last() {
@@ -92,7 +92,7 @@ fn attribute_ends(schema: &Schema, attribute: &Edge, before: &[Name]) -> Option<
 }
 
 /// Where a path begins and the sort where it ends, if its names can stand where they do.
-fn path_ends(schema: &Schema, names: &[Name]) -> Option<(u32, Sort)>
+pub fn path_ends(schema: &Schema, names: &[Name]) -> Option<(u32, Sort)>
     ensures { result ≡ ends_of schema.now names.now }
 {
     match path_attribute(schema, names) {
@@ -112,7 +112,7 @@ fn all_but_last(names: &[Name]) -> &[Name]
 }
 
 /// Whether the path has over 1,024 symbols.
-fn is_long(schema: &Schema, names: &[Name]) -> bool
+pub fn is_long(schema: &Schema, names: &[Name]) -> bool
     ensures { result ≡ nat_lt 1024 (path_symbols schema.now names.now) }
 {
     if path_attribute(schema, names).is_some() {

@@ -179,7 +179,7 @@ impl Schema {
     }
 
     /// The table of the attributes.
-    pub(crate) fn attribute_names(&self) -> &Names
+    pub fn attribute_names(&self) -> &Names
         ensures { result.now ≡ edge_names self.now.attributes }
     {
         &self.attribute_table

@@ -67,7 +67,7 @@ fn word(alloc: Global, sorts: &[Sort], number: Option<u32>, other: Option<u32>) 
 }
 
 /// The type term, which is there where the whole term breaks no rule.
-pub(crate) fn type_term(term: Term) -> TypeTerm
+pub fn type_term(term: Term) -> TypeTerm
     ensures { result ≡ type_term_in term }
 {
     match term {
@@ -103,7 +103,7 @@ fn with_key(term: EntTerm, key: u32) -> Result<EntTerm, AllocError>
 }
 
 #[cycle(build)]
-pub(crate) fn build(
+pub fn build(
     alloc: Global,
     schema: &Schema,
     names: &Names,

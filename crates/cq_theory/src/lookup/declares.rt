@@ -6,7 +6,7 @@ use crate::lookup::TheoryRefusal;
 use cq_base::{Name, Names};
 
 /// Adds the name that a part declares to its table.
-pub(crate) fn declare(table: &mut Names, part: u32, name: &Name) -> Result<(), TheoryRefusal>
+pub fn declare(table: &mut Names, part: u32, name: &Name) -> Result<(), TheoryRefusal>
     requires { length table.old < 2 ^ 32 - 1 }
     ensures ok { IfOk result (λ _. (number_of table.old name.now ≡ None) × (table.new ≡ table.old ++ name.now ∷ [])) }
     ensures refused { IfErr result (λ refusal. (refusal ≡ TheoryRefusal.Memory) ⊎ ((refusal ≡ TheoryRefusal.Duplicate part) × (is_some (number_of table.old name.now) ≡ true))) }

@@ -26,7 +26,7 @@ fn room_left(raw: &Raw, room: u64) -> Option<u64>
 }
 
 /// Whether the term has over 1,024 symbols.
-pub(crate) fn is_too_large(raw: &Raw) -> bool
+pub fn is_too_large(raw: &Raw) -> bool
     ensures { result ≡ too_large raw.now }
 {
     room_left(raw, 1024).is_none()
@@ -93,7 +93,7 @@ pub(crate) fn equation_fault(
 }
 
 /// A rule, broken by this part of the call.
-pub(crate) fn in_part_of(part: u32, rule: TermRefusal) -> TheoryRefusal
+pub fn in_part_of(part: u32, rule: TermRefusal) -> TheoryRefusal
     ensures { result ≡ in_part part rule }
 {
     match rule {

@@ -108,7 +108,8 @@ fn guessed_entity(schema: &Schema, variable: &Name, left: &Raw, right: &Raw) -> 
     }
 }
 
-fn is_unknown_entity(schema: &Schema, entity: &Option<Name>) -> bool
+/// Whether an entity is stated whose name isn't declared.
+pub fn is_unknown_entity(schema: &Schema, entity: &Option<Name>) -> bool
     ensures { result ≡ unknown_entity schema.now entity.now }
 {
     match entity {
@@ -214,7 +215,7 @@ fn add_over(
 }
 
 /// The table of one name.
-fn table_of(alloc: Global, name: &Name) -> Result<Names, TheoryRefusal>
+pub fn table_of(alloc: Global, name: &Name) -> Result<Names, TheoryRefusal>
     ensures ok { IfOk result (λ table. table ≡ name.now ∷ []) }
     ensures memory { IfErr result (λ refusal. refusal ≡ TheoryRefusal.Memory) }
 {

@@ -11,7 +11,7 @@ use cq_base::{Name, Names, Raw};
 
 /// Whether a name of the term isn't declared.
 #[cycle(unknown)]
-pub(crate) fn has_unknown(schema: &Schema, names: &Names, raw: &Raw) -> bool
+pub fn has_unknown(schema: &Schema, names: &Names, raw: &Raw) -> bool
     ensures { result ≡ unknown_in schema.now names.now raw.now }
 {
     match raw {
@@ -38,7 +38,7 @@ fn has_unknown_part(schema: &Schema, names: &Names, name: &Name, args: &[Raw]) -
 
 /// Whether a symbol of the term is applied to another number of arguments than it has.
 #[cycle(count)]
-pub(crate) fn has_wrong_count(schema: &Schema, raw: &Raw) -> bool
+pub fn has_wrong_count(schema: &Schema, raw: &Raw) -> bool
     ensures { result ≡ wrong_count_in schema.now raw.now }
 {
     match raw {
@@ -123,7 +123,7 @@ fn is_plain_sort(sort: Option<Sort>, expected: u32) -> bool
     }
 }
 
-pub(crate) fn entity_of_sort(sort: Option<Sort>) -> Option<u32>
+pub fn entity_of_sort(sort: Option<Sort>) -> Option<u32>
     ensures { result ≡ entity_in sort }
 {
     match sort {
@@ -133,7 +133,7 @@ pub(crate) fn entity_of_sort(sort: Option<Sort>) -> Option<u32>
     }
 }
 
-pub(crate) fn type_of_sort(sort: Option<Sort>) -> Option<u32>
+pub fn type_of_sort(sort: Option<Sort>) -> Option<u32>
     ensures { result ≡ type_in sort }
 {
     match sort {
@@ -145,7 +145,7 @@ pub(crate) fn type_of_sort(sort: Option<Sort>) -> Option<u32>
 
 /// The sort of the term, if its names, counts and sorts are right.
 #[cycle(sort)]
-pub(crate) fn sort_of_raw(schema: &Schema, names: &Names, sorts: &[Sort], raw: &Raw) -> Option<Sort>
+pub fn sort_of_raw(schema: &Schema, names: &Names, sorts: &[Sort], raw: &Raw) -> Option<Sort>
     ensures { result ≡ raw_sort_of schema.now names.now sorts.now raw.now }
 {
     match raw {

@@ -65,11 +65,7 @@ pub(crate) fn path_start(schema: &Schema, names: &[Name]) -> Option<u32>
 }
 
 /// The foreign keys of a path.
-pub(crate) fn path_keys(
-    alloc: Global,
-    schema: &Schema,
-    names: &[Name],
-) -> Result<Vec<u32>, AllocError>
+pub fn path_keys(alloc: Global, schema: &Schema, names: &[Name]) -> Result<Vec<u32>, AllocError>
     ensures { IfOk result (λ keys. keys.items ≡ keys_of schema.now names.now) }
 {
     let mut keys = Vec::new(alloc);
@@ -116,7 +112,7 @@ fn is_unknown_in_path(schema: &Schema, attributes: &Names, name: &Name) -> bool
         || attributes.find(name).is_some())
 }
 
-pub(crate) fn has_unknown_name(schema: &Schema, attributes: &Names, names: &[Name]) -> bool
+pub fn has_unknown_name(schema: &Schema, attributes: &Names, names: &[Name]) -> bool
     ensures { result ≡ has_unknown_in_path schema.now (is_among attributes.now) names.now }
 {
     names
