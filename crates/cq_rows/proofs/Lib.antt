@@ -1,6 +1,9 @@
 pub mod Cells
 pub mod Pairs
 pub mod Renaming
+pub mod Roots
+pub mod Renamed
+pub mod Current
 pub mod Merging
 pub mod Sorts
 pub mod Equations

@@ -4,53 +4,55 @@ use Rattle.std.proofs.lemmas.Bool.{cases_Bool, false≢true}
 use Rattle.std.specs.Prelude.{slice_get, slice_index, IsSome}
 use Rattle.cq_tables.specs.Content.{Content, live_of, entity_of, end_of, IsWhole, keys_of}
 use Rattle.cq_rows.specs.Theory.{Term, Rule, Theory, IsTheory, Derives}
+use Rattle.cq_rows.specs.declared.entries.Entries.{Entries}
+use Rattle.cq_rows.specs.Entries.{rows_of, IsCurrent}
 use Rattle.cq_rows.specs.Rows.{IsSound, IsImage, IsSame, Passes, RuleJoins, GivenJoins, Agree, HoldIfLive, live_count}
 use Rattle.cq_rows.proofs.Cells.{found_here, below_or_at}
 use Rattle.cq_rows.proofs.Settling.{IsSettling-start, IsSettling-merged, settling_then}
 
-pub Passes-start : (s : Theory) (m : Content) (rows : List ℕ) (hold : Type 0) → IsWhole m → hold → Passes s m m rows rows false hold
-Passes-start s m rows hold w h = record { settling = IsSettling-start s m rows w; still = λ e. (refl, refl, h); fewer = λ e. absurd (false≢true e) }
+pub Passes-start : (s : Theory) (m : Content) (e : Entries) (hold : Type 0) → IsWhole m → IsCurrent m e → hold → Passes s m m e e false hold
+Passes-start s m e hold w c h = record { settling = IsSettling-start s m e w c; still = λ f. (refl, refl, h); fewer = λ f. absurd (false≢true f) }
 
-pub not_more : (s : Theory) (old m : Content) (rows_old rows : List ℕ) (merged : Bool) (hold : Type 0) → Passes s old m rows_old rows merged hold → live_count m ≤ live_count old
-not_more s old m rows_old rows merged hold p = elim (cases_Bool merged) as (λ _. live_count m ≤ live_count old) [
+pub not_more : (s : Theory) (old m : Content) (e_old e : Entries) (merged : Bool) (hold : Type 0) → Passes s old m e_old e merged hold → live_count m ≤ live_count old
+not_more s old m e_old e merged hold p = elim (cases_Bool merged) as (λ _. live_count m ≤ live_count old) [
   | inl t ↦ omega (arith, p.fewer t)
   | inr f ↦ omega (arith, ap live_count (p.still f).0)
 ]
 
 -- nothing was merged in this turn
-pub Passes-keep : (s : Theory) (old m : Content) (rows_old rows : List ℕ) (merged : Bool) (hold next : Type 0) → Passes s old m rows_old rows merged hold → (m ≡ old → rows ≡ rows_old → hold → next) → Passes s old m rows_old rows merged next
-Passes-keep s old m rows_old rows merged hold next p f = record {
+pub Passes-keep : (s : Theory) (old m : Content) (e_old e : Entries) (merged : Bool) (hold next : Type 0) → Passes s old m e_old e merged hold → (m ≡ old → e ≡ e_old → hold → next) → Passes s old m e_old e merged next
+Passes-keep s old m e_old e merged hold next p f = record {
   settling = p.settling;
-  still = λ e. let o = p.still e in (o.0, o.1, f o.0 o.1 o.2);
+  still = λ g. let o = p.still g in (o.0, o.1, f o.0 o.1 o.2);
   fewer = p.fewer;
 }
 
 -- two rows were merged in this turn
-pub Passes-merged : (s : Theory) (old m m' : Content) (rows_old rows rows' : List ℕ) (merged : Bool) (hold next : Type 0) (a b : ℕ) → IsTheory s → length rows_old ≡ length s.generators
-    → Passes s old m rows_old rows merged hold → RuleJoins s m a b ⊎ GivenJoins s m rows a b → IsWhole m' → (rep : ℕ → ℕ) × IsImage m m' rows rows' rep IsSame
-    → ((t : Theory) (terms : ℕ → Term) → IsSound t m rows terms → length t.generators ≡ length rows → Derives t (terms a) (terms b) → IsSound t m' rows' terms)
-    → live_count m' < live_count m → Passes s old m' rows_old rows' true next
-Passes-merged s old m m' rows_old rows rows' merged hold next a b th n p j w i snd less = record {
-  settling = IsSettling-merged s old m m' rows_old rows rows' a b th n p.settling j w i snd;
-  still = λ e. absurd (false≢true (sym e));
-  fewer = λ _. omega (arith, less, not_more s old m rows_old rows merged hold p);
+pub Passes-merged : (s : Theory) (old m m' : Content) (e_old e e' : Entries) (merged : Bool) (hold next : Type 0) (a b : ℕ) → IsTheory s → length (rows_of e_old) ≡ length s.generators
+    → Passes s old m e_old e merged hold → RuleJoins s m a b ⊎ GivenJoins s m (rows_of e) a b → IsWhole m' → IsCurrent m' e' → (rep : ℕ → ℕ) × IsImage m m' (rows_of e) (rows_of e') rep IsSame
+    → ((t : Theory) (terms : ℕ → Term) → IsSound t m (rows_of e) terms → length t.generators ≡ length (rows_of e) → Derives t (terms a) (terms b) → IsSound t m' (rows_of e') terms)
+    → live_count m' < live_count m → Passes s old m' e_old e' true next
+Passes-merged s old m m' e_old e e' merged hold next a b th n p j w c i snd less = record {
+  settling = IsSettling-merged s old m m' e_old e e' a b th n p.settling j w c i snd;
+  still = λ f. absurd (false≢true (sym f));
+  fewer = λ _. omega (arith, less, not_more s old m e_old e merged hold p);
 }
 
 -- a pass that merged, within another
-pub Passes-inner : (s : Theory) (old m m' : Content) (rows_old rows rows' : List ℕ) (merged inner : Bool) (hold part next : Type 0) → inner ≡ true
-    → Passes s old m rows_old rows merged hold → Passes s m m' rows rows' inner part → Passes s old m' rows_old rows' true next
-Passes-inner s old m m' rows_old rows rows' merged inner hold part next e p q = record {
-  settling = settling_then s old m m' rows_old rows rows' p.settling q.settling;
+pub Passes-inner : (s : Theory) (old m m' : Content) (e_old e e' : Entries) (merged inner : Bool) (hold part next : Type 0) → inner ≡ true
+    → Passes s old m e_old e merged hold → Passes s m m' e e' inner part → Passes s old m' e_old e' true next
+Passes-inner s old m m' e_old e e' merged inner hold part next is p q = record {
+  settling = settling_then s old m m' e_old e e' p.settling q.settling;
   still = λ f. absurd (false≢true (sym f));
-  fewer = λ _. omega (arith, q.fewer e, not_more s old m rows_old rows merged hold p);
+  fewer = λ _. omega (arith, q.fewer is, not_more s old m e_old e merged hold p);
 }
 
 -- a pass that didn't, within another
-pub Passes-outer : (s : Theory) (old m m' : Content) (rows_old rows rows' : List ℕ) (merged inner : Bool) (hold next : Type 0) (part : Type 0) → inner ≡ false
-    → Passes s old m rows_old rows merged hold → Passes s m m' rows rows' inner part → (m ≡ old → hold → part → next) → Passes s old m' rows_old rows' merged next
-Passes-outer s old m m' rows_old rows rows' merged inner hold next part e p q f =
-    let o = q.still e in
-    rw (o.0, o.1) (Passes-keep s old m rows_old rows merged hold next p (λ x _ h. f x h o.2))
+pub Passes-outer : (s : Theory) (old m m' : Content) (e_old e e' : Entries) (merged inner : Bool) (hold next : Type 0) (part : Type 0) → inner ≡ false
+    → Passes s old m e_old e merged hold → Passes s m m' e e' inner part → (m ≡ old → hold → part → next) → Passes s old m' e_old e' merged next
+Passes-outer s old m m' e_old e e' merged inner hold next part is p q f =
+    let o = q.still is in
+    rw (o.0, o.1) (Passes-keep s old m e_old e merged hold next p (λ x _ h. f x h o.2))
 
 -- both sides of a path equation can be followed from a row of its entity
 pub rule_sides : (s : Theory) (m : Content) (row i : ℕ) (u : Rule) → IsTheory s → (keys_of m) ≡ s.keys → slice_get s.rules i ≡ Some u → u.entity ≡ entity_of m row
@@ -75,8 +77,8 @@ one_more_rule rules m row i x within is here before l j u b f e a c ta tc =
 pub as_old : (m old : Content) (r o : ℕ) (p q : List ℕ) → m ≡ old → Agree m r p o q → Agree old r p o q
 as_old m old r o p q e h = rw (← e) h
 
-pub as_old_rows : (m old : Content) (rows rows_old : List ℕ) (g h : ℕ) (p q : List ℕ) → m ≡ old → rows ≡ rows_old → Agree m (slice_index rows g) p (slice_index rows h) q → Agree old (slice_index rows_old g) p (slice_index rows_old h) q
-as_old_rows m old rows rows_old g h p q e f a = rw (← e, ← f) a
+pub as_old_rows : (m old : Content) (e e_old : Entries) (g h : ℕ) (p q : List ℕ) → m ≡ old → e ≡ e_old → Agree m (slice_index (rows_of e) g) p (slice_index (rows_of e) h) q → Agree old (slice_index (rows_of e_old) g) p (slice_index (rows_of e_old) h) q
+as_old_rows m old e e_old g h p q is f a = rw (← is, ← f) a
 
 -- one more row at which the path equations hold
 pub one_more_row : (s : Theory) (old m : Content) (row : ℕ) → m ≡ old → ((r : ℕ) → r < row → HoldIfLive s old r) → HoldIfLive s m row → (r : ℕ) → r < row + 1 → HoldIfLive s old r

@@ -4,6 +4,8 @@ use Rattle.std.proofs.lemmas.Option.{slice_get_within}
 use Rattle.std.specs.Prelude.{slice_index}
 use Rattle.cq_tables.specs.Content.{Content, IsWhole}
 use Rattle.cq_rows.specs.Theory.{Term, Theory, IsTheory, Derives}
+use Rattle.cq_rows.specs.declared.entries.Entries.{Entries}
+use Rattle.cq_rows.specs.Entries.{rows_of, IsCurrent}
 use Rattle.cq_rows.specs.Rows.{IsSettling, IsSound, IsImage, IsSame, HaveRows, RuleJoins, GivenJoins}
 use Rattle.cq_rows.proofs.Tracing.{rule_derives, given_derives}
 
@@ -45,28 +47,30 @@ have_image s old m rows_old rows rep i h n g e f =
     let at = i.rows g (rw n (slice_get_within s.generators g (Some e) f)) in
     rw at (i.live (slice_index rows_old g) o.0, i.kind (slice_index rows_old g) o.0 ∙ o.1)
 
-pub IsSettling-start : (s : Theory) (m : Content) (rows : List ℕ) → IsWhole m → IsSettling s m m rows rows
-IsSettling-start s m rows w = record { whole = w; image = (λ r. r, image_same m rows); sound = λ terms h. h }
+pub IsSettling-start : (s : Theory) (m : Content) (e : Entries) → IsWhole m → IsCurrent m e → IsSettling s m m e e
+IsSettling-start s m e w c = record { whole = w; current = c; image = (λ r. r, image_same m (rows_of e)); sound = λ terms h. h }
 
-pub IsSettling-merged : (s : Theory) (old m m' : Content) (rows_old rows rows' : List ℕ) (a b : ℕ) → IsTheory s → length rows_old ≡ length s.generators
-    → IsSettling s old m rows_old rows
-    → RuleJoins s m a b ⊎ GivenJoins s m rows a b
-    → IsWhole m'
-    → (rep : ℕ → ℕ) × IsImage m m' rows rows' rep IsSame
-    → ((t : Theory) (terms : ℕ → Term) → IsSound t m rows terms → length t.generators ≡ length rows → Derives t (terms a) (terms b) → IsSound t m' rows' terms)
-    → IsSettling s old m' rows_old rows'
-IsSettling-merged s old m m' rows_old rows rows' a b th n h j w' i snd = record {
+pub IsSettling-merged : (s : Theory) (old m m' : Content) (e_old e e' : Entries) (a b : ℕ) → IsTheory s → length (rows_of e_old) ≡ length s.generators
+    → IsSettling s old m e_old e
+    → RuleJoins s m a b ⊎ GivenJoins s m (rows_of e) a b
+    → IsWhole m' → IsCurrent m' e'
+    → (rep : ℕ → ℕ) × IsImage m m' (rows_of e) (rows_of e') rep IsSame
+    → ((t : Theory) (terms : ℕ → Term) → IsSound t m (rows_of e) terms → length t.generators ≡ length (rows_of e) → Derives t (terms a) (terms b) → IsSound t m' (rows_of e') terms)
+    → IsSettling s old m' e_old e'
+IsSettling-merged s old m m' e_old e e' a b th n h j w' c' i snd = record {
   whole = w';
-  image = (λ r. i.0 (h.image.0 r), image_then old m m' rows_old rows rows' h.image.0 i.0 h.image.1 i.1);
+  current = c';
+  image = (λ r. i.0 (h.image.0 r), image_then old m m' (rows_of e_old) (rows_of e) (rows_of e') h.image.0 i.0 h.image.1 i.1);
   sound = λ terms o.
       let p = h.sound terms o in
       snd s terms p (sym (h.image.1.count ∙ n))
-      (⊎_elim (rule_derives s m rows terms p h.whole a b) (given_derives s m rows terms th p h.whole a b) j);
+      (⊎_elim (rule_derives s m (rows_of e) terms p h.whole a b) (given_derives s m (rows_of e) terms th p h.whole a b) j);
 }
 
-pub settling_then : (s : Theory) (a b c : Content) (rows_a rows_b rows_c : List ℕ) → IsSettling s a b rows_a rows_b → IsSettling s b c rows_b rows_c → IsSettling s a c rows_a rows_c
-settling_then s a b c rows_a rows_b rows_c x y = record {
+pub settling_then : (s : Theory) (a b c : Content) (e_a e_b e_c : Entries) → IsSettling s a b e_a e_b → IsSettling s b c e_b e_c → IsSettling s a c e_a e_c
+settling_then s a b c e_a e_b e_c x y = record {
   whole = y.whole;
-  image = (λ r. y.image.0 (x.image.0 r), image_then a b c rows_a rows_b rows_c x.image.0 y.image.0 x.image.1 y.image.1);
+  current = y.current;
+  image = (λ r. y.image.0 (x.image.0 r), image_then a b c (rows_of e_a) (rows_of e_b) (rows_of e_c) x.image.0 y.image.0 x.image.1 y.image.1);
   sound = λ terms h. y.sound terms (x.sound terms h);
 }

@@ -3,6 +3,8 @@ use Rattle.std.specs.Prelude.{◌≡◌, ◌≢◌, ℕ, zero, suc, ◌+◌, ◌
 use Rattle.cq_tables.specs.Content.{Content, made_of, live_of, entity_of, cell_of, step_of, trace_of, IsWhole, keys_of, entities_of}
 use Rattle.cq_tables.specs.Changes.{moved}
 use Rattle.cq_rows.specs.Theory.{Term, Rule, Theory, along, generator_term, sort_of, Derives, Within, Closes, IsWide}
+use Rattle.cq_rows.specs.declared.entries.Entries.{Entries}
+use Rattle.cq_rows.specs.Entries.{rows_of, IsCurrent}
 
 -- the row of a term, from the rows of the generators, if it can be traced
 abbrev pub row_of_term : Content → List ℕ → Term → Option ℕ
@@ -203,15 +205,16 @@ abbrev pub HasBegun : Theory → Content → List ℕ → Type 0
 HasBegun s m rows = HasRows s m rows (length s.generators)
 
 -- what merging leaves
-pub record IsSettling (s : Theory) (old m : Content) (rows_old rows : List ℕ) : Type 0 where
+pub record IsSettling (s : Theory) (old m : Content) (e_old e : Entries) : Type 0 where
   pub whole : IsWhole m
-  pub image : (rep : ℕ → ℕ) × IsImage old m rows_old rows rep IsSame
-  pub sound : (terms : ℕ → Term) → IsSound s old rows_old terms → IsSound s m rows terms
+  pub current : IsCurrent m e
+  pub image : (rep : ℕ → ℕ) × IsImage old m (rows_of e_old) (rows_of e) rep IsSame
+  pub sound : (terms : ℕ → Term) → IsSound s old (rows_of e_old) terms → IsSound s m (rows_of e) terms
 
 -- what a pass leaves, which says whether it merged: if not, all is as before, and `hold` stands
-pub record Passes (s : Theory) (old m : Content) (rows_old rows : List ℕ) (merged : Bool) (hold : Type 0) : Type 0 where
-  pub settling : IsSettling s old m rows_old rows
-  pub still : merged ≡ false → (m ≡ old) × (rows ≡ rows_old) × hold
+pub record Passes (s : Theory) (old m : Content) (e_old e : Entries) (merged : Bool) (hold : Type 0) : Type 0 where
+  pub settling : IsSettling s old m e_old e
+  pub still : merged ≡ false → (m ≡ old) × (e ≡ e_old) × hold
   pub fewer : merged ≡ true → live_count m < live_count old
 
 abbrev pub HoldIfLive : Theory → Content → ℕ → Type 0

@@ -6,10 +6,12 @@ ghost use Rattle.cq_theory.specs.Presentation.{IsPresentation};
 ghost use Rattle.cq_rows.specs.Theory.{IsTheory};
 ghost use Rattle.cq_rows.specs.Plain.{theory_of, ends_of};
 ghost use Rattle.cq_rows.specs.Rows as rows;
+ghost use Rattle.cq_rows.specs.Entries.{rows_of};
 ghost use Rattle.cq_rows.specs.Stage.{IsStage};
 ghost use Rattle.cq_rows.specs.Saturated as saturated;
 ghost use Rattle.cq_rows.specs.declared.grow.RowsRefusal.TheVariants.{TooManyRows, Memory};
 
+use crate::entries::Entries;
 use crate::fill::{all_filled, count_live, fill};
 use crate::settle::settle;
 use cq_base::Seq;
@@ -91,39 +93,40 @@ fn begin(
     Ok((tables, entries))
 }
 
-// The tables at the end of the last stage, the entries of the generators, and whether all cells are filled.
+// The tables at the end of the last stage, the rows of the generators, and whether all cells are filled.
 fn grow(
     alloc: Global,
     schema: &Schema,
     presentation: &Presentation,
     keys: &[(u32, u32)],
     depth: u32,
-) -> Result<(Tables, Vec<u64>, bool), RowsRefusal>
+) -> Result<(Tables, Entries, bool), RowsRefusal>
     requires theory { IsTheory (theory_of schema.now presentation.now) }
     requires keys { keys.now ≡ (theory_of schema.now presentation.now).keys }
     requires range { All (λ k. (k.0 < length schema.now.entities) × (k.1 < length schema.now.entities)) keys.now }
-    ensures stage { IfOk result (λ p. IsStage (theory_of schema.now presentation.now) p.0 p.1.items depth) }
+    ensures stage { IfOk result (λ p. IsStage (theory_of schema.now presentation.now) p.0 (rows_of p.1) depth) }
     ensures closed { IfOk result (λ p. MatchBool p.2 (rows.AllFilled p.0) (rows.AllFilled p.0 → ⊥)) }
     ensures unclosed { IfOk result (λ p. p.2 ≡ false → rows.NoneCloses (theory_of schema.now presentation.now) depth) }
     ensures many { result ≡ Err TooManyRows → rows.SomeWide (theory_of schema.now presentation.now) depth MOST_ROWS }
 {
-    let (mut tables, mut entries) = begin(alloc, schema, presentation, keys)?;
-    settle(alloc, schema, presentation, &mut tables, &mut entries)?;
+    let (mut tables, first) = begin(alloc, schema, presentation, keys)?;
+    let mut rows = Entries::new(alloc, first);
+    settle(alloc, schema, presentation, &mut tables, &mut rows)?;
     if count_live(&tables) > MOST_ROWS {
         return Err(RowsRefusal::TooManyRows);
     }
     for _stage in 0..depth {
         if all_filled(keys, &tables) {
-            return Ok((tables, entries, true));
+            return Ok((tables, rows, true));
         }
         fill(keys, &mut tables)?;
-        settle(alloc, schema, presentation, &mut tables, &mut entries)?;
+        settle(alloc, schema, presentation, &mut tables, &mut rows)?;
         if count_live(&tables) > MOST_ROWS {
             return Err(RowsRefusal::TooManyRows);
         }
     }
     let closed = all_filled(keys, &tables);
-    Ok((tables, entries, closed))
+    Ok((tables, rows, closed))
 }
 
 /// Makes the rows of a term model stage by stage. Stage 0 makes a row for each generator of an entity; each further stage
@@ -164,10 +167,10 @@ pub fn saturate(
     ensures many { result ≡ Err TooManyRows → saturated.SomeWide schema.now presentation.now depth }
 {
     let keys = key_ends(alloc, schema)?;
-    let (tables, entries, closed) = grow(alloc, schema, presentation, &keys, depth)?;
+    let (tables, rows, closed) = grow(alloc, schema, presentation, &keys, depth)?;
     Ok(Partial {
         tables,
-        generator_rows: Seq::from_vec(entries),
+        generator_rows: Seq::from_vec(rows.into_rows()),
         closed,
     })
 }

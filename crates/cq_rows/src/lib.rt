@@ -1,9 +1,11 @@
 //! The rows of entity term models, made stage by stage.
 #![tactic(auto)]
 
+mod entries;
 mod fill;
 mod grow;
 mod merge;
+mod renamings;
 mod settle;
 
 pub use grow::{MOST_ROWS, Partial, RowsRefusal, saturate};

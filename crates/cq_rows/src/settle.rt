@@ -3,8 +3,10 @@ ghost use Rattle.std.specs.Prelude.{◌≡◌, ℕ, ◌<◌, length, IfOk, OnOk,
 ghost use Rattle.cq_tables.specs.Content.{keys_of, made_of, live_of, entity_of, end_of, IsWhole};
 ghost use Rattle.cq_rows.specs.Theory.{Term, IsTheory};
 ghost use Rattle.cq_rows.specs.Plain.{theory_of};
+ghost use Rattle.cq_rows.specs.Entries.{rows_of, IsCurrent, IsBehind};
 ghost use Rattle.cq_rows.specs.Rows.{IsSound, IsImage, IsSame, IsApart, Agree, RulesHold, GivenHold, HaveRows, Passes, HoldIfLive};
 
+use crate::entries::Entries;
 use crate::merge::merge;
 use cq_tables::Tables;
 use cq_theory::{Equation, PathEq, Presentation, Schema};
@@ -37,13 +39,14 @@ fn pass_row(
     schema: &Schema,
     presentation: &Presentation,
     tables: &mut Tables,
-    rows: &mut [u64],
+    rows: &mut Entries,
     row: u64,
 ) -> Result<bool, AllocError>
     requires theory { IsTheory (theory_of schema.now presentation.now) }
     requires keys { keys_of tables.old ≡ (theory_of schema.now presentation.now).keys }
     requires whole { IsWhole tables.old }
-    requires count { length rows.old ≡ length (theory_of schema.now presentation.now).generators }
+    requires current { IsCurrent tables.old rows.old }
+    requires count { length (rows_of rows.old) ≡ length (theory_of schema.now presentation.now).generators }
     requires row { row < made_of tables.old }
     ensures { IfOk result (λ merged. Passes (theory_of schema.now presentation.now) tables.old tables.new rows.old rows.new merged (HoldIfLive (theory_of schema.now presentation.now) tables.old row)) }
 {
@@ -76,12 +79,13 @@ fn pass_rules(
     schema: &Schema,
     presentation: &Presentation,
     tables: &mut Tables,
-    rows: &mut [u64],
+    rows: &mut Entries,
 ) -> Result<bool, AllocError>
     requires theory { IsTheory (theory_of schema.now presentation.now) }
     requires keys { keys_of tables.old ≡ (theory_of schema.now presentation.now).keys }
     requires whole { IsWhole tables.old }
-    requires count { length rows.old ≡ length (theory_of schema.now presentation.now).generators }
+    requires current { IsCurrent tables.old rows.old }
+    requires count { length (rows_of rows.old) ≡ length (theory_of schema.now presentation.now).generators }
     ensures { IfOk result (λ merged. Passes (theory_of schema.now presentation.now) tables.old tables.new rows.old rows.new merged (RulesHold (theory_of schema.now presentation.now) tables.old)) }
 {
     let mut merged = false;
@@ -101,22 +105,23 @@ fn pass_given(
     schema: &Schema,
     presentation: &Presentation,
     tables: &mut Tables,
-    rows: &mut [u64],
+    rows: &mut Entries,
 ) -> Result<bool, AllocError>
     requires theory { IsTheory (theory_of schema.now presentation.now) }
     requires keys { keys_of tables.old ≡ (theory_of schema.now presentation.now).keys }
     requires whole { IsWhole tables.old }
-    requires count { length rows.old ≡ length (theory_of schema.now presentation.now).generators }
-    requires rows { HaveRows (theory_of schema.now presentation.now) tables.old rows.old }
-    ensures { IfOk result (λ merged. Passes (theory_of schema.now presentation.now) tables.old tables.new rows.old rows.new merged (GivenHold (theory_of schema.now presentation.now) tables.old rows.old)) }
+    requires current { IsCurrent tables.old rows.old }
+    requires count { length (rows_of rows.old) ≡ length (theory_of schema.now presentation.now).generators }
+    requires rows { HaveRows (theory_of schema.now presentation.now) tables.old (rows_of rows.old) }
+    ensures { IfOk result (λ merged. Passes (theory_of schema.now presentation.now) tables.old tables.new rows.old rows.new merged (GivenHold (theory_of schema.now presentation.now) tables.old (rows_of rows.old))) }
 {
     let mut merged = false;
     for equation in presentation.equations.as_slice() {
         let Equation::Ent(left, right) = equation else {
             continue;
         };
-        let row = rows[left.generator as usize];
-        let other = rows[right.generator as usize];
+        let row = rows.row(left.generator);
+        let other = rows.row(right.generator);
         let Some((a, b)) = apart(
             tables,
             row,
@@ -138,20 +143,23 @@ pub fn settle(
     schema: &Schema,
     presentation: &Presentation,
     tables: &mut Tables,
-    rows: &mut [u64],
+    rows: &mut Entries,
 ) -> Result<(), AllocError>
     requires theory { IsTheory (theory_of schema.now presentation.now) }
     requires keys { keys_of tables.old ≡ (theory_of schema.now presentation.now).keys }
     requires whole { IsWhole tables.old }
-    requires rows { HaveRows (theory_of schema.now presentation.now) tables.old rows.old }
-    requires count { length rows.old ≡ length (theory_of schema.now presentation.now).generators }
+    requires behind { IsBehind tables.old rows.old }
+    requires rows { HaveRows (theory_of schema.now presentation.now) tables.old (rows_of rows.old) }
+    requires count { length (rows_of rows.old) ≡ length (theory_of schema.now presentation.now).generators }
     ensures whole { OnOk result (IsWhole tables.new) }
-    ensures image { OnOk result ((rep : ℕ → ℕ) × IsImage tables.old tables.new rows.old rows.new rep IsSame) }
-    ensures sound { OnOk result ((terms : ℕ → Term) → IsSound (theory_of schema.now presentation.now) tables.old rows.old terms
-        → IsSound (theory_of schema.now presentation.now) tables.new rows.new terms) }
+    ensures current { OnOk result (IsCurrent tables.new rows.new) }
+    ensures image { OnOk result ((rep : ℕ → ℕ) × IsImage tables.old tables.new (rows_of rows.old) (rows_of rows.new) rep IsSame) }
+    ensures sound { OnOk result ((terms : ℕ → Term) → IsSound (theory_of schema.now presentation.now) tables.old (rows_of rows.old) terms
+        → IsSound (theory_of schema.now presentation.now) tables.new (rows_of rows.new) terms) }
     ensures rules { OnOk result (RulesHold (theory_of schema.now presentation.now) tables.new) }
-    ensures given { OnOk result (GivenHold (theory_of schema.now presentation.now) tables.new rows.new) }
+    ensures given { OnOk result (GivenHold (theory_of schema.now presentation.now) tables.new (rows_of rows.new)) }
 {
+    rows.cover(tables.made())?;
     loop {
         if pass_rules(alloc, schema, presentation, tables, rows)? {
             continue;

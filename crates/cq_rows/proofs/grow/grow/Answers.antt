@@ -1,6 +1,6 @@
 use Rattle.std.proofs.Common.{◌≡◌, ◌+◌, length, refl, sym, ap, ◌∙◌, arith}
-use Rattle.std.proofs.lemmas.Grind.{common_steps}
-use Rattle.std.proofs.lemmas.List.{with_items_is}
+use Rattle.cq_rows.specs.Entries.{rows_of}
+use Rattle.cq_rows.proofs.Current.{IsBehind-start, IsBehind-extended}
 use Rattle.cq_rows.specs.Plain.{theory_of}
 use Rattle.cq_rows.proofs.Stages.{IsGrown-begun, IsGrown-filled, may_settle, stage_settled, one_more_open, stage_closed, as_stage, not_filled}
 use Rattle.cq_rows.proofs.Wideness.{wide_from_rows}
@@ -9,50 +9,50 @@ use Rattle.cq_rows.proofs.grow.grow.Goals as goal
 pub settle-requires : goal.settle-requires
 settle-requires c =
     let s = theory_of c.args.schema.now c.args.presentation.now in
-    let g = IsGrown-begun s c.in_ok-tables.tables c.in_ok-tables.entries.items c.in_ok-tables.ensures in
-    let a = may_settle s c.in_ok-tables.tables c.in_ok-tables.entries.items c.deref_mut.result.now 0 c.deref_mut.ensures.value g in
-    record { theory = c.requires.theory; keys = a.keys; whole = a.whole; rows = a.have; count = a.count }
+    let g = IsGrown-begun s c.in_ok-tables.tables c.in_ok-tables.first.items c.in_ok-tables.ensures in
+    let a = may_settle s c.in_ok-tables.tables c.in_ok-tables.first.items (rows_of c.new-rows.result) 0 c.new-rows.ensures.rows g in
+    record { theory = c.requires.theory; keys = a.keys; whole = a.whole; behind = IsBehind-start c.in_ok-tables.tables c.new-rows.result c.new-rows.ensures.count; rows = a.have; count = a.count }
 
 pub loop-stage-init : goal.loop-stage-init
 loop-stage-init c =
     let s = theory_of c.args.schema.now c.args.presentation.now in
-    let g = IsGrown-begun s c.in_ok-tables.tables c.in_ok-tables.entries.items c.in_ok-tables.ensures in
-    let left = with_items_is c.in_ok-tables.entries c.settle.new.rows (grind (arith, common_steps)) in
+    let g = IsGrown-begun s c.in_ok-tables.tables c.in_ok-tables.first.items c.in_ok-tables.ensures in
     record {
-      stage = stage_settled s c.in_ok-tables.tables c.settle.new.tables c.in_ok-tables.entries.items c.deref_mut.result.now c.settle.new.rows _ 0 c.deref_mut.ensures.value left g c.in_ok-settle.ensures.whole c.in_ok-settle.ensures.image c.in_ok-settle.ensures.sound c.in_ok-settle.ensures.rules c.in_ok-settle.ensures.given;
+      stage = stage_settled s c.in_ok-tables.tables c.settle.new.tables c.in_ok-tables.first.items (rows_of c.new-rows.result) (rows_of c.settle.new.rows) _ 0 c.new-rows.ensures.rows refl g c.in_ok-settle.ensures.whole c.in_ok-settle.ensures.image c.in_ok-settle.ensures.sound c.in_ok-settle.ensures.rules c.in_ok-settle.ensures.given;
+      current = c.in_ok-settle.ensures.current;
       opened = λ i h. absurd (omega arith);
     }
 
 pub returns-then-count_live-gt-MOST_ROWS-clause-many : goal.returns-then-count_live-gt-MOST_ROWS-clause-many
 returns-then-count_live-gt-MOST_ROWS-clause-many c = λ _.
     let s = theory_of c.args.schema.now c.args.presentation.now in
-    let g = IsGrown-begun s c.in_ok-tables.tables c.in_ok-tables.entries.items c.in_ok-tables.ensures in
-    let h = stage_settled s c.in_ok-tables.tables c.settle.new.tables c.in_ok-tables.entries.items c.deref_mut.result.now c.settle.new.rows c.settle.new.rows 0 c.deref_mut.ensures.value refl g c.in_ok-settle.ensures.whole c.in_ok-settle.ensures.image c.in_ok-settle.ensures.sound c.in_ok-settle.ensures.rules c.in_ok-settle.ensures.given in
-    (0, omega arith, wide_from_rows s c.settle.new.tables c.settle.new.rows 0 200000 c.requires.theory h (omega (arith, c.count_live.ensures, c.if-count_live-gt-MOST_ROWS.true)))
+    let g = IsGrown-begun s c.in_ok-tables.tables c.in_ok-tables.first.items c.in_ok-tables.ensures in
+    let h = stage_settled s c.in_ok-tables.tables c.settle.new.tables c.in_ok-tables.first.items (rows_of c.new-rows.result) (rows_of c.settle.new.rows) _ 0 c.new-rows.ensures.rows refl g c.in_ok-settle.ensures.whole c.in_ok-settle.ensures.image c.in_ok-settle.ensures.sound c.in_ok-settle.ensures.rules c.in_ok-settle.ensures.given in
+    (0, omega arith, wide_from_rows s c.settle.new.tables (rows_of c.settle.new.rows) 0 200000 c.requires.theory h (omega (arith, c.count_live.ensures, c.if-count_live-gt-MOST_ROWS.true)))
 
 pub settle-requires-in-loop-stage : goal.settle-requires-in-loop-stage
 settle-requires-in-loop-stage c =
     let s = theory_of c.args.schema.now c.args.presentation.now in
-    let g = IsGrown-filled s c.loop-stage.tables c.fill.new.tables c.loop-stage.entries.items c.loop-stage._stage c.loop-stage.invariant.stage.grown c.in_ok-fill.ensures.whole c.in_ok-fill.ensures.ok in
-    let a = may_settle s c.fill.new.tables c.loop-stage.entries.items c.deref_mut-in-loop-stage.result.now (c.loop-stage._stage + 1) c.deref_mut-in-loop-stage.ensures.value g in
-    record { theory = c.requires.theory; keys = a.keys; whole = a.whole; rows = a.have; count = a.count }
+    let g = IsGrown-filled s c.loop-stage.tables c.fill.new.tables (rows_of c.loop-stage.rows) c.loop-stage._stage c.loop-stage.invariant.stage.grown c.in_ok-fill.ensures.whole c.in_ok-fill.ensures.ok in
+    let a = may_settle s c.fill.new.tables (rows_of c.loop-stage.rows) (rows_of c.loop-stage.rows) (c.loop-stage._stage + 1) refl g in
+    record { theory = c.requires.theory; keys = a.keys; whole = a.whole; behind = IsBehind-extended c.loop-stage.tables c.fill.new.tables c.loop-stage.rows c.in_ok-fill.ensures.ok.extends c.loop-stage.invariant.current; rows = a.have; count = a.count }
 
 pub loop-stage-preserved : goal.loop-stage-preserved
 loop-stage-preserved c =
     let s = theory_of c.args.schema.now c.args.presentation.now in
-    let g = IsGrown-filled s c.loop-stage.tables c.fill.new.tables c.loop-stage.entries.items c.loop-stage._stage c.loop-stage.invariant.stage.grown c.in_ok-fill.ensures.whole c.in_ok-fill.ensures.ok in
-    let left = with_items_is c.loop-stage.entries c.settle-in-loop-stage.new.rows (grind (arith, common_steps)) in
+    let g = IsGrown-filled s c.loop-stage.tables c.fill.new.tables (rows_of c.loop-stage.rows) c.loop-stage._stage c.loop-stage.invariant.stage.grown c.in_ok-fill.ensures.whole c.in_ok-fill.ensures.ok in
     record {
-      stage = stage_settled s c.fill.new.tables c.settle-in-loop-stage.new.tables c.loop-stage.entries.items c.deref_mut-in-loop-stage.result.now c.settle-in-loop-stage.new.rows _ (c.loop-stage._stage + 1) c.deref_mut-in-loop-stage.ensures.value left g c.in_ok-settle-2.ensures.whole c.in_ok-settle-2.ensures.image c.in_ok-settle-2.ensures.sound c.in_ok-settle-2.ensures.rules c.in_ok-settle-2.ensures.given;
-      opened = one_more_open s c.loop-stage.tables c.loop-stage.entries.items c.loop-stage._stage c.requires.theory c.loop-stage.invariant.stage c.if-all_filled.ensures c.loop-stage.invariant.opened;
+      stage = stage_settled s c.fill.new.tables c.settle-in-loop-stage.new.tables (rows_of c.loop-stage.rows) (rows_of c.loop-stage.rows) (rows_of c.settle-in-loop-stage.new.rows) _ (c.loop-stage._stage + 1) refl refl g c.in_ok-settle-2.ensures.whole c.in_ok-settle-2.ensures.image c.in_ok-settle-2.ensures.sound c.in_ok-settle-2.ensures.rules c.in_ok-settle-2.ensures.given;
+      current = c.in_ok-settle-2.ensures.current;
+      opened = one_more_open s c.loop-stage.tables (rows_of c.loop-stage.rows) c.loop-stage._stage c.requires.theory c.loop-stage.invariant.stage c.if-all_filled.ensures c.loop-stage.invariant.opened;
     }
 
 pub returns-then-count_live-gt-MOST_ROWS-2-clause-many : goal.returns-then-count_live-gt-MOST_ROWS-2-clause-many
 returns-then-count_live-gt-MOST_ROWS-2-clause-many c = λ _.
     let s = theory_of c.args.schema.now c.args.presentation.now in
-    let g = IsGrown-filled s c.loop-stage.tables c.fill.new.tables c.loop-stage.entries.items c.loop-stage._stage c.loop-stage.invariant.stage.grown c.in_ok-fill.ensures.whole c.in_ok-fill.ensures.ok in
-    let h = stage_settled s c.fill.new.tables c.settle-in-loop-stage.new.tables c.loop-stage.entries.items c.deref_mut-in-loop-stage.result.now c.settle-in-loop-stage.new.rows c.settle-in-loop-stage.new.rows (c.loop-stage._stage + 1) c.deref_mut-in-loop-stage.ensures.value refl g c.in_ok-settle-2.ensures.whole c.in_ok-settle-2.ensures.image c.in_ok-settle-2.ensures.sound c.in_ok-settle-2.ensures.rules c.in_ok-settle-2.ensures.given in
-    (c.loop-stage._stage + 1, omega arith, wide_from_rows s c.settle-in-loop-stage.new.tables c.settle-in-loop-stage.new.rows (c.loop-stage._stage + 1) 200000 c.requires.theory h (omega (arith, c.count_live-in-loop-stage.ensures, c.if-count_live-gt-MOST_ROWS-2.true)))
+    let g = IsGrown-filled s c.loop-stage.tables c.fill.new.tables (rows_of c.loop-stage.rows) c.loop-stage._stage c.loop-stage.invariant.stage.grown c.in_ok-fill.ensures.whole c.in_ok-fill.ensures.ok in
+    let h = stage_settled s c.fill.new.tables c.settle-in-loop-stage.new.tables (rows_of c.loop-stage.rows) (rows_of c.loop-stage.rows) (rows_of c.settle-in-loop-stage.new.rows) _ (c.loop-stage._stage + 1) refl refl g c.in_ok-settle-2.ensures.whole c.in_ok-settle-2.ensures.image c.in_ok-settle-2.ensures.sound c.in_ok-settle-2.ensures.rules c.in_ok-settle-2.ensures.given in
+    (c.loop-stage._stage + 1, omega arith, wide_from_rows s c.settle-in-loop-stage.new.tables (rows_of c.settle-in-loop-stage.new.rows) (c.loop-stage._stage + 1) 200000 c.requires.theory h (omega (arith, c.count_live-in-loop-stage.ensures, c.if-count_live-gt-MOST_ROWS-2.true)))
 
 pub all_filled-requires : goal.all_filled-requires
 all_filled-requires c =
@@ -70,13 +70,13 @@ fill-requires c =
     record { few = rw (ap length c.requires.keys) c.requires.theory.few; range = rw g.sound.1.entities c.requires.range; keys = g.sound.1.keys ∙ sym c.requires.keys; whole = g.whole }
 
 pub returns-then-all_filled-clause-stage : goal.returns-then-all_filled-clause-stage
-returns-then-all_filled-clause-stage c = stage_closed (theory_of c.args.schema.now c.args.presentation.now) c.loop-stage.tables c.loop-stage.entries.items c.loop-stage._stage c.args.depth c.loop-stage.invariant.stage c.if-all_filled.ensures (omega arith)
+returns-then-all_filled-clause-stage c = stage_closed (theory_of c.args.schema.now c.args.presentation.now) c.loop-stage.tables (rows_of c.loop-stage.rows) c.loop-stage._stage c.args.depth c.loop-stage.invariant.stage c.if-all_filled.ensures (omega arith)
 
 pub returns-clause-stage : goal.returns-clause-stage
-returns-clause-stage c = as_stage (theory_of c.args.schema.now c.args.presentation.now) c.loop-stage.tables c.loop-stage.entries.items c.loop-stage._stage c.args.depth (omega arith) c.loop-stage.invariant.stage
+returns-clause-stage c = as_stage (theory_of c.args.schema.now c.args.presentation.now) c.loop-stage.tables (rows_of c.loop-stage.rows) c.loop-stage._stage c.args.depth (omega arith) c.loop-stage.invariant.stage
 
 pub returns-clause-unclosed : goal.returns-clause-unclosed
 returns-clause-unclosed c = λ e j b.
     let s = theory_of c.args.schema.now c.args.presentation.now in
     let empty = not_filled c.loop-stage.tables c.all_filled-closed.result e c.all_filled-closed.ensures in
-    one_more_open s c.loop-stage.tables c.loop-stage.entries.items c.loop-stage._stage c.requires.theory c.loop-stage.invariant.stage empty c.loop-stage.invariant.opened j (omega arith)
+    one_more_open s c.loop-stage.tables (rows_of c.loop-stage.rows) c.loop-stage._stage c.requires.theory c.loop-stage.invariant.stage empty c.loop-stage.invariant.opened j (omega arith)

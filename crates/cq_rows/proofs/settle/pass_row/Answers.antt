@@ -6,7 +6,7 @@ use Rattle.cq_rows.proofs.Passing.{Passes-start, Passes-keep, Passes-merged, rul
 use Rattle.cq_rows.proofs.settle.pass_row.Goals as goal
 
 pub loop-rule-init : goal.loop-rule-init
-loop-rule-init c = Passes-start _ _ _ _ c.requires.whole (λ l j u b. absurd (omega arith))
+loop-rule-init c = Passes-start _ _ _ _ c.requires.whole c.requires.current (λ l j u b. absurd (omega arith))
 
 pub loop-rule-preserved-then-rule-entity : goal.loop-rule-preserved-then-rule-entity
 loop-rule-preserved-then-rule-entity c =
@@ -56,7 +56,7 @@ loop-rule-preserved c =
       kind = sym c.entity.ensures ∙ sym c.if-rule-entity.false;
       apart = rw (c.as_slice.ensures, c.as_slice-in-loop-rule.ensures) at c.in-Some.ensures.apart;
     }))
-    c.in_ok-merge.ensures.whole c.in_ok-merge.ensures.image c.in_ok-merge.ensures.sound c.in_ok-merge.ensures.fewer
+    c.in_ok-merge.ensures.whole c.in_ok-merge.ensures.current c.in_ok-merge.ensures.image c.in_ok-merge.ensures.sound c.in_ok-merge.ensures.fewer
 
 pub returns : goal.returns
 returns c =

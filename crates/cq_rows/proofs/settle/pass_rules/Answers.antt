@@ -5,7 +5,7 @@ use Rattle.cq_rows.proofs.Passing.{Passes-start, Passes-keep, Passes-inner, Pass
 use Rattle.cq_rows.proofs.settle.pass_rules.Goals as goal
 
 pub loop-row-init : goal.loop-row-init
-loop-row-init c = Passes-start _ _ _ _ c.requires.whole (λ r b. absurd (omega arith))
+loop-row-init c = Passes-start _ _ _ _ c.requires.whole c.requires.current (λ r b. absurd (omega arith))
 
 pub returns : goal.returns
 returns c = Passes-keep _ _ _ _ _ _ _ _ c.loop-row.invariant (λ e f h r i u l. h r (omega (arith, live_made c.args.tables.now r c.requires.whole l, c.made-row-end.ensures)) l i u)
