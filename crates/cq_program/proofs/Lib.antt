@@ -1,0 +1,9 @@
+pub mod Wide
+pub mod Counts
+pub mod Freedom
+pub mod Listings
+pub mod Entries
+pub mod Given
+pub mod Poses
+pub mod Following
+pub mod Outlines

@@ -1,0 +1,214 @@
+-- What names and parts are checked against: an environment without its models. Environments that come from the same declarations
+-- have one outline, so a program that has a meaning breaks no rule, and a program breaks one rule first.
+use Rattle.std.proofs.Common.{◌≡◌, ◌⊎◌, inl, inr, Bool, true, false, List, [], ◌∷◌, ◌++◌, Option, Some, None, refl, sym, ap, ◌∙◌, subst, append_assoc}
+use Rattle.std.specs.Prelude.{if◌then◌else◌, map, is_some, option_map, Ok, Err, ℕ, length}
+use Rattle.cq_base.specs.declared.name.Name.{Name}
+use Rattle.cq_base.specs.declared.place.Place.{Place}
+use Rattle.cq_base.specs.Names.{same_name}
+use Rattle.cq_syntax.specs.declared.part.Spot.{Spot}
+use Rattle.cq_syntax.specs.declared.program.SchemaExp.TheVariants as schema_exp
+use Rattle.cq_syntax.specs.declared.program.InstanceExp.TheVariants as instance_exp
+use Rattle.cq_syntax.specs.declared.program.Body.{Body}
+use Rattle.cq_syntax.specs.declared.program.Body.TheVariants as bodies
+use Rattle.cq_syntax.specs.declared.program.Decl.{Decl}
+use Rattle.cq_syntax.specs.declared.program.Program.{Program}
+use Rattle.cq_theory.specs.SchemaData.{SchemaData}
+use Rattle.cq_theory.specs.TypesideData.{TypesideData}
+use Rattle.cq_program.specs.declared.reason.Reason.{Reason}
+use Rattle.cq_program.specs.declared.reason.Reason.TheVariants.{NameTaken, NameUnknown, WrongKind, TooManyRows, NotBuilt}
+use Rattle.cq_program.specs.Checks.{Meant, typeside, schema, instance, Environment, Checked, and_then, meant_by, as_typeside, as_schema, typeside_used, schema_used, schema_given, presentation_given, if_free, Posed, a_typeside, a_schema, a_presentation, is_built, body_posed, posed_by}
+use Rattle.cq_program.specs.Program.{Stands, Exceeds, Declares, Breach, by_rule, by_limit, Follow, Listing, Means, Breaks}
+
+abbrev outline : Meant → Posed
+outline (typeside T) = a_typeside T
+outline (schema n S) = a_schema n S
+outline (instance n i) = a_presentation n i.schema i.presentation
+
+abbrev outline_of : Environment → List (Name × Posed)
+outline_of env = map (λ entry. (entry.0, outline entry.1)) env
+
+abbrev posed_under : List (Name × Posed) → Name → Option Posed
+posed_under [] name = None
+posed_under (entry ∷ entries) name = if same_name name entry.0 then Some entry.1 else posed_under entries name
+
+chosen : (b : Bool) (m : Meant) (o : Option Meant) (p : Option Posed) → option_map outline o ≡ p → option_map outline (if b then Some m else o) ≡ (if b then Some (outline m) else p)
+chosen true m o p h = refl
+chosen false m o p h = h
+
+outlined : (env : Environment) (name : Name) → option_map outline (meant_by env name) ≡ posed_under (outline_of env) name
+outlined [] name = refl
+outlined (entry ∷ env) name = chosen (same_name name entry.0) entry.1 (meant_by env name) (posed_under (outline_of env) name) (outlined env name)
+
+-- the same checks over outlines
+abbrev typeside_under : Place → Option Posed → Checked TypesideData
+typeside_under place None = Err (place, NameUnknown)
+typeside_under place (Some (a_typeside T)) = Ok T
+typeside_under place (Some (a_schema n S)) = Err (place, WrongKind)
+typeside_under place (Some (a_presentation n S P)) = Err (place, WrongKind)
+
+abbrev schema_under : Place → Option Posed → Checked (Name × SchemaData)
+schema_under place None = Err (place, NameUnknown)
+schema_under place (Some (a_typeside T)) = Err (place, WrongKind)
+schema_under place (Some (a_schema n S)) = Ok (n, S)
+schema_under place (Some (a_presentation n S P)) = Err (place, WrongKind)
+
+typeside_outlined : (place : Place) (o : Option Meant) → as_typeside place o ≡ typeside_under place (option_map outline o)
+typeside_outlined place None = refl
+typeside_outlined place (Some (typeside T)) = refl
+typeside_outlined place (Some (schema n S)) = refl
+typeside_outlined place (Some (instance n i)) = refl
+
+schema_outlined : (place : Place) (o : Option Meant) → as_schema place o ≡ schema_under place (option_map outline o)
+schema_outlined place None = refl
+schema_outlined place (Some (typeside T)) = refl
+schema_outlined place (Some (schema n S)) = refl
+schema_outlined place (Some (instance n i)) = refl
+
+some_outlined : (o : Option Meant) → is_some o ≡ is_some (option_map outline o)
+some_outlined None = refl
+some_outlined (Some m) = refl
+
+module _ (env env' : Environment) (same : outline_of env ≡ outline_of env') where
+  alike : (name : Name) → option_map outline (meant_by env name) ≡ option_map outline (meant_by env' name)
+  alike name = outlined env name ∙ ap (λ (entries : List (Name × Posed)). posed_under entries name) same ∙ sym (outlined env' name)
+
+  typeside_alike : (spot : Spot) → typeside_used env spot ≡ typeside_used env' spot
+  typeside_alike spot = typeside_outlined spot.place (meant_by env spot.name) ∙ ap (typeside_under spot.place) (alike spot.name) ∙ sym (typeside_outlined spot.place (meant_by env' spot.name))
+
+  schema_alike : (spot : Spot) → schema_used env spot ≡ schema_used env' spot
+  schema_alike spot = schema_outlined spot.place (meant_by env spot.name) ∙ ap (schema_under spot.place) (alike spot.name) ∙ sym (schema_outlined spot.place (meant_by env' spot.name))
+
+  some_alike : (name : Name) → is_some (meant_by env name) ≡ is_some (meant_by env' name)
+  some_alike name = some_outlined (meant_by env name) ∙ ap is_some (alike name) ∙ sym (some_outlined (meant_by env' name))
+
+  body_alike : (place : Place) (name : Name) (body : Body) → body_posed env place name body ≡ body_posed env' place name body
+  body_alike place name (bodies.Typeside lit) = refl
+  body_alike place name (bodies.Schema (schema_exp.Literal lit)) = ap (λ (c : Checked TypesideData). and_then c (λ T. and_then (schema_given place T lit) (λ S. Ok (a_schema name S)))) (typeside_alike lit.typeside)
+  body_alike place name (bodies.Schema (schema_exp.GetSchema s)) = refl
+  body_alike place name (bodies.Instance (instance_exp.Literal lit)) =
+      ap (λ (c : Checked (Name × SchemaData)). and_then c (λ over. and_then (presentation_given place over.1 lit) (λ P. if_free place over.0 over.1 P))) (schema_alike lit.schema)
+  body_alike place name (bodies.Instance (instance_exp.Delta f i)) = refl
+  body_alike place name (bodies.Instance (instance_exp.Sigma f i)) = refl
+  body_alike place name (bodies.Instance (instance_exp.Eval f i)) = refl
+  body_alike place name (bodies.Instance (instance_exp.Coeval f i)) = refl
+  body_alike place name (bodies.Instance (instance_exp.Coproduct is s)) = refl
+  body_alike place name (bodies.Instance (instance_exp.Pushout f g)) = refl
+  body_alike place name (bodies.Instance (instance_exp.ImportCsv n s o)) = refl
+  body_alike place name (bodies.Colimit lit) = refl
+  body_alike place name (bodies.Mapping m) = refl
+  body_alike place name (bodies.Query q) = refl
+  body_alike place name (bodies.Transform t) = refl
+
+  posed_alike : (d : Decl) → posed_by env d ≡ posed_by env' d
+  unfolding posed_by
+  posed_alike d = λ i. if is_built d.body then (if some_alike d.name i then Err (d.name_place, NameTaken) else body_alike d.place d.name d.body i) else Err (d.place, NotBuilt)
+
+outline_is : (posed : Posed) (m : Meant) → Stands posed m → outline m ≡ posed
+outline_is (a_typeside T) m stands = ap outline stands
+outline_is (a_schema n S) m stands = ap outline stands
+outline_is (a_presentation n S P) m stands =
+    ap outline stands.1 ∙ (λ i. a_presentation n (stands.2.over i) (stands.2.presents i))
+
+outline_more : (env : Environment) (name : Name) (m : Meant) → outline_of (env ++ (name, m) ∷ []) ≡ outline_of env ++ (name, outline m) ∷ []
+outline_more [] name m = refl
+outline_more (entry ∷ env) name m = ap (λ (rest : List (Name × Posed)). (entry.0, outline entry.1) ∷ rest) (outline_more env name m)
+
+one_posed : (a b : Posed) (check : Checked Posed) → check ≡ Ok a → check ≡ Ok b → a ≡ b
+one_posed a b check is is' = cc
+
+module _ (env env' : Environment) (same : outline_of env ≡ outline_of env') (d : Decl) where
+  declared_alike : (m m' : Meant) → Declares env d m → Declares env' d m' → outline_of (env ++ (d.name, m) ∷ []) ≡ outline_of (env' ++ (d.name, m') ∷ [])
+  declared_alike m m' declares declares' =
+      let one : declares.posed ≡ declares'.posed = one_posed declares.posed declares'.posed (posed_by env' d) (sym (posed_alike env env' same d) ∙ declares.checked) declares'.checked in
+      let outlines : outline m ≡ outline m' = outline_is declares.posed m declares.stands ∙ one ∙ sym (outline_is declares'.posed m' declares'.stands) in
+      outline_more env d.name m ∙ (λ i. same i ++ (d.name, outlines i) ∷ []) ∙ sym (outline_more env' d.name m')
+
+followed_alike : (ds : List Decl) (env env' after after' : Environment) → outline_of env ≡ outline_of env' → Follow env ds after → Follow env' ds after' → outline_of after ≡ outline_of after'
+followed_alike [] env env' after after' same follow follow' = ap outline_of follow ∙ same ∙ sym (ap outline_of follow')
+followed_alike (d ∷ ds) env env' after after' same follow follow' =
+    followed_alike ds (env ++ (d.name, follow.0) ∷ []) (env' ++ (d.name, follow'.0) ∷ []) after after'
+    (declared_alike env env' same d follow.0 follow'.0 follow.1 follow'.1) follow.2 follow'.2
+
+-- a list of declarations that is followed is followed up to each of them
+pub record FollowsTo (env : Environment) (before : List Decl) (d : Decl) : Type 0 where
+  pub mid : Environment
+  pub m : Meant
+  pub follow : Follow env before mid
+  pub declares : Declares mid d m
+
+follows_to : (env : Environment) (before : List Decl) (d : Decl) (rest : List Decl) (after : Environment) → Follow env (before ++ d ∷ rest) after → FollowsTo env before d
+follows_to env [] d rest after follow = record { mid = env; m = follow.0; follow = refl; declares = follow.1 }
+follows_to env (x ∷ before) d rest after follow =
+    let to = follows_to (env ++ (x.name, follow.0) ∷ []) before d rest after follow.2 in
+    record { mid = to.mid; m = to.m; follow = (follow.0, follow.1, to.follow); declares = to.declares }
+
+limit_only : (depth : ℕ) (posed : Posed) (reason : Reason) → Exceeds depth posed reason → reason ≡ TooManyRows
+limit_only depth (a_typeside T) reason exceeds = absurd exceeds
+limit_only depth (a_schema n S) reason exceeds = absurd exceeds
+limit_only depth (a_presentation n S P) reason exceeds = exceeds.0
+
+no_rule : (check : Checked Posed) (posed : Posed) (at : Place × Reason) → check ≡ Ok posed → check ≡ Err at → ⊥
+no_rule check posed at is is' = cc
+
+by_limit_only : (depth : ℕ) (env : Environment) (d : Decl) (posed : Posed) (place : Place) (reason : Reason)
+    → posed_by env d ≡ Ok posed → Breach depth env d place reason → reason ≡ TooManyRows
+by_limit_only depth env d posed place reason is (by_rule broken) = absurd (no_rule (posed_by env d) posed (place, reason) is broken)
+by_limit_only depth env d posed place reason is (by_limit other is' at exceeds) = limit_only depth other reason exceeds
+
+-- a program that has a meaning breaks no rule; only the limit on rows may keep it from being made
+pub means_unbroken : (depth : ℕ) (program : Program) (L : List Listing) (place : Place) (reason : Reason)
+    → Means program L → Breaks depth program place reason → reason ≡ TooManyRows
+means_unbroken depth program L place reason means breaks =
+    let to = follows_to [] breaks.before breaks.broken breaks.after means.env (subst (λ (ds : List Decl). Follow [] ds means.env) breaks.split means.follow) in
+    let same : outline_of to.mid ≡ outline_of breaks.env = followed_alike breaks.before [] [] to.mid breaks.env refl to.follow breaks.follow in
+    by_limit_only depth breaks.env breaks.broken to.declares.posed place reason (sym (posed_alike to.mid breaks.env same breaks.broken) ∙ to.declares.checked) breaks.breach
+
+one_breach_at : (a b : Place × Reason) (check : Checked Posed) → check ≡ Err a → check ≡ Err b → a ≡ b
+one_breach_at a b check is is' = cc
+
+-- two breaches by rules of one list of declarations are one
+module _ (rest rest' : List Decl) (d d' : Decl) (at at' : Place × Reason) where
+  one_breach_from : (before before' : List Decl) (env env' mid mid' : Environment) → outline_of env ≡ outline_of env' → before ++ d ∷ rest ≡ before' ++ d' ∷ rest'
+      → Follow env before mid → Follow env' before' mid' → posed_by mid d ≡ Err at → posed_by mid' d' ≡ Err at' → at ≡ at'
+  one_breach_from [] [] env env' mid mid' same split follow follow' broken broken' =
+      let decl : d ≡ d' = cc in
+      let here : posed_by env d ≡ Err at = subst (λ (e : Environment). posed_by e d ≡ Err at) follow broken in
+      let there : posed_by env' d ≡ Err at' = subst (λ (e : Environment). posed_by e d ≡ Err at') follow' (subst (λ (x : Decl). posed_by mid' x ≡ Err at') (sym decl) broken') in
+      one_breach_at at at' (posed_by env' d) (sym (posed_alike env env' same d) ∙ here) there
+  one_breach_from [] (x ∷ before') env env' mid mid' same split follow follow' broken broken' =
+      let decl : d ≡ x = cc in
+      let here : posed_by env d ≡ Err at = subst (λ (e : Environment). posed_by e d ≡ Err at) follow broken in
+      let there : posed_by env' d ≡ Ok follow'.1.posed = subst (λ (y : Decl). posed_by env' y ≡ Ok follow'.1.posed) (sym decl) follow'.1.checked in
+      absurd (no_rule (posed_by env' d) follow'.1.posed at there (sym (posed_alike env env' same d) ∙ here))
+  one_breach_from (x ∷ before) [] env env' mid mid' same split follow follow' broken broken' =
+      let decl : x ≡ d' = cc in
+      let there : posed_by env' d' ≡ Err at' = subst (λ (e : Environment). posed_by e d' ≡ Err at') follow' broken' in
+      let here : posed_by env d' ≡ Ok follow.1.posed = subst (λ (y : Decl). posed_by env y ≡ Ok follow.1.posed) decl follow.1.checked in
+      absurd (no_rule (posed_by env' d') follow.1.posed at' (sym (posed_alike env env' same d') ∙ here) there)
+  one_breach_from (x ∷ before) (x' ∷ before') env env' mid mid' same split follow follow' broken broken' =
+      let decl : x ≡ x' = cc in
+      let tails : before ++ d ∷ rest ≡ before' ++ d' ∷ rest' = cc in
+      let declares' : Declares env' x follow'.0 = subst (λ (y : Decl). Declares env' y follow'.0) (sym decl) follow'.1 in
+      let more : outline_of (env ++ (x.name, follow.0) ∷ []) ≡ outline_of (env' ++ (x'.name, follow'.0) ∷ []) =
+      declared_alike env env' same x follow.0 follow'.0 follow.1 declares' ∙ ap (λ (y : Decl). outline_of (env' ++ (y.name, follow'.0) ∷ [])) decl in
+      one_breach_from before before' (env ++ (x.name, follow.0) ∷ []) (env' ++ (x'.name, follow'.0) ∷ []) mid mid' more tails follow.2 follow'.2 broken broken'
+
+by_rule_or_limit : (depth : ℕ) (env : Environment) (d : Decl) (place : Place) (reason : Reason) → Breach depth env d place reason → (posed_by env d ≡ Err (place, reason)) ⊎ (reason ≡ TooManyRows)
+by_rule_or_limit depth env d place reason (by_rule broken) = inl broken
+by_rule_or_limit depth env d place reason (by_limit posed is at exceeds) = inr (limit_only depth posed reason exceeds)
+
+-- a program breaks one rule first, and else only the limit on rows
+pub one_refusal : (depth : ℕ) (program : Program) (place place' : Place) (reason reason' : Reason)
+    → Breaks depth program place reason → Breaks depth program place' reason' → (reason ≡ TooManyRows → ⊥) → (reason' ≡ TooManyRows → ⊥) → (place ≡ place') × (reason ≡ reason')
+one_refusal depth program place place' reason reason' breaks breaks' rule rule' =
+    elim (by_rule_or_limit depth breaks.env breaks.broken place reason breaks.breach) [
+      | inr limit ↦ absurd (rule limit)
+      | inl broken ↦ elim (by_rule_or_limit depth breaks'.env breaks'.broken place' reason' breaks'.breach) [
+        | inr limit ↦ absurd (rule' limit)
+        | inl broken' ↦
+            let one : (place, reason) ≡ (place', reason') =
+            one_breach_from breaks.after breaks'.after breaks.broken breaks'.broken (place, reason) (place', reason') breaks.before breaks'.before [] [] breaks.env breaks'.env refl
+            (sym breaks.split ∙ breaks'.split) breaks.follow breaks'.follow broken broken' in
+            (ap (λ (p : Place × Reason). p.0) one, ap (λ (p : Place × Reason). p.1) one)
+      ]
+    ]

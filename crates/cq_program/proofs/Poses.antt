@@ -1,0 +1,32 @@
+-- The first two checks of a declaration, and those of its body.
+use Rattle.std.proofs.Common.{◌≡◌, Bool, true, false, Option, Some, None, refl, ap, ◌∙◌, sym}
+use Rattle.std.specs.Prelude.{if◌then◌else◌, is_some, option_map, Ok, Err}
+use Rattle.cq_syntax.specs.declared.program.Decl.{Decl}
+use Rattle.cq_program.specs.declared.reason.Reason.TheVariants.{NameTaken, NotBuilt}
+use Rattle.cq_program.specs.Checks.{Environment, Meant, Checked, Posed, meant_by, is_built, body_posed, posed_by}
+
+-- a name that is found is declared
+found : {X Y : Type 0} (f : X → Y) (o : Option X) → is_some (option_map f o) ≡ is_some o
+found f None = refl
+found f (Some x) = refl
+
+pub is_declared : {X Y : Type 0} (f : X → Y) (o : Option X) (p : Option Y) (b : Bool) → option_map f o ≡ p → is_some o ≡ b → is_some p ≡ b
+is_declared f o p b is h = ap is_some (sym is) ∙ found f o ∙ h
+
+abbrev after_form : Environment → Decl → Bool → Checked Posed
+after_form env d b = if b then (if is_some (meant_by env d.name) then Err (d.name_place, NameTaken) else body_posed env d.place d.name d.body) else Err (d.place, NotBuilt)
+
+abbrev after_name : Environment → Decl → Bool → Checked Posed
+after_name env d b = if b then Err (d.name_place, NameTaken) else body_posed env d.place d.name d.body
+
+pub not_built : (env : Environment) (d : Decl) → is_built d.body ≡ false → posed_by env d ≡ Err (d.place, NotBuilt)
+unfolding posed_by
+not_built env d h = ap (after_form env d) h
+
+pub name_taken : (env : Environment) (d : Decl) → is_built d.body ≡ true → is_some (meant_by env d.name) ≡ true → posed_by env d ≡ Err (d.name_place, NameTaken)
+unfolding posed_by
+name_taken env d built h = ap (after_form env d) built ∙ ap (after_name env d) h
+
+pub posed_on : (env : Environment) (d : Decl) → is_built d.body ≡ true → is_some (meant_by env d.name) ≡ false → posed_by env d ≡ body_posed env d.place d.name d.body
+unfolding posed_by
+posed_on env d built h = ap (after_form env d) built ∙ ap (after_name env d) h

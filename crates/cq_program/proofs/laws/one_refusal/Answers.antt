@@ -1,0 +1,5 @@
+use Rattle.cq_program.proofs.Outlines.{one_refusal}
+use Rattle.cq_program.proofs.laws.one_refusal.Goals as goal
+
+pub returns : goal.returns
+returns c = one_refusal

@@ -1,0 +1,165 @@
+-- What declared names stand for, and the rules of names and parts.
+use Rattle.std.specs.Prelude.{◌≡◌, ℕ, Bool, true, false, List, [], ◌∷◌, ◌&&◌, ◌==◌, Option, Some, None, Result, Ok, Err, if◌then◌else◌, length, is_some, slice_index_or, option_and_then}
+use Rattle.std.specs.List.{list_all}
+use Rattle.cq_base.specs.declared.name.Name.{Name}
+use Rattle.cq_base.specs.declared.place.Place.{Place}
+use Rattle.cq_base.specs.Names.{same_name}
+use Rattle.cq_syntax.specs.declared.part.Spot.{Spot}
+use Rattle.cq_syntax.specs.declared.literal.TypesideLit.{TypesideLit}
+use Rattle.cq_syntax.specs.declared.literal.SchemaLit.{SchemaLit}
+use Rattle.cq_syntax.specs.declared.literal.InstanceLit.{InstanceLit}
+use Rattle.cq_syntax.specs.declared.program.SchemaExp.TheVariants as schema_exp
+use Rattle.cq_syntax.specs.declared.program.InstanceExp.TheVariants as instance_exp
+use Rattle.cq_syntax.specs.declared.program.Body.{Body}
+use Rattle.cq_syntax.specs.declared.program.Body.TheVariants.{Typeside, Schema, Instance}
+use Rattle.cq_syntax.specs.declared.program.Decl.{Decl}
+use Rattle.cq_theory.specs.declared.lookup.TheoryRefusal.{TheoryRefusal}
+use Rattle.cq_theory.specs.declared.lookup.TheoryRefusal.TheVariants as refusal
+use Rattle.cq_theory.specs.declared.presentation.Sort.{Sort}
+use Rattle.cq_theory.specs.declared.presentation.Sort.TheVariants.{Plain, Entity}
+use Rattle.cq_theory.specs.declared.presentation.Presentation.{Presentation}
+use Rattle.cq_theory.specs.declared.parts.PresentationParts.{PresentationParts}
+use Rattle.cq_theory.specs.SchemaData.{SchemaData}
+use Rattle.cq_theory.specs.TypesideData.{TypesideData}
+use Rattle.cq_theory.specs.TypesideParts.{typeside_fault, typeside_made}
+use Rattle.cq_theory.specs.SchemaParts.{schema_fault, schema_made}
+use Rattle.cq_theory.specs.Parts.{presentation_fault, presented}
+use Rattle.cq_model.specs.InstanceData.{InstanceData}
+use Rattle.cq_program.specs.declared.reason.Reason.{Reason}
+use Rattle.cq_program.specs.declared.reason.Reason.TheVariants.{NameTaken, NameUnknown, WrongKind, Duplicate, Unknown, WrongCount, WrongSort, Reserved, TooLarge, NotBuilt}
+use Rattle.cq_program.specs.Parts.{typeside_parts, typeside_places, schema_parts, schema_places, instance_parts, instance_places}
+
+-- What a declared name stands for. A schema and an instance go with the name under which the schema is printed, that of its own declaration:
+-- two names stand for one schema exactly where these are one.
+pub data Meant : Type 0 where
+  typeside : TypesideData → Meant
+  schema : Name → SchemaData → Meant
+  instance : Name → InstanceData → Meant
+
+-- the declared names in order, with what they stand for
+abbrev pub Environment : Type 0
+Environment = List (Name × Meant)
+
+abbrev pub meant_by : Environment → Name → Option Meant
+meant_by [] name = None
+meant_by (entry ∷ entries) name = if same_name name entry.0 then Some entry.1 else meant_by entries name
+
+-- what a check gives, or the place and the reason of the first rule that is broken
+abbrev pub Checked : Type 0 → Type 0
+Checked A = Result A (Place × Reason)
+
+-- one check and then, with what it gives, another
+abbrev pub and_then : {A B : Type 0} → Checked A → (A → Checked B) → Checked B
+and_then (Ok a) f = f a
+and_then (Err broken) f = Err broken
+
+-- A used name is declared, and then it is of the right kind.
+abbrev pub as_typeside : Place → Option Meant → Checked TypesideData
+as_typeside place None = Err (place, NameUnknown)
+as_typeside place (Some (typeside T)) = Ok T
+as_typeside place (Some (schema n S)) = Err (place, WrongKind)
+as_typeside place (Some (instance n i)) = Err (place, WrongKind)
+
+abbrev pub as_schema : Place → Option Meant → Checked (Name × SchemaData)
+as_schema place None = Err (place, NameUnknown)
+as_schema place (Some (typeside T)) = Err (place, WrongKind)
+as_schema place (Some (schema n S)) = Ok (n, S)
+as_schema place (Some (instance n i)) = Err (place, WrongKind)
+
+abbrev pub typeside_used : Environment → Spot → Checked TypesideData
+typeside_used env spot = as_typeside spot.place (meant_by env spot.name)
+
+abbrev pub schema_used : Environment → Spot → Checked (Name × SchemaData)
+schema_used env spot = as_schema spot.place (meant_by env spot.name)
+
+-- the place of part n of a declaration that stands at `place`
+abbrev pub place_of : Place → List Place → ℕ → Place
+place_of place places n = slice_index_or places n place
+
+-- The rule that a part breaks, at its place. Want of memory is no rule.
+abbrev pub part_breach : Place → List Place → TheoryRefusal → Option (Place × Reason)
+part_breach place places (refusal.Duplicate n) = Some (place_of place places n, Duplicate)
+part_breach place places (refusal.Unknown n) = Some (place_of place places n, Unknown)
+part_breach place places (refusal.WrongCount n) = Some (place_of place places n, WrongCount)
+part_breach place places (refusal.WrongSort n) = Some (place_of place places n, WrongSort)
+part_breach place places (refusal.Reserved n) = Some (place_of place places n, Reserved)
+part_breach place places (refusal.TooLarge n) = Some (place_of place places n, TooLarge)
+part_breach place places refusal.Memory = None
+
+abbrev pub broken_or : {A : Type 0} → A → Option (Place × Reason) → Checked A
+broken_or made None = Ok made
+broken_or made (Some broken) = Err broken
+
+-- what the parts of a declaration give, or the first of them that breaks a rule with the least rule that it breaks
+abbrev pub of_parts : {A : Type 0} → Place → List Place → Option TheoryRefusal → A → Checked A
+of_parts place places fault made = broken_or made (option_and_then (part_breach place places) fault)
+
+unfoldable pub typeside_given : Place → TypesideLit → Checked TypesideData
+typeside_given place lit = of_parts place (typeside_places lit) (typeside_fault (typeside_parts lit)) (typeside_made (typeside_parts lit))
+
+unfoldable pub schema_given : Place → TypesideData → SchemaLit → Checked SchemaData
+schema_given place T lit = of_parts place (schema_places lit) (schema_fault T (schema_parts lit)) (schema_made T (schema_parts lit))
+
+abbrev fault_over : SchemaData → PresentationParts → Option TheoryRefusal
+fault_over S parts = presentation_fault S parts.generators parts.equations
+
+abbrev made_over : SchemaData → PresentationParts → Presentation
+made_over S parts = presented S parts.generators parts.equations
+
+unfoldable pub presentation_given : Place → SchemaData → InstanceLit → Checked Presentation
+presentation_given place S lit = of_parts place (instance_places lit) (fault_over S (instance_parts lit)) (made_over S (instance_parts lit))
+
+abbrev pub is_entity : Sort → Bool
+is_entity (Plain type) = false
+is_entity (Entity entity) = true
+
+-- Which instances are built today: a schema without foreign keys and equations, generators of entities alone, no equations.
+abbrev pub is_free : SchemaData → Presentation → Bool
+is_free S P =
+    (length S.keys == 0) && (length S.path_eqs == 0) && (length S.obs_eqs == 0)
+    && (length P.equations == 0) && list_all (λ g. is_entity g.1) P.generators
+
+-- What a declaration poses whose names and parts break no rule: a theory, or a presentation over the schema of a printed name,
+-- whose model is to be made.
+pub data Posed : Type 0 where
+  a_typeside : TypesideData → Posed
+  a_schema : Name → SchemaData → Posed
+  a_presentation : Name → SchemaData → Presentation → Posed
+
+abbrev pub typeside_posed : Place → TypesideLit → Checked Posed
+typeside_posed place lit = and_then (typeside_given place lit) (λ T. Ok (a_typeside T))
+
+abbrev pub schema_posed : Environment → Place → Name → SchemaLit → Checked Posed
+schema_posed env place name lit =
+    and_then (typeside_used env lit.typeside) (λ T.
+    and_then (schema_given place T lit) (λ S.
+    Ok (a_schema name S)))
+
+abbrev pub if_free : Place → Name → SchemaData → Presentation → Checked Posed
+if_free place name S P = if is_free S P then Ok (a_presentation name S P) else Err (place, NotBuilt)
+
+abbrev pub instance_posed : Environment → Place → InstanceLit → Checked Posed
+instance_posed env place lit =
+    and_then (schema_used env lit.schema) (λ over.
+    and_then (presentation_given place over.1 lit) (λ P.
+    if_free place over.0 over.1 P))
+
+-- the forms that are built
+abbrev pub is_built : Body → Bool
+is_built (Typeside lit) = true
+is_built (Schema (schema_exp.Literal lit)) = true
+is_built (Instance (instance_exp.Literal lit)) = true
+is_built _ = false
+
+abbrev pub body_posed : Environment → Place → Name → Body → Checked Posed
+body_posed env place name (Typeside lit) = typeside_posed place lit
+body_posed env place name (Schema (schema_exp.Literal lit)) = schema_posed env place name lit
+body_posed env place name (Instance (instance_exp.Literal lit)) = instance_posed env place lit
+body_posed env place name _ = Err (place, NotBuilt)
+
+-- The checks of names and parts of a declaration, in their order: its form is built, its name is new, and then those of its body.
+unfoldable pub posed_by : Environment → Decl → Checked Posed
+posed_by env d =
+    if is_built d.body then (if is_some (meant_by env d.name) then Err (d.name_place, NameTaken)
+    else body_posed env d.place d.name d.body)
+    else Err (d.place, NotBuilt)

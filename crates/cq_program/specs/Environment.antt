@@ -1,0 +1,41 @@
+-- The environment that the code keeps, as the definitions see it, and what its functions answer.
+use Rattle.std.specs.Prelude.{◌≡◌, ℕ, List, Option, Some, Result, Ok, Err, All, map}
+use Rattle.cq_base.specs.declared.name.Name.{Name}
+use Rattle.cq_base.specs.declared.place.Place.{Place}
+use Rattle.cq_theory.specs.Presentation.{IsPresentation}
+use Rattle.cq_model.specs.Free.{IsFree}
+use Rattle.cq_program.specs.declared.reason.Reason.{Reason}
+use Rattle.cq_program.specs.declared.reason.ProgramRefusal.{ProgramRefusal}
+use Rattle.cq_program.specs.declared.reason.ProgramRefusal.TheVariants as program_refusal
+use Rattle.cq_program.specs.declared.environment.Meaning.{Meaning}
+use Rattle.cq_program.specs.declared.environment.Meaning.TheVariants as meaning
+use Rattle.cq_program.specs.declared.environment.Entry.{Entry}
+use Rattle.cq_program.specs.Checks.{Meant, typeside, schema, instance, Environment, Checked}
+
+abbrev pub meant : Meaning → Meant
+meant (meaning.Typeside t) = typeside t.value
+meant (meaning.Schema n s) = schema n s.value
+meant (meaning.Instance n i) = instance n i.value
+
+abbrev pub entry_names : List Entry → List Name
+entry_names entries = map (λ entry. entry.name) entries
+
+abbrev pub environment_of : List Entry → Environment
+environment_of entries = map (λ entry. (entry.name, meant entry.meaning)) entries
+
+-- the refusal tells what the check found, or want of memory
+abbrev pub Refuses : {A : Type 0} → ProgramRefusal → Checked A → Type 0
+Refuses (program_refusal.Broken place reason) check = check ≡ Err (place, reason)
+Refuses (program_refusal.Read name cause) check = ⊥
+Refuses program_refusal.Memory check = Unit {0}
+
+-- the answer is what the check gives, or want of memory
+abbrev pub Answers : {X A : Type 0} → (X → A) → Result X ProgramRefusal → Checked A → Type 0
+Answers view (Ok x) check = check ≡ Ok (view x)
+Answers view (Err refusal) check = Refuses refusal check
+
+-- the refusal tells this rule and place, or want of memory
+abbrev pub Tells : ProgramRefusal → Option (Place × Reason) → Type 0
+Tells (program_refusal.Broken place reason) breach = breach ≡ Some (place, reason)
+Tells (program_refusal.Read name cause) breach = ⊥
+Tells program_refusal.Memory breach = Unit {0}

@@ -1,0 +1,7 @@
+pub mod Lines
+pub mod Parts
+pub mod Checks
+pub mod Program
+pub mod Environment
+pub mod Posing
+pub mod Named

@@ -1,0 +1,100 @@
+-- The parts of literals, and the place of each. A name in a group is a part of its own.
+use Rattle.std.specs.Prelude.{ℕ, List, ◌+◌, ◌++◌, map, length, sum_by}
+use Rattle.std.specs.List.{flat_map}
+use Rattle.cq_base.specs.declared.name.Name.{Name}
+use Rattle.cq_base.specs.declared.place.Place.{Place}
+use Rattle.cq_base.specs.declared.raw.Raw.{Raw}
+use Rattle.cq_syntax.specs.declared.part.Spot.{Spot}
+use Rattle.cq_syntax.specs.declared.part.GroupSyn.{GroupSyn}
+use Rattle.cq_syntax.specs.declared.part.EdgeSyn.{EdgeSyn}
+use Rattle.cq_syntax.specs.declared.part.FunSyn.{FunSyn}
+use Rattle.cq_syntax.specs.declared.part.EqSyn.{EqSyn}
+use Rattle.cq_syntax.specs.declared.part.PathEqSyn.{PathEqSyn}
+use Rattle.cq_syntax.specs.declared.part.ObsSyn.{ObsSyn}
+use Rattle.cq_syntax.specs.declared.literal.TypesideLit.{TypesideLit}
+use Rattle.cq_syntax.specs.declared.literal.SchemaLit.{SchemaLit}
+use Rattle.cq_syntax.specs.declared.literal.InstanceLit.{InstanceLit}
+use Rattle.cq_theory.specs.declared.parts.ObsPart.{ObsPart}
+use Rattle.cq_theory.specs.declared.parts.TypesideParts.{TypesideParts}
+use Rattle.cq_theory.specs.declared.parts.SchemaParts.{SchemaParts}
+use Rattle.cq_theory.specs.declared.parts.PresentationParts.{PresentationParts}
+
+abbrev pub names_of : List Spot → List Name
+names_of spots = map (λ spot. spot.name) spots
+
+abbrev pub places_of : List Spot → List Place
+places_of spots = map (λ spot. spot.place) spots
+
+-- Each name of a group, with what the group says of it.
+abbrev pub group_parts : GroupSyn → List (Name × Name)
+group_parts g = map (λ spot. (spot.name, g.sort)) g.names
+
+abbrev pub function_parts : FunSyn → List (Name × List Name × Name)
+function_parts f = map (λ spot. (spot.name, f.args, f.result)) f.names
+
+abbrev pub edge_parts : EdgeSyn → List (Name × Name × Name)
+edge_parts e = map (λ spot. (spot.name, e.from, e.to)) e.names
+
+abbrev pub path_eq_part : PathEqSyn → List Name × List Name
+path_eq_part e = (e.left.names, e.right.names)
+
+abbrev pub observation_part : ObsSyn → ObsPart
+observation_part e = record { variable = e.variable; entity = e.entity; left = e.left.raw; right = e.right.raw }
+
+abbrev pub equation_part : EqSyn → Raw × Raw
+equation_part e = (e.left.raw, e.right.raw)
+
+-- the place of each name of a group
+abbrev pub group_places : GroupSyn → List Place
+group_places g = places_of g.names
+
+abbrev pub function_places : FunSyn → List Place
+function_places f = places_of f.names
+
+abbrev pub edge_places : EdgeSyn → List Place
+edge_places e = places_of e.names
+
+-- an equation stands at its first token
+abbrev pub path_eq_place : PathEqSyn → Place
+path_eq_place e = e.left.place
+
+abbrev pub equation_place : EqSyn → Place
+equation_place e = e.left.place
+
+-- The parts that a literal gives, the places of these parts in the order in which they are numbered, and how many they are.
+unfoldable pub typeside_parts : TypesideLit → TypesideParts
+typeside_parts t = record { types = names_of t.types; constants = flat_map group_parts t.constants; functions = flat_map function_parts t.functions }
+
+unfoldable pub typeside_places : TypesideLit → List Place
+typeside_places t = places_of t.types ++ flat_map group_places t.constants ++ flat_map function_places t.functions
+
+abbrev pub typeside_count : TypesideLit → ℕ
+typeside_count t = length t.types + sum_by (λ g. length g.names) t.constants + sum_by (λ f. length f.names) t.functions
+
+unfoldable pub schema_parts : SchemaLit → SchemaParts
+schema_parts s = record {
+  entities = names_of s.entities;
+  keys = flat_map edge_parts s.keys;
+  path_eqs = map path_eq_part s.path_eqs;
+  attributes = flat_map edge_parts s.attributes;
+  obs_eqs = map observation_part s.obs_eqs;
+}
+
+unfoldable pub schema_places : SchemaLit → List Place
+schema_places s =
+    places_of s.entities ++ flat_map edge_places s.keys ++ map path_eq_place s.path_eqs
+    ++ flat_map edge_places s.attributes ++ map (λ e. e.place) s.obs_eqs
+
+abbrev pub schema_count : SchemaLit → ℕ
+schema_count s =
+    length s.entities + sum_by (λ e. length e.names) s.keys + length s.path_eqs
+    + sum_by (λ e. length e.names) s.attributes + length s.obs_eqs
+
+unfoldable pub instance_parts : InstanceLit → PresentationParts
+instance_parts i = record { generators = flat_map group_parts i.generators; equations = map equation_part i.equations }
+
+unfoldable pub instance_places : InstanceLit → List Place
+instance_places i = flat_map group_places i.generators ++ map equation_place i.equations
+
+abbrev pub instance_count : InstanceLit → ℕ
+instance_count i = sum_by (λ g. length g.names) i.generators + length i.equations

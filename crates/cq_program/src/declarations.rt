@@ -1,0 +1,129 @@
+//! The declarations of a program in order.
+ghost use Rattle.std.specs.Prelude.{◌≡◌, ◌<◌, ◌≤◌, ◌-◌, ◌^◌, ◌++◌, [], IfOk, IfErr, OnOk, length, map};
+ghost use Rattle.std.specs.List.{filter_map, flat_map};
+ghost use Rattle.cq_program.specs.Program.{Declares, Follow, HasFewParts, Means, listing_of, part_count};
+ghost use Rattle.cq_program.specs.Environment.{environment_of, meant};
+ghost use Rattle.cq_program.specs.Posing.{AddsDecl, RefusesDecl, RefusesProgram};
+ghost use Rattle.cq_program.specs.Named.{listed_as, listings_in};
+
+use crate::environment::{Entry, Environment, Meaning};
+use crate::models::meaning_of;
+use crate::posing::pose;
+use crate::reason::ProgramRefusal;
+use cq_base::Name;
+use cq_io::Folder;
+use cq_model::Instance;
+use cq_syntax::{Decl, Program};
+use std::alloc::{AllocError, Global};
+use std::rc::Rc;
+
+/// An instance of a program, with its name and the name of its schema.
+#[derive(Drop)]
+pub struct Named {
+    pub name: Name,
+    pub schema: Name,
+    pub instance: Rc<Instance>,
+}
+
+/// The instances of a program in order, or the first rule that a declaration breaks, at its place.
+///
+/// The declarations are taken in order. Each is checked in this order: its form is built (`NotBuilt`), its name is new
+/// (`NameTaken`), each name that it uses is declared (`NameUnknown`) and of the right kind (`WrongKind`), its parts
+/// break no rule (`Duplicate` to `TooLarge`, at the first such part), its model is of a form that is built (`NotBuilt`)
+/// and small enough (`TooManyRows`). Want of memory may come at any time. No form that is built reads files.
+pub fn meaning<F: Folder>(
+    alloc: Global,
+    program: &Program,
+    folder: &mut F,
+    depth: u32,
+) -> Result<Vec<Named>, ProgramRefusal>
+    requires few { HasFewParts program.now }
+    requires depth { depth ≤ 64 }
+    ensures means { IfOk result (λ named. Means program.now (map listed_as named.items)) }
+    ensures breaks { IfErr result (RefusesProgram depth program.now) }
+    ensures unread { folder.new ≡ folder.old }
+{
+    let env = declare_all(alloc, program, depth)?;
+    Ok(instances_of(alloc, env)?)
+}
+
+/// What all names stand for.
+fn declare_all(alloc: Global, program: &Program, depth: u32) -> Result<Environment, ProgramRefusal>
+    requires { HasFewParts program.now }
+    ensures follows { IfOk result (λ env. Follow [] program.now.decls (environment_of env.entries.items)) }
+    ensures breaks { IfErr result (RefusesProgram depth program.now) }
+{
+    let mut env = Environment::new(alloc);
+    for decl in program.decls.as_slice() {
+        env = declare(alloc, env, decl, depth)?;
+    }
+    Ok(env)
+}
+
+/// The names with one more, that of a declaration.
+fn declare(
+    alloc: Global,
+    env: Environment,
+    decl: &Decl,
+    depth: u32,
+) -> Result<Environment, ProgramRefusal>
+    requires few { part_count decl.now.body < 2 ^ 32 }
+    requires room { length env.entries.items < 2 ^ 32 - 1 }
+    ensures declares { IfOk result (λ after. AddsDecl (environment_of env.entries.items) decl.now (environment_of after.entries.items)) }
+    ensures breaks { IfErr result (RefusesDecl depth (environment_of env.entries.items) decl.now) }
+{
+    let meaning = judge(alloc, &env, decl, depth)?;
+    let name = decl.name.clone()?;
+    Ok(env.with(name, meaning)?)
+}
+
+/// What a declaration stands for.
+fn judge(
+    alloc: Global,
+    env: &Environment,
+    decl: &Decl,
+    depth: u32,
+) -> Result<Meaning, ProgramRefusal>
+    requires { part_count decl.now.body < 2 ^ 32 }
+    ensures declares { IfOk result (λ meaning. Declares (environment_of env.now.entries.items) decl.now (meant meaning)) }
+    ensures breaks { IfErr result (RefusesDecl depth (environment_of env.now.entries.items) decl.now) }
+{
+    let statement = pose(alloc, env, decl)?;
+    meaning_of(alloc, decl.place, statement)
+}
+
+/// The instances among the declared names.
+fn instances_of(alloc: Global, env: Environment) -> Result<Vec<Named>, AllocError>
+    ensures { IfOk result (λ named. map listed_as named.items ≡ filter_map listing_of (environment_of env.entries.items)) }
+{
+    let named = instances_in(alloc, env.entries)?;
+    Ok(named)
+}
+
+fn instances_in(alloc: Global, entries: Vec<Entry>) -> Result<Vec<Named>, AllocError>
+    ensures { IfOk result (λ named. map listed_as named.items ≡ flat_map listings_in entries.items) }
+{
+    let mut named = Vec::new(alloc);
+    for entry in entries {
+        push_instance(&mut named, entry)?;
+    }
+    Ok(named)
+}
+
+fn push_instance(named: &mut Vec<Named>, entry: Entry) -> Result<(), AllocError>
+    ensures { OnOk result (map listed_as named.new.items ≡ map listed_as named.old.items ++ listings_in entry) }
+{
+    let Entry { name, meaning } = entry;
+    match meaning {
+        Meaning::Instance(schema, instance) => {
+            named.push(Named {
+                name,
+                schema,
+                instance,
+            })?;
+            Ok(())
+        }
+        Meaning::Typeside(_) => Ok(()),
+        Meaning::Schema(_, _) => Ok(()),
+    }
+}

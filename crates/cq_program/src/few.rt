@@ -1,0 +1,144 @@
+//! Whether declarations and parts can be counted by numbers of 32 bits.
+ghost use Rattle.std.specs.Prelude.{◌≡◌, ◌+◌, ◌-◌, ◌<◌, ◌≤◌, ◌^◌, ◌↔◌, All, IsTrue, length, sum_by};
+ghost use Rattle.std.specs.Option.{SomeIff};
+ghost use Rattle.cq_syntax.specs.declared.program.Body.TheVariants.{Instance};
+ghost use Rattle.cq_program.specs.Program.{HasFewParts, part_count};
+ghost use Rattle.cq_program.specs.Parts.{typeside_count, schema_count, instance_count};
+
+use cq_syntax::{
+    Body, Decl, EdgeSyn, FunSyn, GroupSyn, InstanceExp, InstanceLit, Program, SchemaExp, SchemaLit,
+    TypesideLit,
+};
+
+/// Whether a program has fewer than 2^32 - 1 declarations, and each of them fewer than 2^32 parts, as every program in
+/// a file of 8 MiB has. This is what `meaning` requires.
+pub fn has_few_parts(program: &Program) -> bool
+    ensures { IsTrue result ↔ HasFewParts program.now }
+{
+    program.decls.len() < u32::MAX as usize && have_few_parts(program.decls.as_slice())
+}
+
+fn have_few_parts(decls: &[Decl]) -> bool
+    ensures { IsTrue result ↔ All (λ d. part_count d.body < 2 ^ 32) decls.now }
+{
+    decls.iter().all(|decl| has_few(&decl.body))
+}
+
+fn has_few(body: &Body) -> bool
+    ensures { IsTrue result ↔ (part_count body.now < 2 ^ 32) }
+{
+    match body {
+        Body::Typeside(literal) => has_few_in_typeside(literal),
+        Body::Schema(SchemaExp::Literal(literal)) => has_few_in_schema(literal),
+        Body::Schema(SchemaExp::GetSchema(_)) => true,
+        Body::Instance(expression) => has_few_in_instance(expression),
+        Body::Colimit(_) => true,
+        Body::Mapping(_) => true,
+        Body::Query(_) => true,
+        Body::Transform(_) => true,
+    }
+}
+
+fn has_few_in_typeside(literal: &TypesideLit) -> bool
+    ensures { IsTrue result ↔ (typeside_count literal.now < 2 ^ 32) }
+{
+    let Some(room) = room_after(u32::MAX, literal.types.len()) else {
+        return false;
+    };
+    let Some(room) = room_after_groups(room, literal.constants.as_slice()) else {
+        return false;
+    };
+    room_after_functions(room, literal.functions.as_slice()).is_some()
+}
+
+fn has_few_in_schema(literal: &SchemaLit) -> bool
+    ensures { IsTrue result ↔ (schema_count literal.now < 2 ^ 32) }
+{
+    let Some(room) = room_after(u32::MAX, literal.entities.len()) else {
+        return false;
+    };
+    let Some(room) = room_after_edges(room, literal.keys.as_slice()) else {
+        return false;
+    };
+    let Some(room) = room_after(room, literal.path_eqs.len()) else {
+        return false;
+    };
+    let Some(room) = room_after_edges(room, literal.attributes.as_slice()) else {
+        return false;
+    };
+    room_after(room, literal.obs_eqs.len()).is_some()
+}
+
+fn has_few_in_instance(expression: &InstanceExp) -> bool
+    ensures { IsTrue result ↔ (part_count (Instance expression.now) < 2 ^ 32) }
+{
+    match expression {
+        InstanceExp::Literal(literal) => has_few_in_literal(literal),
+        InstanceExp::Delta(_, _) => true,
+        InstanceExp::Sigma(_, _) => true,
+        InstanceExp::Eval(_, _) => true,
+        InstanceExp::Coeval(_, _) => true,
+        InstanceExp::Coproduct(_, _) => true,
+        InstanceExp::Pushout(_, _) => true,
+        InstanceExp::ImportCsv(_, _, _) => true,
+    }
+}
+
+fn has_few_in_literal(literal: &InstanceLit) -> bool
+    ensures { IsTrue result ↔ (instance_count literal.now < 2 ^ 32) }
+{
+    let Some(room) = room_after_groups(u32::MAX, literal.generators.as_slice()) else {
+        return false;
+    };
+    room_after(room, literal.equations.len()).is_some()
+}
+
+/// What is left of the room for parts after some more.
+fn room_after(room: u32, parts: usize) -> Option<u32>
+    ensures { SomeIff result (parts ≤ room) (room - parts) }
+{
+    if parts <= room as usize {
+        Some(room - parts as u32)
+    } else {
+        None
+    }
+}
+
+fn room_after_groups(room: u32, groups: &[GroupSyn]) -> Option<u32>
+    ensures { SomeIff result (sum_by (λ g. length g.names) groups.now ≤ room) (room - sum_by (λ g. length g.names) groups.now) }
+{
+    let mut left = room;
+    for group in groups {
+        match room_after(left, group.names.len()) {
+            Some(room) => left = room,
+            None => return None,
+        }
+    }
+    Some(left)
+}
+
+fn room_after_edges(room: u32, groups: &[EdgeSyn]) -> Option<u32>
+    ensures { SomeIff result (sum_by (λ e. length e.names) groups.now ≤ room) (room - sum_by (λ e. length e.names) groups.now) }
+{
+    let mut left = room;
+    for group in groups {
+        match room_after(left, group.names.len()) {
+            Some(room) => left = room,
+            None => return None,
+        }
+    }
+    Some(left)
+}
+
+fn room_after_functions(room: u32, groups: &[FunSyn]) -> Option<u32>
+    ensures { SomeIff result (sum_by (λ f. length f.names) groups.now ≤ room) (room - sum_by (λ f. length f.names) groups.now) }
+{
+    let mut left = room;
+    for group in groups {
+        match room_after(left, group.names.len()) {
+            Some(room) => left = room,
+            None => return None,
+        }
+    }
+    Some(left)
+}

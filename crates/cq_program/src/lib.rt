@@ -1,0 +1,22 @@
+//! The declarations of a program in order: what they mean, or the first rule that is broken.
+#![tactic(auto)]
+
+mod declarations;
+mod environment;
+mod few;
+pub mod laws;
+mod line;
+mod models;
+mod parts;
+mod places;
+mod posing;
+mod raw;
+mod reason;
+
+pub use declarations::{Named, meaning};
+pub use few::has_few_parts;
+pub use line::{numbered_line, refusal_line};
+pub use reason::{ProgramRefusal, ReadCause, Reason};
+
+#[cfg(test)]
+mod tests;

@@ -1,0 +1,110 @@
+//! The places of the parts of a literal, in the order in which the parts are numbered.
+ghost use Rattle.std.specs.Prelude.{◌≡◌, ◌++◌, IfOk, OnOk, map};
+ghost use Rattle.std.specs.List.{flat_map};
+ghost use Rattle.cq_program.specs.Parts.{places_of, group_places, function_places, edge_places, path_eq_place, equation_place, typeside_places, schema_places, instance_places};
+
+use cq_base::Place;
+use cq_syntax::{
+    EdgeSyn, EqSyn, FunSyn, GroupSyn, InstanceLit, ObsSyn, PathEqSyn, SchemaLit, Spot, TypesideLit,
+};
+use std::alloc::{AllocError, Global};
+
+/// The places of the parts of a typeside.
+#[tactic(auto, unfolding(crate::specs::Parts::typeside_places))]
+pub fn typeside_places(alloc: Global, literal: &TypesideLit) -> Result<Vec<Place>, AllocError>
+    ensures { IfOk result (λ places. places.items ≡ typeside_places literal.now) }
+{
+    let mut places = Vec::new(alloc);
+    push_spots(&mut places, literal.types.as_slice())?;
+    push_groups(&mut places, literal.constants.as_slice())?;
+    push_functions(&mut places, literal.functions.as_slice())?;
+    Ok(places)
+}
+
+/// The places of the parts of a schema.
+#[tactic(auto, unfolding(crate::specs::Parts::schema_places))]
+pub fn schema_places(alloc: Global, literal: &SchemaLit) -> Result<Vec<Place>, AllocError>
+    ensures { IfOk result (λ places. places.items ≡ schema_places literal.now) }
+{
+    let mut places = Vec::new(alloc);
+    push_spots(&mut places, literal.entities.as_slice())?;
+    push_edges(&mut places, literal.keys.as_slice())?;
+    push_path_eqs(&mut places, literal.path_eqs.as_slice())?;
+    push_edges(&mut places, literal.attributes.as_slice())?;
+    push_observations(&mut places, literal.obs_eqs.as_slice())?;
+    Ok(places)
+}
+
+/// The places of the parts of a presentation.
+#[tactic(auto, unfolding(crate::specs::Parts::instance_places))]
+pub fn instance_places(alloc: Global, literal: &InstanceLit) -> Result<Vec<Place>, AllocError>
+    ensures { IfOk result (λ places. places.items ≡ instance_places literal.now) }
+{
+    let mut places = Vec::new(alloc);
+    push_groups(&mut places, literal.generators.as_slice())?;
+    push_equations(&mut places, literal.equations.as_slice())?;
+    Ok(places)
+}
+
+fn push_spots(places: &mut Vec<Place>, spots: &[Spot]) -> Result<(), AllocError>
+    ensures { OnOk result (places.new.items ≡ places.old.items ++ places_of spots.now) }
+{
+    for spot in spots {
+        places.push(spot.place)?;
+    }
+    Ok(())
+}
+
+fn push_groups(places: &mut Vec<Place>, groups: &[GroupSyn]) -> Result<(), AllocError>
+    ensures { OnOk result (places.new.items ≡ places.old.items ++ flat_map group_places groups.now) }
+{
+    for group in groups {
+        push_spots(places, group.names.as_slice())?;
+    }
+    Ok(())
+}
+
+fn push_functions(places: &mut Vec<Place>, groups: &[FunSyn]) -> Result<(), AllocError>
+    ensures { OnOk result (places.new.items ≡ places.old.items ++ flat_map function_places groups.now) }
+{
+    for group in groups {
+        push_spots(places, group.names.as_slice())?;
+    }
+    Ok(())
+}
+
+fn push_edges(places: &mut Vec<Place>, groups: &[EdgeSyn]) -> Result<(), AllocError>
+    ensures { OnOk result (places.new.items ≡ places.old.items ++ flat_map edge_places groups.now) }
+{
+    for group in groups {
+        push_spots(places, group.names.as_slice())?;
+    }
+    Ok(())
+}
+
+fn push_path_eqs(places: &mut Vec<Place>, equations: &[PathEqSyn]) -> Result<(), AllocError>
+    ensures { OnOk result (places.new.items ≡ places.old.items ++ map path_eq_place equations.now) }
+{
+    for equation in equations {
+        places.push(equation.left.place)?;
+    }
+    Ok(())
+}
+
+fn push_observations(places: &mut Vec<Place>, equations: &[ObsSyn]) -> Result<(), AllocError>
+    ensures { OnOk result (places.new.items ≡ places.old.items ++ map (λ e. e.place) equations.now) }
+{
+    for equation in equations {
+        places.push(equation.place)?;
+    }
+    Ok(())
+}
+
+fn push_equations(places: &mut Vec<Place>, equations: &[EqSyn]) -> Result<(), AllocError>
+    ensures { OnOk result (places.new.items ≡ places.old.items ++ map equation_place equations.now) }
+{
+    for equation in equations {
+        places.push(equation.left.place)?;
+    }
+    Ok(())
+}

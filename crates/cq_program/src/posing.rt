@@ -1,0 +1,255 @@
+//! The checks of names and parts, and what a declaration poses that passes them.
+ghost use Rattle.std.specs.Prelude.{◌≡◌, ◌<◌, ◌^◌, IfOk, length};
+ghost use Rattle.std.specs.List.{list_all};
+ghost use Rattle.cq_theory.specs.Presentation.{IsPresentation};
+ghost use Rattle.cq_program.specs.Program.{part_count};
+ghost use Rattle.cq_program.specs.Parts.{typeside_count, schema_count, instance_count};
+ghost use Rattle.cq_program.specs.Checks.{body_posed, instance_posed, is_built, is_entity, is_free, part_breach, place_of, posed_by, presentation_given, schema_given, schema_posed, typeside_given, typeside_posed};
+ghost use Rattle.cq_program.specs.Environment.{Answers, Tells, environment_of};
+ghost use Rattle.cq_program.specs.Posing.{CanBeBuilt, posed_as};
+
+use crate::environment::Environment;
+use crate::parts::{instance_parts, schema_parts, typeside_parts};
+use crate::places::{instance_places, schema_places, typeside_places};
+use crate::reason::{ProgramRefusal, Reason};
+use cq_base::{Name, Place};
+use cq_syntax::{Body, Decl, InstanceExp, InstanceLit, SchemaExp, SchemaLit, TypesideLit};
+use cq_theory::{Presentation, Schema, Sort, TheoryRefusal, Typeside};
+use std::alloc::Global;
+use std::rc::Rc;
+
+/// What a declaration poses: a theory, or a presentation over the schema of a printed name, whose model is to be made.
+#[derive(Drop)]
+pub(crate) enum Statement {
+    Typeside(Typeside),
+    Schema(Name, Schema),
+    Presentation(Name, Rc<Schema>, Presentation),
+}
+
+/// What a declaration poses, or the first rule of names and parts that it breaks.
+pub fn pose(alloc: Global, env: &Environment, decl: &Decl) -> Result<Statement, ProgramRefusal>
+    requires { part_count decl.now.body < 2 ^ 32 }
+    ensures posed { Answers posed_as result (posed_by (environment_of env.now.entries.items) decl.now) }
+    ensures built { IfOk result CanBeBuilt }
+{
+    if !is_built(&decl.body) {
+        return Err(ProgramRefusal::Broken(decl.place, Reason::NotBuilt));
+    }
+    if env.find(&decl.name).is_some() {
+        return Err(ProgramRefusal::Broken(decl.name_place, Reason::NameTaken));
+    }
+    pose_body(alloc, env, decl.place, &decl.name, &decl.body)
+}
+
+/// Whether declarations of this form are built.
+fn is_built(body: &Body) -> bool
+    ensures { result ≡ is_built body.now }
+{
+    match body {
+        Body::Typeside(_) => true,
+        Body::Schema(SchemaExp::Literal(_)) => true,
+        Body::Schema(SchemaExp::GetSchema(_)) => false,
+        Body::Instance(expression) => matches!(expression, InstanceExp::Literal(_)),
+        Body::Colimit(_) => false,
+        Body::Mapping(_) => false,
+        Body::Query(_) => false,
+        Body::Transform(_) => false,
+    }
+}
+
+fn pose_body(
+    alloc: Global,
+    env: &Environment,
+    place: Place,
+    name: &Name,
+    body: &Body,
+) -> Result<Statement, ProgramRefusal>
+    requires { part_count body.now < 2 ^ 32 }
+    ensures posed { Answers posed_as result (body_posed (environment_of env.now.entries.items) place name.now body.now) }
+    ensures built { IfOk result CanBeBuilt }
+{
+    match body {
+        Body::Typeside(literal) => pose_typeside(alloc, place, literal),
+        Body::Schema(SchemaExp::Literal(literal)) => pose_schema(alloc, env, place, name, literal),
+        Body::Instance(InstanceExp::Literal(literal)) => pose_instance(alloc, env, place, literal),
+        _ => Err(ProgramRefusal::Broken(place, Reason::NotBuilt)),
+    }
+}
+
+fn pose_typeside(
+    alloc: Global,
+    place: Place,
+    literal: &TypesideLit,
+) -> Result<Statement, ProgramRefusal>
+    requires { typeside_count literal.now < 2 ^ 32 }
+    ensures posed { Answers posed_as result (typeside_posed place literal.now) }
+    ensures built { IfOk result CanBeBuilt }
+{
+    match typeside_in(alloc, place, literal) {
+        Ok(typeside) => Ok(Statement::Typeside(typeside)),
+        Err(refusal) => Err(refusal),
+    }
+}
+
+fn pose_schema(
+    alloc: Global,
+    env: &Environment,
+    place: Place,
+    name: &Name,
+    literal: &SchemaLit,
+) -> Result<Statement, ProgramRefusal>
+    requires { schema_count literal.now < 2 ^ 32 }
+    ensures posed { Answers posed_as result (schema_posed (environment_of env.now.entries.items) place name.now literal.now) }
+    ensures built { IfOk result CanBeBuilt }
+{
+    let typeside = env.typeside(&literal.typeside)?;
+    let schema = schema_in(alloc, place, typeside, literal)?;
+    Ok(Statement::Schema(name.clone()?, schema))
+}
+
+fn pose_instance(
+    alloc: Global,
+    env: &Environment,
+    place: Place,
+    literal: &InstanceLit,
+) -> Result<Statement, ProgramRefusal>
+    requires { instance_count literal.now < 2 ^ 32 }
+    ensures posed { Answers posed_as result (instance_posed (environment_of env.now.entries.items) place literal.now) }
+    ensures built { IfOk result CanBeBuilt }
+{
+    let (name, schema) = env.schema(&literal.schema)?;
+    let presentation = presentation_in(alloc, place, &schema, literal)?;
+    if !is_free(&schema, &presentation) {
+        return Err(ProgramRefusal::Broken(place, Reason::NotBuilt));
+    }
+    Ok(Statement::Presentation(name, schema, presentation))
+}
+
+/// The typeside of a literal, or the first part that breaks a rule.
+fn typeside_in(
+    alloc: Global,
+    place: Place,
+    literal: &TypesideLit,
+) -> Result<Typeside, ProgramRefusal>
+    requires { typeside_count literal.now < 2 ^ 32 }
+    ensures { Answers (λ typeside. typeside) result (typeside_given place literal.now) }
+{
+    let parts = typeside_parts(alloc, literal)?;
+    match Typeside::new(alloc, parts) {
+        Ok(typeside) => Ok(typeside),
+        Err(refusal) => {
+            let places = typeside_places(alloc, literal)?;
+            Err(part_refusal(place, places.as_slice(), refusal))
+        }
+    }
+}
+
+/// The schema of a literal over a typeside, or the first part that breaks a rule.
+fn schema_in(
+    alloc: Global,
+    place: Place,
+    typeside: Rc<Typeside>,
+    literal: &SchemaLit,
+) -> Result<Schema, ProgramRefusal>
+    requires { schema_count literal.now < 2 ^ 32 }
+    ensures { Answers (λ schema. schema) result (schema_given place typeside.value literal.now) }
+{
+    let parts = schema_parts(alloc, literal)?;
+    match Schema::new(alloc, typeside, parts) {
+        Ok(schema) => Ok(schema),
+        Err(refusal) => {
+            let places = schema_places(alloc, literal)?;
+            Err(part_refusal(place, places.as_slice(), refusal))
+        }
+    }
+}
+
+/// The presentation of a literal over a schema, or the first part that breaks a rule.
+fn presentation_in(
+    alloc: Global,
+    place: Place,
+    schema: &Schema,
+    literal: &InstanceLit,
+) -> Result<Presentation, ProgramRefusal>
+    requires { instance_count literal.now < 2 ^ 32 }
+    ensures given { Answers (λ presentation. presentation) result (presentation_given place schema.now literal.now) }
+    ensures presentation { IfOk result (IsPresentation schema.now) }
+{
+    let parts = instance_parts(alloc, literal)?;
+    match Presentation::new(alloc, schema, parts) {
+        Ok(presentation) => Ok(presentation),
+        Err(refusal) => {
+            let places = instance_places(alloc, literal)?;
+            Err(part_refusal(place, places.as_slice(), refusal))
+        }
+    }
+}
+
+/// The rule that a part breaks, at the part's place; a part without a place stands where its declaration does.
+fn part_refusal(place: Place, places: &[Place], refusal: TheoryRefusal) -> ProgramRefusal
+    ensures { Tells result (part_breach place places.now refusal) }
+{
+    match refusal {
+        TheoryRefusal::Duplicate(part) => ProgramRefusal::Broken(
+            place_of(place, places, part),
+            Reason::Duplicate,
+        ),
+        TheoryRefusal::Unknown(part) => ProgramRefusal::Broken(
+            place_of(place, places, part),
+            Reason::Unknown,
+        ),
+        TheoryRefusal::WrongCount(part) => ProgramRefusal::Broken(
+            place_of(place, places, part),
+            Reason::WrongCount,
+        ),
+        TheoryRefusal::WrongSort(part) => ProgramRefusal::Broken(
+            place_of(place, places, part),
+            Reason::WrongSort,
+        ),
+        TheoryRefusal::Reserved(part) => ProgramRefusal::Broken(
+            place_of(place, places, part),
+            Reason::Reserved,
+        ),
+        TheoryRefusal::TooLarge(part) => ProgramRefusal::Broken(
+            place_of(place, places, part),
+            Reason::TooLarge,
+        ),
+        TheoryRefusal::Memory => ProgramRefusal::Memory,
+    }
+}
+
+fn place_of(place: Place, places: &[Place], part: u32) -> Place
+    ensures { result ≡ place_of place places.now part }
+{
+    match places.get(part as usize) {
+        Some(found) => *found,
+        None => place,
+    }
+}
+
+/// Whether the model of a presentation can be made: no foreign keys, no equations, and generators of entities alone.
+fn is_free(schema: &Schema, presentation: &Presentation) -> bool
+    ensures { result ≡ is_free schema.now presentation.now }
+{
+    schema.keys.len() == 0
+        && schema.path_eqs.len() == 0
+        && schema.obs_eqs.len() == 0
+        && presentation.equations.len() == 0
+        && are_entities(presentation)
+}
+
+fn are_entities(presentation: &Presentation) -> bool
+    ensures { result ≡ list_all (λ g. is_entity g.1) presentation.now.generators }
+{
+    let generators = presentation.generators.as_slice();
+    generators.iter().all(|generator| is_entity(&generator.1))
+}
+
+fn is_entity(sort: &Sort) -> bool
+    ensures { result ≡ is_entity sort.now }
+{
+    match sort {
+        Sort::Plain(_) => false,
+        Sort::Entity(_) => true,
+    }
+}
