@@ -1,0 +1,6 @@
+pub mod Splits
+pub mod Gives
+pub mod TermTrees
+pub mod Parsed
+pub mod Rules
+pub mod Decided

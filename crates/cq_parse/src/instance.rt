@@ -1,0 +1,144 @@
+//! Instances.
+ghost use Rattle.std.specs.Prelude.{◌≡◌};
+ghost use Rattle.cq_rules.specs.Class.{is};
+ghost use Rattle.cq_rules.specs.Rule.{braces, read};
+ghost use Rattle.cq_syntax.specs.LeftOut.{section_words};
+ghost use Rattle.cq_syntax.specs.Grammar as grammar;
+ghost use Rattle.cq_parse.specs.Gives.{Gives};
+
+use crate::colimit::summands;
+use crate::cursor::Cursor;
+use crate::equation::EquationRule;
+use crate::halt::Halt;
+use crate::item::{Production, section};
+use crate::names::{GroupRule, SpotRule, text};
+use crate::options::{SettingRule, options};
+use crate::step::{ends, is_next, skip};
+use crate::words::SectionWords;
+use cq_base::{Name, Seq};
+use cq_rules::Class;
+use cq_syntax::{InstanceExp, InstanceLit, Opt, Spot};
+use std::alloc::Global;
+
+/// An instance that is written out.
+#[tactic(auto, unfolding(cq_syntax::specs::Grammar::instance_literal))]
+fn instance_literal<'a>(
+    alloc: Global,
+    at: Cursor<'a>,
+) -> Result<(InstanceLit, Cursor<'a>), Halt<'a>>
+    ensures { Gives result (read grammar.instance_literal at.entry.tokens.now) }
+{
+    let rest = skip(at, Class::Literal)?;
+    let rest = skip(rest, Class::Colon)?;
+    let (schema, rest) = SpotRule::read(alloc, rest)?;
+    let rest = skip(rest, Class::LeftBrace)?;
+    let (generators, rest) = section::<GroupRule>(alloc, Class::Generators, rest)?;
+    let (equations, rest) = section::<EquationRule>(alloc, Class::Equations, rest)?;
+    let (options, rest) = options(alloc, rest)?;
+    let rest = ends::<SectionWords>(rest, Class::RightBrace)?;
+    let instance = InstanceLit {
+        schema,
+        generators,
+        equations,
+        options,
+    };
+    Ok((instance, rest))
+}
+
+/// A word and two names.
+fn of_two<'a>(
+    alloc: Global,
+    word: Class,
+    at: Cursor<'a>,
+) -> Result<((Spot, Spot), Cursor<'a>), Halt<'a>>
+    ensures { Gives result (read (grammar.of_two word) at.entry.tokens.now) }
+{
+    let rest = skip(at, word)?;
+    let (first, rest) = SpotRule::read(alloc, rest)?;
+    let (second, rest) = SpotRule::read(alloc, rest)?;
+    Ok(((first, second), rest))
+}
+
+/// A coproduct of instances over a schema.
+#[tactic(auto, unfolding(cq_syntax::specs::Grammar::coproduct))]
+fn coproduct<'a>(alloc: Global, at: Cursor<'a>) -> Result<((Seq<Spot>, Spot), Cursor<'a>), Halt<'a>>
+    ensures { Gives result (read grammar.coproduct at.entry.tokens.now) }
+{
+    let rest = skip(at, Class::Coproduct)?;
+    let (summands, rest) = summands(alloc, rest)?;
+    let rest = skip(rest, Class::Colon)?;
+    let (schema, rest) = SpotRule::read(alloc, rest)?;
+    Ok(((summands, schema), rest))
+}
+
+/// Nothing, or options in braces.
+fn braced_options<'a>(alloc: Global, at: Cursor<'a>) -> Result<(Seq<Opt>, Cursor<'a>), Halt<'a>>
+    ensures { Gives result (read (braces (is Class.LeftBrace) (is Class.Options) grammar.setting section_words (is Class.RightBrace)) at.entry.tokens.now) }
+{
+    if !is_next(at, Class::LeftBrace) {
+        return Ok((Seq::from_vec(Vec::new(alloc)), at));
+    }
+    let rest = skip(at, Class::LeftBrace)?;
+    let (options, rest) = section::<SettingRule>(alloc, Class::Options, rest)?;
+    let rest = ends::<SectionWords>(rest, Class::RightBrace)?;
+    Ok((options, rest))
+}
+
+/// Files of comma-separated values, in a folder.
+#[tactic(auto, unfolding(cq_syntax::specs::Grammar::import, cq_syntax::specs::Grammar::text))]
+fn import<'a>(
+    alloc: Global,
+    at: Cursor<'a>,
+) -> Result<((Name, (Spot, Seq<Opt>)), Cursor<'a>), Halt<'a>>
+    ensures { Gives result (read grammar.import at.entry.tokens.now) }
+{
+    let rest = skip(at, Class::ImportCsv)?;
+    let (folder, rest) = text(alloc, rest)?;
+    let rest = skip(rest, Class::Colon)?;
+    let (schema, rest) = SpotRule::read(alloc, rest)?;
+    let (options, rest) = braced_options(alloc, rest)?;
+    Ok(((folder, (schema, options)), rest))
+}
+
+/// An instance.
+pub struct InstanceRule;
+
+impl Production for InstanceRule {
+    type Tree = InstanceExp;
+
+    ghost rule = { grammar.instance };
+
+    #[tactic(auto, unfolding(cq_syntax::specs::Grammar::instance, cq_syntax::specs::Grammar::instance_literal, cq_syntax::specs::Grammar::coproduct))]
+    fn read<'a>(alloc: Global, at: Cursor<'a>) -> Result<(InstanceExp, Cursor<'a>), Halt<'a>> {
+        if is_next(at, Class::Literal) {
+            let (literal, rest) = instance_literal(alloc, at)?;
+            return Ok((InstanceExp::Literal(literal), rest));
+        }
+        if is_next(at, Class::Delta) {
+            let ((mapping, instance), rest) = of_two(alloc, Class::Delta, at)?;
+            return Ok((InstanceExp::Delta(mapping, instance), rest));
+        }
+        if is_next(at, Class::Sigma) {
+            let ((mapping, instance), rest) = of_two(alloc, Class::Sigma, at)?;
+            return Ok((InstanceExp::Sigma(mapping, instance), rest));
+        }
+        if is_next(at, Class::Eval) {
+            let ((query, instance), rest) = of_two(alloc, Class::Eval, at)?;
+            return Ok((InstanceExp::Eval(query, instance), rest));
+        }
+        if is_next(at, Class::Coeval) {
+            let ((query, instance), rest) = of_two(alloc, Class::Coeval, at)?;
+            return Ok((InstanceExp::Coeval(query, instance), rest));
+        }
+        if is_next(at, Class::Coproduct) {
+            let ((summands, schema), rest) = coproduct(alloc, at)?;
+            return Ok((InstanceExp::Coproduct(summands, schema), rest));
+        }
+        if is_next(at, Class::Pushout) {
+            let ((left, right), rest) = of_two(alloc, Class::Pushout, at)?;
+            return Ok((InstanceExp::Pushout(left, right), rest));
+        }
+        let ((folder, (schema, options)), rest) = import(alloc, at)?;
+        Ok((InstanceExp::ImportCsv(folder, schema, options), rest))
+    }
+}

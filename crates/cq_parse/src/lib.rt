@@ -1,0 +1,28 @@
+//! Programs, read from their tokens.
+#![tactic(auto)]
+
+mod colimit;
+mod cursor;
+mod declaration;
+mod equation;
+mod halt;
+mod instance;
+mod item;
+mod mapping;
+mod names;
+mod options;
+pub mod parser;
+mod query;
+pub mod refusal;
+mod schema;
+mod step;
+mod term;
+mod transform;
+mod typeside;
+mod words;
+
+pub use parser::parse;
+pub use refusal::ParseRefusal;
+
+#[cfg(test)]
+mod tests;

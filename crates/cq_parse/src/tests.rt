@@ -1,0 +1,237 @@
+//! Programs and their refusals, written out.
+use crate::{ParseRefusal, parse};
+use cq_lex::lex;
+use std::alloc::{AllocError, Global};
+use std::process::Abort;
+use std::test::Fail;
+
+// A text, and what becomes of it: 0 where it is a program, else the kind of its refusal, for a word that is
+// left out its number and 100; with the line and the column.
+const TEXTS: [(&str, (u32, u32, u32)); 62] = [
+    ("", (0, 0, 0)),
+    (
+        "typeside T = literal { types n constants one \"two words\" : n functions plus times : n, n -> n }",
+        (0, 0, 0),
+    ),
+    (
+        "schema S = literal : T { entities E F foreign_keys f g : E -> F path_equations E.f = E.g attributes v : F -> n observation_equations forall e : E . v(f(e)) = one forall e . v(e) = v(e) } schema R = getSchema C",
+        (0, 0, 0),
+    ),
+    (
+        "schema_colimit C = quotient S + R : T { entity_equations S.E = R.F path_equations S_E_f = R_F_g observation_equations forall x . x = x options prover = auto }",
+        (0, 0, 0),
+    ),
+    (
+        "mapping F = literal : S -> R { entity E -> G foreign_keys f -> h.k attributes v -> lambda x . plus(x.w, one) w -> lambda y : G . y w -> a.b } mapping I = identity S mapping M = getMapping C S",
+        (0, 0, 0),
+    ),
+    (
+        "query Q = literal : S -> R { entity P -> { from a b : E where a.f = b.f attributes w -> v(a.f) foreign_keys k -> { c -> b } } }",
+        (0, 0, 0),
+    ),
+    (
+        "instance I = literal : S { generators a b : E equations a.f = b.f v(a.f) = \"x\" }",
+        (0, 0, 0),
+    ),
+    (
+        "instance delta = delta sigma eval instance G = sigma F I instance V = eval Q I instance W = coeval Q I instance B = coproduct I + J : S instance O = pushout h k",
+        (0, 0, 0),
+    ),
+    (
+        "instance P = import_csv \"data\" : S instance P = import_csv \"data\" : S { } instance P = import_csv \"data\" : S { options timeout = \"5\" }",
+        (0, 0, 0),
+    ),
+    (
+        "transform h = literal : I -> J { generators a -> b.f c -> one } transform i = identity I",
+        (0, 0, 0),
+    ),
+    (
+        "options prover = auto timeout = \"5\" require_consistency = true",
+        (0, 0, 0),
+    ),
+    ("options require_consistency = false", (24, 1, 9)),
+    ("options\n depth = 1", (24, 2, 2)),
+    ("options x = {", (21, 1, 13)),
+    ("options constraints C", (21, 1, 21)),
+    ("options graph = 1", (24, 1, 9)),
+    ("constraints", (101, 1, 1)),
+    ("command", (102, 1, 1)),
+    ("graph", (103, 1, 1)),
+    ("html", (104, 1, 1)),
+    ("\nmd", (105, 2, 1)),
+    ("instance I = chase", (106, 1, 14)),
+    ("instance I = pi", (107, 1, 14)),
+    ("instance I = except", (108, 1, 14)),
+    ("instance I = distinct", (109, 1, 14)),
+    ("instance I = anonymize", (110, 1, 14)),
+    ("instance I = pivot", (111, 1, 14)),
+    ("transform I = coequalize", (112, 1, 15)),
+    ("schema I = colimit", (113, 1, 12)),
+    ("query I = simple", (114, 1, 11)),
+    ("typeside I = sql", (115, 1, 14)),
+    ("typeside T = literal { equations", (116, 1, 24)),
+    ("schema S = literal : T { equations", (21, 1, 26)),
+    ("typeside T = literal { types external_types", (117, 1, 30)),
+    ("schema S = literal : T { external_parsers", (118, 1, 26)),
+    (
+        "query Q = literal : S -> R { entity P -> { external_functions",
+        (119, 1, 44),
+    ),
+    ("instance I = import_csv \"a\" : S { imports", (120, 1, 35)),
+    (
+        "typeside constraints = literal { types command graph html md chase pi except distinct anonymize pivot coequalize colimit simple sql }",
+        (0, 0, 0),
+    ),
+    ("typeside imports", (21, 1, 10)),
+    (
+        "typeside T = literal { functions f : n -> n types n }",
+        (21, 1, 45),
+    ),
+    (
+        "schema S = literal : T { attributes a : E -> n foreign_keys",
+        (21, 1, 48),
+    ),
+    ("typeside T = literal { types n types", (21, 1, 32)),
+    ("typeside T = literal { functions f : -> n", (21, 1, 38)),
+    ("typeside T = literal { functions f : n, -> n", (21, 1, 41)),
+    ("typeside T = literal { constants : n", (21, 1, 34)),
+    ("instance I = literal : S { equations a = b c", (21, 1, 45)),
+    ("instance I = literal : S { equations f() = b", (21, 1, 40)),
+    ("instance I = literal : S { equations f(a = b", (21, 1, 42)),
+    (
+        "instance I = literal : S { equations f(a)(b) = c",
+        (21, 1, 42),
+    ),
+    (
+        "instance I = literal : S { equations \"x\"(a) = c",
+        (21, 1, 41),
+    ),
+    (
+        "instance I = literal : S { equations \"x\".f = c }",
+        (0, 0, 0),
+    ),
+    (
+        "instance I = literal : S { equations a.\"x\" = c }",
+        (21, 1, 40),
+    ),
+    ("instance I = literal : S { } }", (21, 1, 30)),
+    ("instance I = literal : S { ", (21, 1, 28)),
+    ("instance I = coproduct : S", (21, 1, 24)),
+    ("instance I = delta F", (21, 1, 21)),
+    ("instance I ; J", (21, 1, 12)),
+    ("instance I [ J ]", (21, 1, 12)),
+    ("mapping F = literal : S + R", (21, 1, 25)),
+    (
+        "mapping F = literal : S -> R { entity E -> F attributes v -> lambda x y",
+        (21, 1, 71),
+    ),
+    ("schema S = getSchema \"C\"", (21, 1, 22)),
+    ("S", (21, 1, 1)),
+];
+
+/// What becomes of a text.
+fn outcome(alloc: Global, text: &str) -> Result<(u32, u32, u32), AllocError> {
+    if text.len() > 8388608 {
+        return Err(AllocError);
+    }
+    let Ok(tokens) = lex(alloc, text.as_bytes()) else {
+        return Err(AllocError);
+    };
+    match parse(alloc, tokens.as_slice()) {
+        Ok(_) => Ok((0, 0, 0)),
+        Err(ParseRefusal::Syntax(place)) => Ok((21, place.line, place.col)),
+        Err(ParseRefusal::TooDeep(place)) => Ok((22, place.line, place.col)),
+        Err(ParseRefusal::Unsupported(place, number)) => {
+            Ok((number.saturating_add(100), place.line, place.col))
+        }
+        Err(ParseRefusal::BadOption(place)) => Ok((24, place.line, place.col)),
+        Err(ParseRefusal::Memory) => Err(AllocError),
+    }
+}
+
+/// A text with `middle` so many times between its ends.
+fn around(
+    alloc: Global,
+    front: &str,
+    middle: &str,
+    count: usize,
+    back: &str,
+) -> Result<String, AllocError> {
+    let mut text = String::from_str(alloc, front)?;
+    for _ in 0..count {
+        text.push_str(middle)?;
+    }
+    text.push_str(back)?;
+    Ok(text)
+}
+
+#[test]
+fn texts_have_the_outcomes_written(rt: HostRuntime) -> Result<(), Fail> {
+    let alloc = rt.alloc();
+    for (text, wanted) in TEXTS {
+        assert_eq!(rt; outcome(alloc, text)?, wanted, "{text}");
+    }
+    Ok(())
+}
+
+#[test]
+fn the_65th_level_is_refused(rt: HostRuntime) -> Result<(), Fail> {
+    let alloc = rt.alloc();
+    let head = "instance I = literal : S { equations a = ";
+    let dotted = around(alloc, "x", ".f", 63, " }")?;
+    let deep_dotted = around(alloc, "x", ".f", 64, " }")?;
+    let closed = around(alloc, "x", ")", 63, " }")?;
+    let applied = around(alloc, head, "f(", 63, closed.as_str())?;
+    let deep_applied = around(alloc, head, "f(", 64, "x")?;
+    let half = around(alloc, "x", ")", 32, "")?;
+    let mixed = around(alloc, half.as_str(), ".f", 31, " }")?;
+    let deep_mixed = around(alloc, half.as_str(), ".f", 32, " }")?;
+    let both = around(alloc, head, "f(", 32, mixed.as_str())?;
+    let deep_both = around(alloc, head, "f(", 32, deep_mixed.as_str())?;
+    let many = around(alloc, head, "f(", 2000, "")?;
+    let dots = around(alloc, head, "", 0, dotted.as_str())?;
+    let deep_dots = around(alloc, head, "", 0, deep_dotted.as_str())?;
+    assert_eq!(rt; outcome(alloc, dots.as_str())?, (0, 0, 0), "63 dots");
+    assert_eq!(rt;
+        outcome(alloc, deep_dots.as_str())?,
+        (22, 1, 170),
+        "64 dots"
+    );
+    assert_eq!(rt;
+        outcome(alloc, applied.as_str())?,
+        (0, 0, 0),
+        "63 applications"
+    );
+    assert_eq!(rt;
+        outcome(alloc, deep_applied.as_str())?,
+        (22, 1, 170),
+        "64 applications"
+    );
+    assert_eq!(rt; outcome(alloc, both.as_str())?, (0, 0, 0), "both");
+    assert_eq!(rt;
+        outcome(alloc, deep_both.as_str())?,
+        (22, 1, 202),
+        "both, too deep"
+    );
+    assert_eq!(rt;
+        outcome(alloc, many.as_str())?,
+        (22, 1, 170),
+        "2000 applications"
+    );
+    Ok(())
+}
+
+#[test]
+fn the_65th_name_is_refused(rt: HostRuntime) -> Result<(), Fail> {
+    let alloc = rt.alloc();
+    let head = "schema S = literal : T { path_equations E.f = E";
+    let long = around(alloc, head, ".f", 63, " }")?;
+    let too_long = around(alloc, head, ".f", 64, " }")?;
+    assert_eq!(rt; outcome(alloc, long.as_str())?, (0, 0, 0), "64 names");
+    assert_eq!(rt;
+        outcome(alloc, too_long.as_str())?,
+        (22, 1, 175),
+        "65 names"
+    );
+    Ok(())
+}
