@@ -23,7 +23,7 @@ fn spot(alloc: Global, text: &str, col: u32) -> Result<Spot, AllocError> {
     })
 }
 
-fn one<T>(alloc: Global, item: T) -> Result<Seq<T>, AllocError> {
+fn one<T: Drop>(alloc: Global, item: T) -> Result<Seq<T>, AllocError> {
     let mut items = Vec::new(alloc);
     items.push(item)?;
     Ok(Seq::from_vec(items))
