@@ -1,5 +1,5 @@
 -- The whole program: what each answer of the parser says.
-use Rattle.std.proofs.Common.{◌≡◌, ◌<◌, List, [], ◌∷◌, ◌++◌, length, All, true, inl, inr, refl, sym, ap, ◌∙◌, arith, subst, append_assoc, length-append}
+use Rattle.std.proofs.Common.{◌≡◌, ◌<◌, List, [], ◌∷◌, ◌++◌, length, true, inl, inr, refl, sym, ap, ◌∙◌, arith, subst, append_assoc, length-append}
 use Rattle.cq_lex.specs.declared.token.Token.{Token}
 use Rattle.cq_lex.specs.Spans.{EndsOnce}
 use Rattle.cq_rules.specs.declared.class.Class.TheVariants as classes

@@ -1,4 +1,3 @@
-use Rattle.std.proofs.Common.{sym}
 use Rattle.std.proofs.lemmas.Result.{err_from_is_err_and}
 use Rattle.cq_parse.proofs.Raws.{term_fails, term_gives}
 use Rattle.cq_parse.proofs.equation.TermRuleProduction.read.Goals as goal
