@@ -94,7 +94,7 @@ module _ (S : Schema) (schema : IsSchema S) where
           | inr p ↦ among_args args each e p
         ])
 
-  stated_within : (name : Name) (e : ℕ) → entity_in (sort_named S name) ≡ Some e → IsEntity e
+  pub stated_within : (name : Name) (e : ℕ) → entity_in (sort_named S name) ≡ Some e → IsEntity e
   stated_within name e h = at_numbers (number_of S.typeside.types name) (number_of S.entities name) refl h
     where
       at_numbers : (o p : Option ℕ) → number_of S.entities name ≡ p → entity_in (or_else (option_map Plain o) (option_map Entity p)) ≡ Some e → IsEntity e
