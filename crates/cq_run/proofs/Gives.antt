@@ -1,8 +1,9 @@
 -- From what each step of a run gives to what the run gives.
-use Rattle.std.proofs.Common.{◌≡◌, inl, inr, ℕ, List, Option, Some, sym, ◌∙◌}
+use Rattle.std.proofs.Common.{◌≡◌, inl, inr, ℕ, List, Option, Some, sym, subst, ◌∙◌}
 use Rattle.cq_run.specs.Ask.{Ask}
 use Rattle.cq_run.specs.Answer.{IsTranscriptOf, IsRefusalOf}
 use Rattle.cq_run.specs.Clause.{IsTextOf, HasToWrite, Writes, Tells, RunGives, IsUnreadLine}
+use Rattle.cq_run.specs.Meaning.{RefusesText}
 use Rattle.cq_run.specs.Scene.{Shelf, Drain}
 use Rattle.cq_run.specs.declared.status.Status.{Status}
 use Rattle.cq_run.specs.declared.status.Status.TheVariants as status
@@ -24,7 +25,7 @@ pub transcript_gives : (asked : Option Ask) (ask : Ask) (before after : Shelf) (
     → RunGives asked before after out new_out result
 transcript_gives asked ask before after out new_out result transcript told text is tells told_is is_text prints =
     told_gives asked (Some ask) before after out new_out status.Ok result told (sym is) tells
-    (record { text = text; is_text = is_text; listing = prints.listing; means = prints.means; line_is = told_is ∙ prints.transcript_is }) (λ w. w)
+    (record { text = text; is_text = is_text; listings = prints.listings; means = prints.means; line_is = told_is ∙ prints.transcript_is }) (λ w. w)
 
 -- the text was refused
 pub refusal_gives : (asked : Option Ask) (ask : Ask) (before after : Shelf) (out new_out : Drain) (result : Status) (line told text : List ℕ)
@@ -33,7 +34,7 @@ pub refusal_gives : (asked : Option Ask) (ask : Ask) (before after : Shelf) (out
     → RunGives asked before after out new_out result
 refusal_gives asked ask before after out new_out result line told text is tells told_is is_text refusal =
     told_gives asked (Some ask) before after out new_out status.Refused result told (sym is) tells
-    (record { text = text; is_text = is_text; other = refusal.other; line_is = told_is ∙ refusal.line_is }) (λ w. w)
+    (record { text = text; is_text = is_text; refuses = subst (RefusesText text) (sym told_is) refusal.refuses }) (λ w. w)
 
 -- the file was not read
 pub unread_gives : (asked : Option Ask) (ask : Ask) (before after : Shelf) (out new_out : Drain) (result : Status) (line told : List ℕ)

@@ -1,6 +1,2 @@
-mod Combined
-mod Freedom
 mod Gives
-mod Loops
-mod Meets
-mod SmallLaws
+mod Judging

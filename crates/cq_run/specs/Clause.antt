@@ -6,9 +6,9 @@ use Rattle.cq_io.specs.Counts.{Rose}
 use Rattle.cq_io.specs.Reads.{IsLonger}
 use Rattle.cq_io.specs.Writes.{Appends, AppendsSome, LacksRoom}
 use Rattle.cq_run.specs.Ask.{Ask, run}
-use Rattle.cq_run.specs.Lines.{usage_line, refusal_line, read_line}
-use Rattle.cq_run.specs.Meaning.{Means, IsSmall, transcript_of}
-use Rattle.cq_run.specs.declared.listing.Listing.{Listing}
+use Rattle.cq_program.specs.Program.{Listing}
+use Rattle.cq_run.specs.Lines.{usage_line, read_line}
+use Rattle.cq_run.specs.Meaning.{Means, IsAcceptable, RefusesText, transcripts_of}
 use Rattle.cq_run.specs.Scene.{Shelf, Drain}
 use Rattle.cq_run.specs.declared.answer.ReadCause.{ReadCause}
 use Rattle.cq_run.specs.declared.answer.ReadCause.TheVariants.{Absent, TooLong, Failed}
@@ -29,20 +29,19 @@ IsCauseOf Absent file before after = Rose before.absences after.absences × IfSo
 IsCauseOf TooLong file before after = Rose before.overruns after.overruns × IfSome before.files (IsLonger file file_limit)
 IsCauseOf Failed file before after = Rose before.faults after.faults × (before.steady ≡ false)
 
--- the line is the transcript of what the text of the run means
+-- the line is the transcripts of the instances that the text of the run means
 pub record IsAccepted (ask : Ask) (files : Option (List File)) (line : List ℕ) : Type 0 where
   pub text : List ℕ
   pub is_text : IsTextOf ask files text
-  pub listing : Listing
-  pub means : Means text listing
-  pub line_is : line ≡ transcript_of listing
+  pub listings : List Listing
+  pub means : Means text listings
+  pub line_is : line ≡ transcripts_of listings
 
--- the text of the run isn't small, and the line says so
+-- the text of the run is refused, with this line
 pub record IsRefused (ask : Ask) (files : Option (List File)) (line : List ℕ) : Type 0 where
   pub text : List ℕ
   pub is_text : IsTextOf ask files text
-  pub other : IsSmall text → ⊥
-  pub line_is : line ≡ refusal_line
+  pub refuses : RefusesText text line
 
 -- the file was not read, for this cause, and the line says so
 pub record IsUnread (file : List ℕ) (before after : Shelf) (line : List ℕ) : Type 0 where
@@ -101,17 +100,18 @@ pub record IsToldWithin (file : List ℕ) (files : Option (List File)) (text : L
 abbrev pub HasText : Ask → Option (List File) → List ℕ → Type 0
 HasText (run file) files text = IsToldWithin file files text
 
--- the words are read, the text is there and small, no device fails, and the sink has room for the transcript
+-- the words are read, the text is there, has a meaning and breaks no rule, no device fails, and the sink has room for
+-- the transcripts
 pub record CanSucceed (ask : Option Ask) (before : Shelf) (out : Drain) : Type 0 where
   pub wanted : Ask
   pub asked : ask ≡ Some wanted
   pub text : List ℕ
   pub there : HasText wanted before.files text
-  pub small : IsSmall text
+  pub acceptable : IsAcceptable text
   pub folder : before.steady ≡ true
   pub room : ℕ
   pub spare : out.spare ≡ Some room
-  pub fits : (listing : Listing) → Means text listing → length (transcript_of listing) ≤ room
+  pub fits : (listings : List Listing) → Means text listings → length (transcripts_of listings) ≤ room
 
 -- such a run succeeds, or has no memory
 abbrev pub Succeeds : Option Ask → Shelf → Drain → Status → Type 0

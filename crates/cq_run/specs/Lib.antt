@@ -1,10 +1,7 @@
+pub mod Status
 pub mod Ask
 pub mod Scene
 pub mod Lines
 pub mod Meaning
 pub mod Clause
 pub mod Answer
-pub mod Status
-pub mod Small
-pub mod Gives
-pub mod SmallParts

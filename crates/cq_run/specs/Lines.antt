@@ -6,10 +6,6 @@ use Rattle.cq_run.specs.declared.answer.ReadCause.TheVariants.{Absent, TooLong, 
 abbrev pub usage_line : List ℕ
 usage_line = codes "usage: cqlrun run FILE [--depth K] [--only csv|cql]\n"
 
--- of a text in a form that isn't built
-abbrev pub refusal_line : List ℕ
-refusal_line = codes "refused 1:1 90 NotBuilt\n"
-
 abbrev pub cause_word : ReadCause → List ℕ
 cause_word Absent = codes " absent\n"
 cause_word TooLong = codes " too long\n"

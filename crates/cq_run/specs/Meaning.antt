@@ -1,127 +1,86 @@
--- What a small text means.
-use Rattle.std.specs.Prelude.{◌≡◌, ◌&&◌, not, nat_le, nat_lt, ℕ, Bool, true, false, List, [], Option, None, length}
-use Rattle.std.specs.List.{list_all}
-use Rattle.cq_base.specs.declared.name.Name.{Name}
-use Rattle.cq_base.specs.Names.{same_name}
+-- What a text means, and why another one is refused.
+use Rattle.std.specs.Prelude.{◌≡◌, ℕ, List, [], ◌∷◌, codes, decimal}
+use Rattle.std.specs.List.{flat_map}
+use Rattle.cq_base.specs.declared.place.Place.{Place}
 use Rattle.cq_lex.specs.declared.token.Token.{Token}
-use Rattle.cq_lex.specs.Tokens.{Tokens}
-use Rattle.cq_rules.specs.Rule.{Spells}
-use Rattle.cq_theory.specs.declared.lookup.TheoryRefusal.{TheoryRefusal}
-use Rattle.cq_theory.specs.declared.presentation.Presentation.{Presentation}
-use Rattle.cq_theory.specs.declared.presentation.Sort.{Sort}
-use Rattle.cq_theory.specs.declared.presentation.Sort.TheVariants.{Plain, Entity}
-use Rattle.cq_theory.specs.SchemaData.{SchemaData}
-use Rattle.cq_theory.specs.TypesideData.{TypesideData}
-use Rattle.cq_theory.specs.TypesideParts.{typeside_fault, typeside_made}
-use Rattle.cq_theory.specs.SchemaParts.{schema_fault, schema_made}
-use Rattle.cq_theory.specs.Parts.{presentation_fault, presented}
-use Rattle.cq_model.specs.Listed.{IsListed}
+use Rattle.cq_lex.specs.declared.refusal.LexRefusal.{LexRefusal}
+use Rattle.cq_lex.specs.declared.refusal.LexRefusal.TheVariants as lexical
+use Rattle.cq_lex.specs.Tokens as lex
+use Rattle.cq_syntax.specs.declared.program.Program.{Program}
+use Rattle.cq_syntax.specs.Program.{IsProgram, FitsLimits}
+use Rattle.cq_parse.specs.declared.refusal.ParseRefusal.{ParseRefusal}
+use Rattle.cq_parse.specs.declared.refusal.ParseRefusal.TheVariants as grammatical
+use Rattle.cq_parse.specs.Parsed.{RefusedWith}
+use Rattle.cq_program.specs.declared.reason.Reason.{Reason}
+use Rattle.cq_program.specs.Lines.{line_of, reason_line}
+use Rattle.cq_program.specs.Program as program
+use Rattle.cq_program.specs.Program.{Breaks, Listing}
 use Rattle.cq_text.specs.Transcript as text
-use Rattle.cq_run.specs.declared.listing.Listing.{Listing}
-use Rattle.cq_run.specs.declared.small.Small.{Small}
-use Rattle.cq_run.specs.declared.small.SmallTypeside.{SmallTypeside}
-use Rattle.cq_run.specs.declared.small.SmallSchema.{SmallSchema}
-use Rattle.cq_run.specs.declared.small.SmallInstance.{SmallInstance}
-use Rattle.cq_run.specs.Small.{small}
-use Rattle.cq_run.specs.SmallParts.{pairs_of, edges_of, typeside_parts, schema_parts}
 
--- the tokens of the text are those of a small text with this tree
-pub record IsTreeOf (text : List ℕ) (tree : Small) : Type 0 where
+-- the depth to which models are made
+abbrev pub depth : ℕ
+depth = 16
+
+-- the tokens spell this program, which keeps the limits
+abbrev pub IsTreeIn : List Token → Program → Type 0
+IsTreeIn tokens tree = IsProgram tokens tree × FitsLimits tree
+
+-- the text is that of this program
+pub record IsTreeOf (bytes : List ℕ) (tree : Program) : Type 0 where
   pub tokens : List Token
-  pub lexed : Tokens text tokens
-  pub spelled : Spells small tokens tree
+  pub lexed : lex.Tokens bytes tokens
+  pub spelled : IsTreeIn tokens tree
 
--- The schema names the typeside and the instance the schema, and the three declared names differ.
-abbrev pub names_fit : Small → Bool
-names_fit s =
-    same_name s.schema.typeside s.typeside.name && same_name s.instance.schema s.schema.name
-    && not (same_name s.typeside.name s.schema.name) && not (same_name s.typeside.name s.instance.name) && not (same_name s.schema.name s.instance.name)
+-- what a text means: the instances of its program, listed
+unfoldable pub Means : List ℕ → List Listing → Type 0
+Means bytes L = (tree : Program) × IsTreeOf bytes tree × program.Means tree L
 
--- the typeside that the tree gives, and the first rule that its parts break
-unfoldable pub typeside_of : SmallTypeside → TypesideData
-typeside_of tree = typeside_made (typeside_parts tree)
+abbrev pub transcript_of : Listing → List ℕ
+transcript_of L = text.transcript_of L.name L.schema L.instance
 
-unfoldable pub typeside_refusal : SmallTypeside → Option TheoryRefusal
-typeside_refusal tree = typeside_fault (typeside_parts tree)
+-- the transcripts of the instances, in order
+unfoldable pub transcripts_of : List Listing → List ℕ
+transcripts_of L = flat_map transcript_of L
 
--- the schema over a typeside
-unfoldable pub schema_of : TypesideData → SmallSchema → SchemaData
-schema_of T tree = schema_made T (schema_parts tree)
+-- the line of a text that has no tokens
+abbrev pub lex_line : LexRefusal → List ℕ
+lex_line (lexical.BadByte place) = line_of place 11 (codes "BadByte") []
+lex_line (lexical.OpenText place) = line_of place 12 (codes "OpenText") []
+lex_line (lexical.OpenComment place) = line_of place 13 (codes "OpenComment") []
+lex_line (lexical.LongName place) = line_of place 14 (codes "LongName") []
+lex_line lexical.Memory = []
 
-unfoldable pub schema_refusal : TypesideData → SmallSchema → Option TheoryRefusal
-schema_refusal T tree = schema_fault T (schema_parts tree)
+-- the line of tokens that are no program within the limits
+abbrev pub parse_line : ParseRefusal → List ℕ
+parse_line (grammatical.Syntax place) = line_of place 21 (codes "Syntax") []
+parse_line (grammatical.TooDeep place) = line_of place 22 (codes "TooDeep") []
+parse_line (grammatical.Unsupported place number) = line_of place 23 (codes "Unsupported") (decimal number ∷ [])
+parse_line (grammatical.BadOption place) = line_of place 24 (codes "BadOption") []
+parse_line grammatical.Memory = []
 
--- the presentation over a schema
-unfoldable pub presentation_of : SchemaData → SmallInstance → Presentation
-presentation_of S tree = presented S (pairs_of tree.generators) []
+-- the program breaks a rule, and the line tells the first, at its place
+pub record BreaksRule (tree : Program) (line : List ℕ) : Type 0 where
+  pub place : Place
+  pub reason : Reason
+  pub breaks : Breaks depth tree place reason
+  pub line_is : line ≡ reason_line place reason
 
-unfoldable pub presentation_refusal : SchemaData → SmallInstance → Option TheoryRefusal
-presentation_refusal S tree = presentation_fault S (pairs_of tree.generators) []
+-- the tokens are no program within the limits, and the line tells the first that decides; or it breaks a rule
+pub data RefusesTokens (tokens : List Token) (line : List ℕ) : Type 0 where
+  no_tree : (refusal : ParseRefusal) → RefusedWith tokens refusal → line ≡ parse_line refusal → RefusesTokens tokens line
+  broken : (tree : Program) → IsTreeIn tokens tree → BreaksRule tree line → RefusesTokens tokens line
 
-abbrev pub is_entity : Sort → Bool
-is_entity (Plain type) = false
-is_entity (Entity entity) = true
+-- the text has no tokens, and the line tells the first fault; or the tokens are refused
+pub data RefusesText (bytes line : List ℕ) : Type 0 where
+  no_tokens : (refusal : LexRefusal) → lex.Refuses [] bytes refusal → line ≡ lex_line refusal → RefusesText bytes line
+  no_program : (tokens : List Token) → lex.Tokens bytes tokens → RefusesTokens tokens line → RefusesText bytes line
 
-abbrev pub entities_alone : Presentation → Bool
-entities_alone P = list_all (λ g. is_entity g.1) P.generators
+-- the program has a meaning, and breaks no rule
+pub record IsSound (tree : Program) : Type 0 where
+  pub listings : List Listing
+  pub means : program.Means tree listings
+  pub unbroken : (place : Place) (reason : Reason) → Breaks depth tree place reason → ⊥
 
--- both lists have fewer than 2 ^ 31 members, as those of a file of 8 MiB always do
-abbrev pub are_few : ℕ → ℕ → Bool
-are_few first second = nat_lt first 2147483648 && nat_lt second 2147483648
-
--- no part breaks a rule
-pub record TypesideMeets (tree : SmallTypeside) : Type 0 where
-  pub few : are_few (length tree.types) (length (pairs_of tree.constants)) ≡ true
-  pub rules : typeside_refusal tree ≡ None
-
-pub record SchemaMeets (T : TypesideData) (tree : SmallSchema) : Type 0 where
-  pub few : are_few (length tree.entities) (length (edges_of tree.attributes)) ≡ true
-  pub rules : schema_refusal T tree ≡ None
-
--- no foreign keys and no equations
-pub record IsBare (S : SchemaData) : Type 0 where
-  pub keys : S.keys ≡ []
-  pub path_eqs : S.path_eqs ≡ []
-  pub obs_eqs : S.obs_eqs ≡ []
-
--- no part breaks a rule, and the generators are of entities and at most 200,000
-pub record InstanceMeets (S : SchemaData) (tree : SmallInstance) : Type 0 where
-  pub few : nat_le (length (pairs_of tree.generators)) 200000 ≡ true
-  pub rules : presentation_refusal S tree ≡ None
-  pub rows : entities_alone (presentation_of S tree) ≡ true
-
--- the same of a schema and an instance over a typeside
-pub record OverMeets (T : TypesideData) (schema : SmallSchema) (instance : SmallInstance) : Type 0 where
-  pub over : SchemaMeets T schema
-  pub within : InstanceMeets (schema_of T schema) instance
-
--- the names fit, and no part breaks a rule
-pub record MeetsRules (s : Small) : Type 0 where
-  pub names : names_fit s ≡ true
-  pub typeside : TypesideMeets s.typeside
-  pub others : OverMeets (typeside_of s.typeside) s.schema s.instance
-
--- the text is small
-unfoldable pub IsSmall : List ℕ → Type 0
-IsSmall text = (s : Small) × IsTreeOf text s × MeetsRules s
-
--- The listing of an instance over a schema of this name: the listed model of its presentation.
-pub record ListsIn (schema_name : Name) (S : SchemaData) (tree : SmallInstance) (L : Listing) : Type 0 where
-  pub name : L.name ≡ tree.name
-  pub schema_named : L.schema_name ≡ schema_name
-  pub schema : L.instance.schema ≡ S
-  pub presentation : L.instance.presentation ≡ presentation_of S tree
-  pub listed : IsListed L.instance
-
-abbrev pub ListsOver : TypesideData → SmallSchema → SmallInstance → Listing → Type 0
-ListsOver T schema instance L = ListsIn schema.name (schema_of T schema) instance L
-
-abbrev pub ListsTree : Small → Listing → Type 0
-ListsTree s L = ListsOver (typeside_of s.typeside) s.schema s.instance L
-
--- what a small text means
-unfoldable pub Means : List ℕ → Listing → Type 0
-Means text L = (s : Small) × IsTreeOf text s × MeetsRules s × ListsTree s L
-
-unfoldable pub transcript_of : Listing → List ℕ
-transcript_of L = text.transcript_of L.name L.schema_name L.instance
+-- the same of a text
+unfoldable pub IsAcceptable : List ℕ → Type 0
+IsAcceptable bytes = (tree : Program) × IsTreeOf bytes tree × IsSound tree

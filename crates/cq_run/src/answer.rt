@@ -11,7 +11,7 @@ use std::alloc::{AllocError, Global};
 /// What is to be written, by what became of the file.
 #[derive(Drop)]
 pub enum Answer {
-    /// The transcript.
+    /// The transcripts.
     Accepted(Vec<u8>),
     /// The line of a refused text.
     Refused(Vec<u8>),
@@ -40,7 +40,7 @@ pub fn answer_to<F: Folder>(alloc: Global, file: &str, folder: &mut F) -> Answer
         result }
 {
     match folder.read(file, FILE_LIMIT) {
-        Ok(text) => judge(alloc, text.as_slice()),
+        Ok(text) => judge(alloc, text.as_slice(), folder),
         Err(ReadRefusal::Absent) => unread(alloc, file, ReadCause::Absent),
         Err(ReadRefusal::TooLong) => unread(alloc, file, ReadCause::TooLong),
         Err(ReadRefusal::Failed) => unread(alloc, file, ReadCause::Failed),

@@ -1,49 +1,132 @@
-//! What is to be written for a text.
-ghost use Rattle.std.specs.Prelude.{◌≡◌, ◌≤◌, ◌^◌, length, IfOk, MatchOption};
-ghost use Rattle.cq_run.specs.Answer.{Judges};
-ghost use Rattle.cq_run.specs.Meaning.{IsSmall, Means};
+//! What is to be written for a text: the transcripts of its instances, or the line of the first rule that it breaks.
+ghost use Rattle.std.specs.Prelude.{◌≡◌, ◌≤◌, ◌^◌, ◌++◌, ◌∷◌, length, map, codes, decimal, [], IfOk, OnOk};
+ghost use Rattle.cq_lex.specs.Spans.{EndsOnce};
+ghost use Rattle.cq_program.specs.Lines.{line_of};
+ghost use Rattle.cq_program.specs.Named.{listed_as};
+ghost use Rattle.cq_run.specs.Answer.{Judges, JudgesProgram, JudgesTokens, SaysRefused, TellsLex, TellsParse};
+ghost use Rattle.cq_run.specs.Meaning.{transcript_of, transcripts_of};
 
 use crate::answer::Answer;
-use crate::listing::Listing;
-use crate::meaning::listing_of;
-use crate::tree::tree_of;
+use cq_base::Place;
+use cq_io::Folder;
+use cq_lex::{LexRefusal, Token, lex};
+use cq_parse::{ParseRefusal, parse};
+use cq_program::{Named, ProgramRefusal, has_few_parts, meaning, numbered_line, refusal_line};
+use cq_syntax::Program;
 use cq_text::transcript;
 use std::alloc::{AllocError, Global};
 
-/// The transcript of what the text means, or the line of a text that isn't small.
-#[tactic(auto, unfolding(crate::specs::Meaning::transcript_of))]
-pub fn judge(alloc: Global, text: &[u8]) -> Answer
+/// The depth to which models are made.
+const DEPTH: u32 = 16;
+
+/// The transcripts of what the text means, or the line of its first fault.
+pub fn judge<F: Folder>(alloc: Global, text: &[u8], folder: &mut F) -> Answer
     requires { length text.now ≤ 2 ^ 23 }
-    ensures { Judges text.now result }
+    ensures judges { Judges text.now result }
+    ensures unread { folder.new ≡ folder.old }
 {
-    match meaning_of(alloc, text) {
-        Err(AllocError) => Answer::Memory,
-        Ok(None) => match Vec::from_slice(alloc, b"refused 1:1 90 NotBuilt\n") {
-            Ok(line) => Answer::Refused(line),
-            Err(_) => Answer::Memory,
-        },
-        Ok(Some(listing)) => {
-            let Listing {
-                name,
-                schema_name,
-                instance,
-            } = listing;
-            match transcript(alloc, &name, &schema_name, &instance) {
-                Ok(text) => Answer::Accepted(text),
-                Err(_) => Answer::Memory,
-            }
-        }
+    match lex(alloc, text) {
+        Ok(tokens) => judge_tokens(alloc, tokens.as_slice(), folder),
+        Err(refusal) => lex_refusal(alloc, refusal),
     }
 }
 
-/// What the text means; none where it isn't small.
-#[tactic(auto, unfolding(crate::specs::Meaning::IsSmall, crate::specs::Meaning::Means))]
-fn meaning_of(alloc: Global, text: &[u8]) -> Result<Option<Listing>, AllocError>
-    requires { length text.now ≤ 2 ^ 23 }
-    ensures { IfOk result (λ found. MatchOption found (IsSmall text.now → ⊥) (Means text.now)) }
+/// The same for the tokens of a text.
+fn judge_tokens<F: Folder>(alloc: Global, tokens: &[Token], folder: &mut F) -> Answer
+    requires { EndsOnce tokens.now }
+    ensures judges { JudgesTokens tokens.now result }
+    ensures unread { folder.new ≡ folder.old }
 {
-    match tree_of(alloc, text)? {
-        Some(tree) => listing_of(alloc, tree),
-        None => Ok(None),
+    match parse(alloc, tokens) {
+        Ok(tree) => judge_program(alloc, &tree, folder),
+        Err(refusal) => parse_refusal(alloc, refusal),
+    }
+}
+
+/// The same for a program.
+fn judge_program<F: Folder>(alloc: Global, program: &Program, folder: &mut F) -> Answer
+    ensures judges { JudgesProgram program.now result }
+    ensures unread { folder.new ≡ folder.old }
+{
+    if !has_few_parts(program) {
+        return Answer::Memory;
+    }
+    match meaning(alloc, program, folder, DEPTH) {
+        Ok(named) => match transcripts(alloc, named.as_slice()) {
+            Ok(text) => Answer::Accepted(text),
+            Err(_) => Answer::Memory,
+        },
+        Err(ProgramRefusal::Broken(place, reason)) => match reason.line(alloc, place) {
+            Ok(line) => Answer::Refused(line),
+            Err(_) => Answer::Memory,
+        },
+        Err(_) => Answer::Memory,
+    }
+}
+
+/// The transcripts of instances, in order.
+#[tactic(auto, unfolding(crate::specs::Meaning::transcripts_of))]
+fn transcripts(alloc: Global, instances: &[Named]) -> Result<Vec<u8>, AllocError>
+    ensures { IfOk result (λ text. text.items ≡ transcripts_of (map listed_as instances.now)) }
+{
+    let mut text = Vec::new(alloc);
+    for named in instances {
+        push_transcript(alloc, named, &mut text)?;
+    }
+    Ok(text)
+}
+
+/// Appends the transcript of an instance.
+fn push_transcript(alloc: Global, named: &Named, text: &mut Vec<u8>) -> Result<(), AllocError>
+    ensures { OnOk result (text.new.items ≡ text.old.items ++ transcript_of (listed_as named.now)) }
+{
+    let own = transcript(alloc, &named.name, &named.schema, &named.instance)?;
+    text.extend_from_slice(own.as_slice())?;
+    Ok(())
+}
+
+/// The line of a text that has no tokens.
+fn lex_refusal(alloc: Global, refusal: LexRefusal) -> Answer
+    ensures { TellsLex refusal result }
+{
+    match refusal {
+        LexRefusal::BadByte(place) => refused(alloc, place, 11, "BadByte"),
+        LexRefusal::OpenText(place) => refused(alloc, place, 12, "OpenText"),
+        LexRefusal::OpenComment(place) => refused(alloc, place, 13, "OpenComment"),
+        LexRefusal::LongName(place) => refused(alloc, place, 14, "LongName"),
+        LexRefusal::Memory => Answer::Memory,
+    }
+}
+
+/// The line of tokens that are no program within the limits.
+fn parse_refusal(alloc: Global, refusal: ParseRefusal) -> Answer
+    ensures { TellsParse refusal result }
+{
+    match refusal {
+        ParseRefusal::Syntax(place) => refused(alloc, place, 21, "Syntax"),
+        ParseRefusal::TooDeep(place) => refused(alloc, place, 22, "TooDeep"),
+        ParseRefusal::Unsupported(place, number) => unsupported(alloc, place, number),
+        ParseRefusal::BadOption(place) => refused(alloc, place, 24, "BadOption"),
+        ParseRefusal::Memory => Answer::Memory,
+    }
+}
+
+/// The line of a word that is left out, with its number.
+fn unsupported(alloc: Global, place: Place, number: u32) -> Answer
+    ensures { SaysRefused (line_of place 23 (codes "Unsupported") (decimal number ∷ [])) result }
+{
+    match numbered_line(alloc, place, 23, "Unsupported", number) {
+        Ok(line) => Answer::Refused(line),
+        Err(_) => Answer::Memory,
+    }
+}
+
+/// The line of a refusal.
+fn refused(alloc: Global, place: Place, code: u8, name: &str) -> Answer
+    ensures { SaysRefused (line_of place code name.now []) result }
+{
+    match refusal_line(alloc, place, code, name) {
+        Ok(line) => Answer::Refused(line),
+        Err(_) => Answer::Memory,
     }
 }

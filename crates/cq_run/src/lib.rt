@@ -1,17 +1,10 @@
-//! The top call: reads the words and the file, and writes the transcript.
+//! The top call: reads the words and the file, and writes the transcripts.
 #![tactic(auto)]
 
 mod answer;
-mod halt;
 mod judge;
-mod listing;
-mod meaning;
-mod parts;
-mod reader;
-mod small;
 mod status;
 mod top;
-mod tree;
 mod words;
 
 pub use status::Status;

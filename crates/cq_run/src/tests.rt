@@ -6,8 +6,6 @@ use std::test::Fail;
 
 const USAGE: &str = "usage: cqlrun run FILE [--depth K] [--only csv|cql]\n";
 
-const NOT_BUILT: &str = "refused 1:1 90 NotBuilt\n";
-
 fn words(alloc: Global, texts: &[&str]) -> Result<Vec<String>, AllocError> {
     let mut words = Vec::new(alloc);
     for text in texts {
@@ -38,7 +36,7 @@ schema S = literal : T { entities E attributes x : E -> s }
 instance I = literal : S { generators a b : E }
 ";
 
-static CASES: [Case; 14] = [
+static CASES: [Case; 20] = [
     Case {
         words: &["run"],
         text: FIRST,
@@ -94,37 +92,73 @@ lines */ z : D -> n}instance I = literal : S { generators c : D a : E b : D }",
         words: RUN,
         text: "typeside T = literal { types s } schema S = literal : T { entities E } instance I = literal : S { generators a : Q }",
         status: Status::Refused,
-        written: NOT_BUILT,
+        written: "refused 1:110 42 Unknown\n",
     },
     Case {
         words: RUN,
         text: "typeside T = literal { types s } schema S = literal : T { entities E } instance I = literal : S { generators a : s }",
         status: Status::Refused,
-        written: NOT_BUILT,
+        written: "refused 1:72 90 NotBuilt\n",
     },
     Case {
         words: RUN,
         text: "typeside T = literal { types s s } schema S = literal : T { } instance I = literal : S { }",
         status: Status::Refused,
-        written: NOT_BUILT,
+        written: "refused 1:32 41 Duplicate\n",
     },
     Case {
         words: RUN,
         text: "typeside T = literal { } schema S = literal : R { } instance I = literal : S { }",
         status: Status::Refused,
-        written: NOT_BUILT,
+        written: "refused 1:47 32 Unknown\n",
     },
     Case {
         words: RUN,
         text: "typeside T = literal { } schema S = literal : T { } instance S = literal : S { }",
         status: Status::Refused,
-        written: NOT_BUILT,
+        written: "refused 1:62 31 Duplicate\n",
     },
     Case {
         words: RUN,
         text: "typeside T = literal { } @",
         status: Status::Refused,
-        written: NOT_BUILT,
+        written: "refused 1:26 11 BadByte\n",
+    },
+    Case {
+        words: RUN,
+        text: "typeside T = literal { } transform T = identity T",
+        status: Status::Refused,
+        written: "refused 1:26 90 NotBuilt\n",
+    },
+    Case {
+        words: RUN,
+        text: "typeside T = literal { } schema S = literal : T { } instance I = literal : T { generators a : E }",
+        status: Status::Refused,
+        written: "refused 1:76 33 WrongKind\n",
+    },
+    Case {
+        words: RUN,
+        text: "schema",
+        status: Status::Refused,
+        written: "refused 1:7 21 Syntax\n",
+    },
+    Case {
+        words: RUN,
+        text: "typeside T = literal { } constraints C = literal : S { }",
+        status: Status::Refused,
+        written: "refused 1:26 23 Unsupported 1\n",
+    },
+    Case {
+        words: RUN,
+        text: "options foo = 1",
+        status: Status::Refused,
+        written: "refused 1:9 24 BadOption\n",
+    },
+    Case {
+        words: RUN,
+        text: "",
+        status: Status::Ok,
+        written: "",
     },
 ];
 
@@ -164,7 +198,7 @@ fn devices_that_fail(rt: HostRuntime) -> Result<(), Fail> {
 fn a_file_at_the_limit_and_past_it(rt: HostRuntime) -> Result<(), Fail> {
     let alloc = rt.alloc();
     let words = words(alloc, RUN)?;
-    for (length, written) in [(8388608, NOT_BUILT), (8388609, "read p.cql too long\n")] {
+    for (length, written) in [(8388608, ""), (8388609, "read p.cql too long\n")] {
         let mut files = Vec::new(alloc);
         let blanks = vec![in alloc; b' '; length]?;
         files.push((String::from_str(alloc, "p.cql")?, blanks))?;

@@ -11,9 +11,10 @@ use std::alloc::Global;
 
 const USAGE: &str = "usage: cqlrun run FILE [--depth K] [--only csv|cql]\n";
 
-/// Runs the words: reads the file that they name from `folder`, and writes its transcript, or the line that says
-/// why there is none, to `out`, in one write. What each status says stands with the clause `gives`; a run over
-/// devices that don't fail, of a text that is small, ends with `Ok` or for want of memory (the clause `complete`).
+/// Runs the words: reads the file that they name from `folder`, and writes the transcripts of its instances, or the
+/// line that says why there are none, to `out`, in one write. What each status says stands with the clause `gives`; a run
+/// over devices that don't fail, of a text that has a meaning and breaks no rule, ends with `Ok` or for want of
+/// memory (the clause `complete`).
 pub fn run<F: Folder, K: Sink>(
     alloc: Global,
     words: &[String],
