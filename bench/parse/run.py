@@ -46,10 +46,10 @@ fn file_of(alloc: Global, kind: u64, size: usize) -> Result<String, AllocError> 
         _ => ("", "(", ""),
     };
     text.push_str(head)?;
-    let mut written = head.len().saturating_add(tail.len());
-    while written.saturating_add(item.len()) <= size {
+    let ends = head.len().saturating_add(tail.len());
+    let count = size.saturating_sub(ends) / item.len().max(1);
+    for _ in 0..count {
         text.push_str(item)?;
-        written = written.saturating_add(item.len());
     }
     text.push_str(tail)?;
     Ok(text)
