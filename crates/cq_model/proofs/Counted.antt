@@ -40,7 +40,7 @@ module _ (owners sources targets : List ℕ) (entities : ℕ) where
   rows_at : (e : ℕ) → e < entities → slice_index_or rows e [] ≡ positions owners e
   rows_at e within = get_or-map-range_with_len (positions owners) 0 entities e e [] within (omega arith)
 
-  attributes_at : (e : ℕ) → e < entities → slice_index_or attributes e [] ≡ positions sources e
+  pub attributes_at : (e : ℕ) → e < entities → slice_index_or attributes e [] ≡ positions sources e
   attributes_at e within = get_or-map-range_with_len (positions sources) 0 entities e e [] within (omega arith)
 
   abbrev type_of_cell : Cell → ℕ
@@ -60,7 +60,7 @@ module _ (owners sources targets : List ℕ) (entities : ℕ) where
       (λ e is. let inside : e < n = in_range n e is in entity_types_are e (omega arith))
       ∙ sym (map-flat_map type_of_cell (entity_cells owners sources) (below n))
 
-  first_is : (e : ℕ) → e < entities → slice_index firsts e ≡ length (cells owners sources e)
+  pub first_is : (e : ℕ) → e < entities → slice_index firsts e ≡ length (cells owners sources e)
   first_is e within =
       get_or-map-range_with_len (λ n. length (types rows attributes targets n)) 0 entities e e 0 within (omega arith)
       ∙ ap length (types_are e (omega arith)) ∙ length-map (cells owners sources e) type_of_cell

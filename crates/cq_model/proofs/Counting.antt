@@ -1,5 +1,6 @@
 -- What loops over entities and attributes count out, one step on.
-use Rattle.std.proofs.Common.{ℕ, List, [], ◌∷◌, ◌++◌, Some, ◌≡◌, ◌≢◌, ◌≤◌, ◌<◌, ◌+◌, ◌*◌, ◌^◌, ◌==◌, if◌then◌else◌, inl, inr, map, take, length, get_or, slice_set, slice_index, slice_index_or, false, refl, sym, ap, ◌∙◌, arith, eq-eqb}
+use Rattle.std.proofs.Common.{ℕ, Bool, true, List, [], ◌∷◌, ◌++◌, Some, ◌≡◌, ◌≢◌, ◌≤◌, ◌<◌, ◌+◌, ◌*◌, ◌^◌, ◌==◌, if◌then◌else◌, inl, inr, map, take, length, get_or, slice_set, slice_index, slice_index_or, false, refl, sym, ap, ◌∙◌, arith, eq-eqb, length-append, append_assoc}
+use Rattle.std.proofs.Math.Seq.{get_or-append_seam}
 use Rattle.std.specs.Prelude.{slice_get}
 use Rattle.std.specs.List.{flat_map}
 use Rattle.std.proofs.lemmas.Bool.{cases_eq, ne_eqb}
@@ -10,7 +11,7 @@ use Rattle.std.proofs.lemmas.Option.{slice_get-get_or}
 use Rattle.cq_theory.specs.Canonical.{below}
 use Rattle.cq_theory.specs.declared.value.Value.TheVariants.{Null}
 use Rattle.cq_model.specs.Numbering.{positions, rank, entity_types, types, starts, column_from}
-use Rattle.cq_model.proofs.Lists.{range-append}
+use Rattle.cq_model.proofs.Lists.{range-append, map-append}
 use Rattle.cq_model.proofs.Ranks.{positions-append, rank_more, rank_zero}
 
 -- a write at one number turns what f gives below n into what g gives
@@ -40,6 +41,32 @@ grouped_more count n member members groups group are within is member_within gro
     (λ k other.
     let unlike : (member == k) ≡ false = ne_eqb member k (λ same. other (sym same)) in
     sym (append-nil (positions (take n members) k)) ∙ ap (λ b. positions (take n members) k ++ (if b then n ∷ [] else [])) (sym unlike) ∙ sym (one_more k))
+
+-- one empty list more
+pub empties_more : {X : Type 0} (n : ℕ) → map (λ (_ : ℕ). let none : List X = [] in none) (below (n + 1)) ≡ map (λ (_ : ℕ). let none : List X = [] in none) (below n) ++ [] ∷ []
+empties_more n = map-range_with_len_more (λ (_ : ℕ). []) 0 n n (omega arith)
+
+mapped_if : {X : Type 0} (f : ℕ → X) (b : Bool) (n : ℕ) → map f (if b then n ∷ [] else []) ≡ (if b then f n ∷ [] else [])
+mapped_if f true n = refl
+mapped_if f false n = refl
+
+-- what f gives at a number is put at the end of the number's group
+pub mapped_more : {X : Type 0} (f : ℕ → X) (count n member : ℕ) (members : List ℕ) (groups : List (List X)) (group : List X) → groups ≡ map (λ e. map f (positions (take n members) e)) (below count)
+    → n < length members → member ≡ get_or members n 0 → member < count → group ≡ get_or groups member [] ++ f n ∷ [] → slice_set groups member group ≡ map (λ e. map f (positions (take (n + 1) members) e)) (below count)
+mapped_more f count n member members groups group are within is member_within group_is =
+    let longer : take (n + 1) members ≡ take n members ++ member ∷ [] = take_more members n 0 within ∙ ap (λ m. take n members ++ m ∷ []) (sym is) in
+    let size : length (take n members) ≡ n = length-take-le n members (omega arith) in
+    let one_more : (e : ℕ) → map f (positions (take (n + 1) members) e) ≡ map f (positions (take n members) e) ++ (if member == e then f n ∷ [] else []) =
+    λ e. ap (λ l. map f (positions l e)) longer ∙ ap (map f) (positions-append (take n members) member e) ∙ map-append f (positions (take n members) e) (if member == e then length (take n members) ∷ [] else [])
+        ∙ ap (λ m. map f (positions (take n members) e) ++ map f (if member == e then m ∷ [] else [])) size ∙ ap (λ l. map f (positions (take n members) e) ++ l) (mapped_if f (member == e) n) in
+    let before : get_or groups member [] ≡ map f (positions (take n members) member) =
+    ap (λ l. get_or l member []) are ∙ get_or-map-range_with_len (λ e. map f (positions (take n members) e)) 0 count member member [] member_within (omega arith) in
+    ap (λ l. slice_set l member group) are
+    ∙ set-map_below (λ e. map f (positions (take n members) e)) (λ e. map f (positions (take (n + 1) members) e)) count member group member_within
+    (group_is ∙ ap (λ l. l ++ f n ∷ []) before ∙ ap (λ b. map f (positions (take n members) member) ++ (if b then f n ∷ [] else [])) (sym (eq-eqb member member refl)) ∙ sym (one_more member))
+    (λ k other.
+    let unlike : (member == k) ≡ false = ne_eqb member k (λ same. other (sym same)) in
+    sym (append-nil (map f (positions (take n members) k))) ∙ ap (λ b. map f (positions (take n members) k) ++ (if b then f n ∷ [] else [])) (sym unlike) ∙ sym (one_more k))
 
 -- the first number of each entity, and of each entity after an attribute more
 pub firsts_none : (firsts sources : List ℕ) (n : ℕ) → length firsts ≡ n → firsts ≡ map (λ e. slice_index firsts e + rank sources e 0) (below n)
@@ -88,3 +115,17 @@ module _ (rows attributes : List (List ℕ)) (targets : List ℕ) (n : ℕ) wher
 
   pub starts_more : starts rows attributes targets (n + 1) ≡ starts rows attributes targets n ++ length (types rows attributes targets n) ∷ []
   starts_more = map-range_with_len_more (λ e. length (types rows attributes targets e)) 0 n n (omega arith)
+
+-- what an iterator over a list gives next
+module _ {X : Type 0} (before rest after all : List X) (x : X) (n : ℕ) (parts : before ++ rest ≡ all) (next : rest ≡ x ∷ after) (place : n ≡ length before) where
+  whole : before ++ x ∷ after ≡ all
+  whole = ap (λ (l : List X). before ++ l) (sym next) ∙ parts
+
+  pub next_inside : n < length all
+  next_inside = omega (arith, place, ap length whole, length-append before (x ∷ after))
+
+  pub next_is : (d : X) → get_or all n d ≡ x
+  next_is d = (λ i. get_or (sym whole i) (place i) d) ∙ get_or-append_seam before x after d
+
+  pub next_parts : (before ++ x ∷ []) ++ after ≡ all
+  next_parts = append_assoc before (x ∷ []) after ∙ whole

@@ -18,7 +18,7 @@ use Rattle.cq_model.specs.Numbering.{positions}
 use Rattle.cq_model.specs.Free.{IsFree, entity_in, owners, sources, generator_term, free_names, free_tables}
 use Rattle.cq_model.proofs.Ranks.{positions_at}
 use Rattle.cq_model.proofs.FreeModel.{All_at, All_from, get-map_from, free_assignment, owner_within, attribute_at}
-use Rattle.cq_model.proofs.FreeHolds.{well_formed}
+use Rattle.cq_model.proofs.FreeHolds.{well_formed, holds}
 use Rattle.cq_model.proofs.FreeListed.{counted, lists, lists-names}
 
 module _ (S : SchemaData) (P : Presentation) (schema : IsSchema S) (free : IsFree S P) where
@@ -33,7 +33,7 @@ module _ (S : SchemaData) (P : Presentation) (schema : IsSchema S) (free : IsFre
 
   -- the free model
   abbrev pub free_instance : InstanceData
-  free_instance = record { schema = S; presentation = P; names = free_names S P; tables = free_tables S P }
+  free_instance = record { schema = S; presentation = P; names = free_names S P; tables = free_tables S P; assignment = free_assignment S P schema free }
 
   entity_named : (e : ℕ) → All (IsName free_instance) (map generator_term (positions (owners P) e))
   entity_named e = All_from (IsName free_instance) (map generator_term (positions (owners P) e)) (λ row t h.
@@ -51,7 +51,9 @@ module _ (S : SchemaData) (P : Presentation) (schema : IsSchema S) (free : IsFre
     named = All_from (λ names. All (IsName free_instance) names) (free_names S P) (λ place names h.
         let e = get-map_from (λ e. map generator_term (positions (owners P) e)) (below (length S.entities)) place names h in
         subst (λ (l : List EntTerm). All (IsName free_instance) l) e.2 (entity_named e.0));
+    assigned = (holds S P schema free).count;
+    sorts = (holds S P schema free).sorts;
   }
 
   pub is_listed : IsListed free_instance
-  is_listed = record { assignment = free_assignment S P schema free; lists = lists S P schema free; least = lists-names S P schema free }
+  is_listed = record { lists = lists S P schema free; least = lists-names S P schema free }

@@ -50,7 +50,7 @@ generator_alike : (n : ℕ) → is_gt (term_cmp (generator_term n) (generator_te
 generator_alike n = ap (λ o. is_gt (ordering_then (nat_cmp 0 0) (ordering_then o Equal))) (nat_cmp_same n)
 
 -- the numbers of the edges from an entity are the positions of the entity among the sources
-edge_numbers : (s : ℕ) (edges : List Edge) (e : ℕ)
+pub edge_numbers : (s : ℕ) (edges : List Edge) (e : ℕ)
     → map (λ (p : ℕ × Edge). p.0) (filter (λ (p : ℕ × Edge). p.1.from == e) (enumerate_from s edges)) ≡ positions_from s (map (λ (edge : Edge). edge.from) edges) e
 edge_numbers s [] e = refl
 edge_numbers s (edge ∷ edges) e =

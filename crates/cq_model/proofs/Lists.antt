@@ -20,17 +20,17 @@ get-map f (y ∷ ys) (suc n) x h = get-map f ys n x h
 pub in_map : {X Y : Type 0} (f : X → Y) (x : X) (xs : List X) → IsIn x xs → IsIn (f x) (map f xs)
 in_map f x xs h = record { place = h.place; is = get-map f xs h.place x h.is }
 
-get-append : {X : Type 0} (xs ys : List X) (n : ℕ) (y : X) → slice_get ys n ≡ Some y → slice_get (xs ++ ys) (length xs + n) ≡ Some y
+pub get-append : {X : Type 0} (xs ys : List X) (n : ℕ) (y : X) → slice_get ys n ≡ Some y → slice_get (xs ++ ys) (length xs + n) ≡ Some y
 get-append [] ys n y h = let here : 0 + n ≡ n = omega arith in ap (slice_get ys) here ∙ h
 get-append (x ∷ xs) ys n y h = let there : suc (length xs) + n ≡ suc (length xs + n) = omega arith in ap (slice_get (x ∷ (xs ++ ys))) there ∙ get-append xs ys n y h
 
-get-append_front : {X : Type 0} (xs ys : List X) (n : ℕ) (x : X) → slice_get xs n ≡ Some x → slice_get (xs ++ ys) n ≡ Some x
+pub get-append_front : {X : Type 0} (xs ys : List X) (n : ℕ) (x : X) → slice_get xs n ≡ Some x → slice_get (xs ++ ys) n ≡ Some x
 get-append_front [] ys n x h = cc
 get-append_front (y ∷ xs) ys zero x h = h
 get-append_front (y ∷ xs) ys (suc n) x h = get-append_front xs ys n x h
 
 -- what stands in an append stands in one of its parts
-in_append : {X : Type 0} (P : Type 0) (xs ys : List X) (n : ℕ) (x : X) → slice_get (xs ++ ys) n ≡ Some x → (IsIn x xs → P) → (IsIn x ys → P) → P
+pub in_append : {X : Type 0} (P : Type 0) (xs ys : List X) (n : ℕ) (x : X) → slice_get (xs ++ ys) n ≡ Some x → (IsIn x xs → P) → (IsIn x ys → P) → P
 in_append P [] ys n x h left right = right (record { place = n; is = h })
 in_append P (y ∷ xs) ys zero x h left right = left (record { place = 0; is = h })
 in_append P (y ∷ xs) ys (suc n) x h left right = in_append P xs ys n x h (λ (i : IsIn x xs). left (record { place = suc i.place; is = i.is })) right

@@ -1,16 +1,19 @@
 -- What contracts see of an instance.
-use Rattle.std.specs.Prelude.{ℕ, List, [], ◌≡◌, ◌<◌, All, length, slice_index_or}
+use Rattle.std.specs.Prelude.{ℕ, List, [], ◌≡◌, ◌<◌, All, Some, length, slice_get, slice_index_or}
 use Rattle.cq_theory.specs.declared.presentation.Presentation.{Presentation}
 use Rattle.cq_theory.specs.declared.term.EntTerm.{EntTerm}
 use Rattle.cq_theory.specs.SchemaData.{SchemaData}
-use Rattle.cq_theory.specs.Tables.{Tables, count_of, IsWellFormed}
+use Rattle.cq_base.specs.declared.name.Name.{Name}
+use Rattle.cq_theory.specs.declared.presentation.Sort.{Sort}
+use Rattle.cq_theory.specs.Tables.{Tables, Assignment, AtRow, count_of, IsWellFormed, HasSort}
 
--- a schema, the presentation that is modelled, the name of each row by entity, and the tables
+-- a schema, the presentation that is modelled, the name of each row by entity, the tables, and what each generator stands for
 pub record InstanceData : Type 0 where
   pub schema : SchemaData
   pub presentation : Presentation
   pub names : List (List EntTerm)
   pub tables : Tables
+  pub assignment : Assignment
 
 -- the names of an entity's rows
 abbrev pub names_at : List (List EntTerm) → ℕ → List EntTerm
@@ -24,9 +27,12 @@ name_at names entity row = slice_index_or (names_at names entity) row (record { 
 abbrev pub IsName : InstanceData → EntTerm → Type 0
 IsName i t = (t.generator < length i.presentation.generators) × All (λ k. k < length i.schema.keys) t.path
 
--- the tables are well formed over the schema, and each row has a name over the presentation
+-- the tables are well formed over the schema, each row has a name over the presentation, and each generator stands for
+-- something of its sort
 pub record IsInstance (i : InstanceData) : Type 0 where
   pub well_formed : IsWellFormed i.schema i.tables
   pub entities : length i.names ≡ length i.schema.entities
   pub counted : (entity : ℕ) → length (names_at i.names entity) ≡ count_of i.tables entity
   pub named : All (λ names. All (IsName i) names) i.names
+  pub assigned : length i.assignment ≡ length i.presentation.generators
+  pub sorts : (n : ℕ) (g : Name × Sort) → slice_get i.presentation.generators n ≡ Some g → HasSort i.schema i.tables g.1 (slice_index_or i.assignment n (AtRow 0))

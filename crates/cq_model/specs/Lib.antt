@@ -2,3 +2,14 @@ pub mod InstanceData
 pub mod Listed
 pub mod Free
 pub mod Numbering
+pub mod Closed
+pub mod LeastNames
+pub mod NodeTerms
+pub mod Built
+pub mod Walking
+pub mod RowNumbers
+pub mod NodeListData
+pub mod Pushing
+pub mod Equating
+pub mod LeafPlaces
+pub mod Standing

@@ -1,5 +1,9 @@
 //! The listed model of a free presentation.
-ghost use Rattle.std.specs.Prelude.{◌≡◌, ◌<◌, ◌^◌, map, length, All, IfOk};
+ghost use Rattle.std.specs.Prelude.{◌≡◌, ◌<◌, ◌^◌, map, length, slice_index, All, IfOk};
+ghost use Rattle.cq_theory.specs.Canonical.{below};
+ghost use Rattle.cq_theory.specs.Tables.{AtRow};
+ghost use Rattle.cq_model.specs.Numbering.{rank};
+ghost use Rattle.cq_model.specs.Standing.{meaning};
 ghost use Rattle.cq_theory.specs.Presentation.{IsPresentation};
 ghost use Rattle.cq_model.specs.Free.{IsFree, entity_in, generator_term, names_over, sheet_over, algebra_over};
 ghost use Rattle.cq_model.specs.Listed.{IsListed};
@@ -7,6 +11,7 @@ ghost use Rattle.cq_model.specs.Listed.{IsListed};
 use crate::groups::grouped;
 use crate::instance::Instance;
 use crate::nulls::{count_nulls, null_columns};
+use crate::standing::Standing;
 use cq_base::{Name, Seq};
 use cq_theory::{Algebra, Edge, EntTerm, Presentation, Schema, Sheet, Sort};
 use std::alloc::{AllocError, Global};
@@ -33,14 +38,14 @@ fn owners(alloc: Global, generators: &[(Name, Sort)]) -> Result<Vec<u32>, AllocE
 }
 
 /// The entity of each attribute.
-fn sources(alloc: Global, attributes: &[Edge]) -> Result<Vec<u32>, AllocError>
+pub(crate) fn sources(alloc: Global, attributes: &[Edge]) -> Result<Vec<u32>, AllocError>
     ensures { IfOk result (λ sources. sources.items ≡ map (λ edge. edge.from) attributes.now) }
 {
     attributes.iter().map(|edge| edge.from).collect(alloc)
 }
 
 /// The type of each attribute.
-fn targets(alloc: Global, attributes: &[Edge]) -> Result<Vec<u32>, AllocError>
+pub(crate) fn targets(alloc: Global, attributes: &[Edge]) -> Result<Vec<u32>, AllocError>
     ensures { IfOk result (λ targets. targets.items ≡ map (λ edge. edge.to) attributes.now) }
 {
     attributes.iter().map(|edge| edge.to).collect(alloc)
@@ -81,6 +86,23 @@ fn generator_terms(alloc: Global, numbers: &[u32]) -> Result<Seq<EntTerm>, Alloc
         })?;
     }
     Ok(Seq::from_vec(terms))
+}
+
+/// Each generator stands for a row: that of its number among those of its entity.
+fn standings(alloc: Global, entities: usize, owners: &[u32]) -> Result<Seq<Standing>, AllocError>
+    requires owners { All (λ e. e < entities) owners.now }
+    requires few { length owners.now < 2 ^ 32 }
+    ensures { IfOk result (λ standings. map meaning standings ≡ map (λ n. AtRow (rank owners.now (slice_index owners.now n) n)) (below (length owners.now))) }
+{
+    let mut counts = vec![in alloc; 0u32; entities]?;
+    let mut standings = Vec::with_capacity(alloc, owners.len())?;
+    for owner in owners {
+        let entity = *owner as usize;
+        let row = counts[entity];
+        standings.push(Standing::Row(row))?;
+        counts[entity] = row + 1;
+    }
+    Ok(Seq::from_vec(standings))
 }
 
 /// The names, the sheet and the algebra of a free model.
@@ -160,12 +182,14 @@ pub fn build_free(
         sources.as_slice(),
         targets.as_slice(),
     )?;
+    let standings = standings(alloc, entities, owners.as_slice())?;
     Ok(Instance::from_parts(
         schema,
         presentation,
         parts.names,
         parts.sheet,
         parts.algebra,
+        standings,
     ))
 }
 

@@ -20,7 +20,7 @@ pub fn grouped(alloc: Global, count: usize, members: &[u32]) -> Result<Seq<Seq<u
 }
 
 /// That many empty lists.
-fn empty_groups(alloc: Global, count: usize) -> Result<Vec<Vec<u32>>, AllocError>
+pub fn empty_groups<T: Drop>(alloc: Global, count: usize) -> Result<Vec<Vec<T>>, AllocError>
     ensures { IfOk result (λ groups. map (λ group. group.items) groups.items ≡ map (λ _. []) (below count)) }
 {
     let mut groups = Vec::new(alloc);
@@ -31,10 +31,10 @@ fn empty_groups(alloc: Global, count: usize) -> Result<Vec<Vec<u32>>, AllocError
 }
 
 /// The same lists, each as a list of its own.
-fn sealed(alloc: Global, groups: Vec<Vec<u32>>) -> Result<Seq<Seq<u32>>, AllocError>
+pub fn sealed<T: Drop>(alloc: Global, groups: Vec<Vec<T>>) -> Result<Seq<Seq<T>>, AllocError>
     ensures { IfOk result (λ lists. lists ≡ map (λ group. group.items) groups.items) }
 {
-    let lists: Vec<Seq<u32>> = groups
+    let lists: Vec<Seq<T>> = groups
         .into_iter()
         .map(|group| Seq::from_vec(group))
         .collect(alloc)?;

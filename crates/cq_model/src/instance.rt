@@ -1,15 +1,22 @@
 //! Instances, and what is read from them.
-ghost use Rattle.std.specs.Prelude.{◌≡◌, ◌<◌, ◌^◌, length, IfSome, slice_get};
-ghost use Rattle.cq_theory.specs.Tables.{count_of, key_at, cell_at};
+ghost use Rattle.std.specs.Prelude.{ℕ, ◌≡◌, ◌<◌, ◌^◌, map, length, IfSome, IfOk, Some, slice_get, slice_index_or};
+ghost use Rattle.cq_theory.specs.declared.term.Term.TheVariants.{Ent, Typ};
+ghost use Rattle.cq_theory.specs.Sorts.{entity_of, IsGround};
+ghost use Rattle.cq_theory.specs.Tables.{AtRow, count_of, key_at, cell_at, row_of as row_named, value_of as value_meant};
 ghost use Rattle.cq_model.specs.InstanceData.{IsInstance, name_at};
+ghost use Rattle.cq_model.specs.Standing.{meaning};
 
+use crate::application::applied;
+use crate::standing::{Standing, row_in, value_in};
+use crate::values::copied;
 use cq_base::Seq;
-use cq_theory::{Algebra, EntTerm, Presentation, Schema, Sheet, Value};
+use cq_theory::{Algebra, EntTerm, Presentation, Schema, Sheet, TypeTerm, Value};
+use std::alloc::{AllocError, Global};
 use std::marker::Model;
 use std::rc::Rc;
 
 /// A model of a presentation over a schema: the rows of each entity with their least names, the columns of
-/// foreign keys and attributes, the nulls and the entries of functions.
+/// foreign keys and attributes, the nulls and the entries of functions, and what each generator stands for.
 #[derive(Drop)]
 pub struct Instance {
     schema: Rc<Schema>,
@@ -17,13 +24,16 @@ pub struct Instance {
     names: Seq<Seq<EntTerm>>,
     sheet: Sheet,
     algebra: Algebra,
+    standings: Seq<Standing>,
 }
 
 impl Model for Instance {
     ghost use Rattle.std.specs.Coded.{codes};
     ghost use Rattle.cq_theory.specs.contracts.term.TypeTerm as type_term;
     ghost use Rattle.cq_theory.specs.contracts.value.Value as value;
+    ghost use Rattle.std.specs.Prelude.{map};
     ghost use Rattle.cq_model.specs.InstanceData.{InstanceData, IsInstance};
+    ghost use Rattle.cq_model.specs.Standing.{meaning};
 
     ghost Value = { InstanceData };
 
@@ -34,6 +44,7 @@ impl Model for Instance {
       presentation = i.presentation;
       names = i.names;
       tables = record { sheet = i.sheet; algebra = i.algebra };
+      assignment = map meaning i.standings;
     } };
 
     ghost invariant = { λ i. IsInstance (record {
@@ -41,6 +52,7 @@ impl Model for Instance {
       presentation = i.presentation;
       names = i.names;
       tables = record { sheet = i.sheet; algebra = i.algebra };
+      assignment = map meaning i.standings;
     }) };
 }
 
@@ -52,9 +64,10 @@ impl Instance {
         names: Seq<Seq<EntTerm>>,
         sheet: Sheet,
         algebra: Algebra,
+        standings: Seq<Standing>,
     ) -> Instance
-        requires { IsInstance (record { schema = schema.value; presentation = presentation; names = names; tables = record { sheet = sheet; algebra = algebra } }) }
-        ensures { result ≡ record { schema = schema.value; presentation = presentation; names = names; tables = record { sheet = sheet; algebra = algebra } } }
+        requires { IsInstance (record { schema = schema.value; presentation = presentation; names = names; tables = record { sheet = sheet; algebra = algebra }; assignment = map meaning standings }) }
+        ensures { result ≡ record { schema = schema.value; presentation = presentation; names = names; tables = record { sheet = sheet; algebra = algebra }; assignment = map meaning standings } }
     {
         Instance {
             schema,
@@ -62,6 +75,7 @@ impl Instance {
             names,
             sheet,
             algebra,
+            standings,
         }
     }
 
@@ -133,5 +147,51 @@ impl Instance {
     {
         let names = &self.names.as_slice()[entity as usize];
         &names.as_slice()[row as usize]
+    }
+
+    /// What a generator stands for.
+    fn standing(&self, generator: u32) -> &Standing
+        requires { generator < length self.now.presentation.generators }
+        ensures instance { IsInstance self.now }
+        ensures stands { meaning result.now ≡ slice_index_or self.now.assignment generator (AtRow 0) }
+    {
+        &self.standings.as_slice()[generator as usize]
+    }
+
+    /// The row that an entity term over the presentation names.
+    pub fn row_of(&self, term: &EntTerm) -> u32
+        requires { IsGround self.now.schema self.now.presentation (Ent term.now) }
+        ensures row { result ≡ row_named self.now.tables self.now.assignment term.now }
+        ensures within { (entity : ℕ) → entity_of self.now.schema self.now.presentation.generators term.now ≡ Some entity → result < count_of self.now.tables entity }
+    {
+        let path = term.path.as_slice();
+        let mut row = row_in(self.standing(term.generator));
+        for key in path {
+            row = self.key(*key, row);
+        }
+        row
+    }
+
+    /// The value of a type term over the presentation. A function without an entry for its arguments gives the value that is
+    /// built of them.
+    pub fn value_of(&self, alloc: Global, term: &TypeTerm) -> Result<Value, AllocError>
+        requires { IsGround self.now.schema self.now.presentation (Typ term.now) }
+        ensures { IfOk result (λ value. value ≡ value_meant self.now.tables self.now.assignment term.now) }
+    {
+        match term {
+            TypeTerm::Gen(generator) => value_in(alloc, self.standing(*generator)),
+            TypeTerm::Const(constant) => Ok(Value::Const(*constant)),
+            TypeTerm::Att(attribute, term) => copied(
+                alloc,
+                self.cell(*attribute, self.row_of(term)),
+            ),
+            TypeTerm::Fun(function, args) => {
+                let mut values = Vec::new(alloc);
+                for arg in args.as_slice() {
+                    values.push(self.value_of(alloc, arg)?)?;
+                }
+                applied(alloc, self.algebra.entries.as_slice(), *function, values)
+            }
+        }
     }
 }

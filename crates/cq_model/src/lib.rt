@@ -1,10 +1,20 @@
 //! Instances: the models of presentations, with their rows, cells, nulls and entries.
 #![tactic(auto)]
 
+mod application;
 pub mod free;
 pub mod groups;
 pub mod instance;
+pub mod laws;
 pub mod nulls;
+pub mod numbers;
+pub mod places;
+pub mod reading;
+mod standing;
+pub mod transform;
+mod values;
+pub mod walk;
 
 pub use free::build_free;
 pub use instance::Instance;
+pub use transform::{Image, Transform};

@@ -1,0 +1,9 @@
+use Rattle.std.proofs.Common.{◌≡◌, map, take}
+use Rattle.std.specs.List.{enumerate_from}
+use Rattle.cq_flat.specs.Values.{value_at}
+use Rattle.cq_model.specs.LeastNames.{rows_at}
+use Rattle.cq_model.specs.NodeTerms.{cell_place}
+use Rattle.cq_model.proofs.reading.cell_columns.Given as goal
+
+abbrev pub invariant-loop-attribute : goal.invariant-loop-attribute
+invariant-loop-attribute l = l.columns.items ≡ map (λ a. map (λ r. value_at l.flat.values (cell_place l.places r a.0)) (rows_at l.order a.1.from)) (enumerate_from 0 (take l.attribute l.attributes))

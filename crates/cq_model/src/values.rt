@@ -1,0 +1,58 @@
+//! Copies of values.
+ghost use Rattle.std.specs.Prelude.{◌≡◌, IfOk};
+
+use cq_base::Seq;
+use cq_theory::{Entry, Value};
+use std::alloc::{AllocError, Global};
+
+/// The same value.
+pub fn copied(alloc: Global, value: &Value) -> Result<Value, AllocError>
+    ensures { IfOk result (λ made. made ≡ value.now) }
+{
+    match value {
+        Value::Const(constant) => Ok(Value::Const(*constant)),
+        Value::Null(label) => Ok(Value::Null(*label)),
+        Value::Fun(function, args) => {
+            let mut made = Vec::new(alloc);
+            for arg in args.as_slice() {
+                made.push(copied(alloc, arg)?)?;
+            }
+            Ok(Value::Fun(*function, Seq::from_vec(made)))
+        }
+    }
+}
+
+/// The same values.
+fn copied_values(alloc: Global, values: &[Value]) -> Result<Seq<Value>, AllocError>
+    ensures { IfOk result (λ made. made ≡ values.now) }
+{
+    let mut made = Vec::new(alloc);
+    for value in values {
+        made.push(copied(alloc, value)?)?;
+    }
+    Ok(Seq::from_vec(made))
+}
+
+/// The same entry.
+fn copied_entry(alloc: Global, entry: &Entry) -> Result<Entry, AllocError>
+    ensures { IfOk result (λ made. made ≡ entry.now) }
+{
+    let args = copied_values(alloc, entry.args.as_slice())?;
+    let value = copied(alloc, &entry.value)?;
+    Ok(Entry {
+        function: entry.function,
+        args,
+        value,
+    })
+}
+
+/// The same entries.
+pub fn copied_entries(alloc: Global, entries: &[Entry]) -> Result<Seq<Entry>, AllocError>
+    ensures { IfOk result (λ made. made ≡ entries.now) }
+{
+    let mut made = Vec::new(alloc);
+    for entry in entries {
+        made.push(copied_entry(alloc, entry)?)?;
+    }
+    Ok(Seq::from_vec(made))
+}
