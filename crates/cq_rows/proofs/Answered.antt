@@ -1,22 +1,16 @@
 -- What the end of a stage says of the schema and the presentation.
-use Rattle.std.proofs.Common.{◌≡◌, ℕ, ◌<◌, ◌≤◌, true, List, length, map, Option, Some, None, IsSome, refl, sym, ◌∙◌, ap, arith}
+use Rattle.std.proofs.Common.{◌≡◌, ℕ, List, Option, Some, None, sym, ◌∙◌, ap}
 use Rattle.std.proofs.lemmas.List.{length-map}
-use Rattle.std.proofs.lemmas.Option.{none-some, slice_get_within}
-use Rattle.std.specs.Prelude.{slice_get, slice_index, option_and_then}
-use Rattle.cq_tables.specs.Content.{Content, live_of}
-use Rattle.cq_tables.specs.Content.{entity_of as row_entity}
-use Rattle.cq_theory.specs.declared.presentation.Equation.TheVariants.{Ent as EntEquation}
+use Rattle.std.proofs.lemmas.Option.{none-some}
+use Rattle.std.specs.Prelude.{slice_get, option_and_then}
+use Rattle.cq_tables.specs.Content.{Content}
 use Rattle.cq_theory.specs.declared.presentation.Presentation.{Presentation}
 use Rattle.cq_theory.specs.SchemaData.{SchemaData}
-use Rattle.cq_theory.specs.declared.term.EntTerm.{EntTerm}
-use Rattle.cq_theory.specs.declared.term.Term.TheVariants.{Ent}
-use Rattle.cq_theory.specs.Sorts.{entity_of, entity_at}
-use Rattle.cq_theory.specs.Derivation.{Within}
 use Rattle.cq_rows.specs.Theory.{IsTheory}
 use Rattle.cq_rows.specs.Plain.{theory_of, generator_entity}
 use Rattle.cq_rows.specs.Rows.{row_of_term}
 use Rattle.cq_rows.specs.Rows as rows
-use Rattle.cq_rows.specs.Saturated.{HasEntries, OneRowIsEqual, AllTraced, WithinIsOneRow, IsName, AllNamed, PathEquationsHold, EntityEquationsHold, NoneCloses, SomeWide}
+use Rattle.cq_rows.specs.Saturated.{HasEntries, OneRowIsEqual, AllTraced, WithinIsOneRow, AllNamed, PathEquationsHold, EntityEquationsHold, NoneCloses, SomeWide}
 use Rattle.cq_rows.specs.Stage.{IsStage}
 use Rattle.cq_rows.proofs.Bridge.{sort_same, start_same, tree, from_within, closes_plain, wide_tree, is_given}
 use Rattle.cq_rows.proofs.Stages.{stage_sound, within_one_row, have_rows}

@@ -1,10 +1,10 @@
 -- Derivations as trees, and the equations between entity terms as one family: they prove the same.
-use Rattle.std.proofs.Common.{◌≡◌, ℕ, ◌+◌, ◌<◌, ◌≤◌, Bool, List, [], ◌∷◌, ◌++◌, length, get_or, map, take, Option, Some, None, IsSome, All, cond, eqb, refl, sym, ◌∙◌, ap, subst, arith, ⊎_elim, inl, inr}
+use Rattle.std.proofs.Common.{◌≡◌, ℕ, ◌+◌, ◌<◌, ◌≤◌, List, [], ◌∷◌, length, get_or, take, Option, Some, None, cond, eqb, refl, sym, ◌∙◌, ap, subst, arith, ⊎_elim}
 use Rattle.std.proofs.lemmas.Bool.{cases_eq, eq-eqb, ne_eqb}
 use Rattle.std.proofs.lemmas.List.{get_or-take, length-take-le}
 use Rattle.std.proofs.lemmas.List.Elements.{All-from_get_or}
 use Rattle.std.proofs.lemmas.Option.{none-some, same_Some, slice_get-map, slice_get-get_or}
-use Rattle.std.specs.Prelude.{slice_get, option_and_then, option_map, AllPairs}
+use Rattle.std.specs.Prelude.{slice_get, option_and_then, option_map}
 use Rattle.cq_base.specs.declared.name.Name.{Name}
 use Rattle.cq_tables.specs.Content.{step_of, end_of}
 use Rattle.cq_theory.specs.declared.presentation.Sort.{Sort}
@@ -13,14 +13,13 @@ use Rattle.cq_theory.specs.declared.presentation.Equation.{Equation}
 use Rattle.cq_theory.specs.declared.presentation.Equation.TheVariants.{Ent as EntEquation, Typ as TypEquation}
 use Rattle.cq_theory.specs.declared.presentation.Presentation.{Presentation}
 use Rattle.cq_theory.specs.declared.schema.Edge.{Edge}
-use Rattle.cq_theory.specs.declared.schema.PathEq.{PathEq}
 use Rattle.cq_theory.specs.SchemaData.{SchemaData}
 use Rattle.cq_theory.specs.declared.term.EntTerm.{EntTerm}
 use Rattle.cq_theory.specs.declared.term.Term.{Term}
 use Rattle.cq_theory.specs.declared.term.Term.TheVariants.{Ent, Typ}
 use Rattle.cq_theory.specs.EntTerm.{depth_of}
 use Rattle.cq_theory.specs.Sorts.{followed, target_of, entity_at, entity_of, IsGround}
-use Rattle.cq_theory.specs.Derivation.{Derivation, reflexivity, symmetry, transitivity, key as key_rule, attribute, function, given as given_rule, path_equation, observation, Concludes, IsWithin, left_of, right_of, Derives as TreeDerives, Within as TreeWithin}
+use Rattle.cq_theory.specs.Derivation.{Derivation, reflexivity, symmetry, transitivity, key as key_rule, attribute, function, given as given_rule, path_equation, observation, Concludes, IsWithin, left_of, right_of, Within as TreeWithin}
 use Rattle.cq_theory.specs.Closing.{Closes as TreeCloses, MoreClassesThan}
 use Rattle.cq_rows.specs.Theory.{Theory, Proves, reflexive, symmetric, transitive, key, given, rule, along, sort_of, Fits, Within, Closes, IsWide}
 use Rattle.cq_rows.specs.Plain.{theory_of, ends_of, generator_entity, entity_sides}

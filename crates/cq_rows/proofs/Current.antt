@@ -1,5 +1,5 @@
 -- The row that each row is now.
-use Rattle.std.proofs.Common.{◌≡◌, ◌≢◌, ℕ, ◌+◌, ◌<◌, ◌≤◌, true, List, [], ◌∷◌, ◌++◌, length, get_or, map, refl, sym, ◌∙◌, ap, arith, ⊎_elim, inl, inr, length-append}
+use Rattle.std.proofs.Common.{◌≡◌, ◌≢◌, ℕ, ◌+◌, ◌<◌, ◌≤◌, true, List, [], ◌∷◌, ◌++◌, length, get_or, map, refl, sym, ◌∙◌, ap, arith, inl, inr, length-append}
 use Rattle.std.proofs.lemmas.Bool.{cases_lt}
 use Rattle.std.proofs.lemmas.List.{get_or-map, length-map, get_or_default, get_or_past, map-append, ext_get_or, get_or_append_left, get_or_push}
 use Rattle.std.proofs.lemmas.List.Elements.{Contains-append_right}
@@ -9,7 +9,6 @@ use Rattle.cq_tables.specs.Changes.{Renames, moved}
 use Rattle.cq_rows.specs.declared.entries.Entries.{Entries}
 use Rattle.cq_rows.specs.Entries.{row_now, rows_of, pair_now, pairs_now, IsCurrent, IsBehind}
 use Rattle.cq_rows.specs.Rows.{moved_pair, Extends}
-use Rattle.cq_rows.proofs.Cells.{live_made}
 use Rattle.cq_rows.proofs.Renaming.{moved_other, was_live}
 
 pub row_now-past : (now : List ℕ) (r : ℕ) → length now ≤ r → row_now now r ≡ r

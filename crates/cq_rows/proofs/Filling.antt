@@ -6,7 +6,7 @@ use Rattle.std.proofs.lemmas.List.Elements.{All-get_or}
 use Rattle.std.specs.Prelude.{All, slice_get, slice_index, IsSome, is_some}
 use Rattle.cq_tables.specs.Content.{Content, made_of, live_of, entity_of, cell_of, step_of, IsWhole, keys_of}
 use Rattle.cq_tables.specs.Changes.{AddsRow, SetsCell}
-use Rattle.cq_rows.specs.Theory.{Term, Theory, reflexive, along, sort_of, Derives, IsTheory}
+use Rattle.cq_rows.specs.Theory.{Term, Theory, reflexive, along, sort_of, Derives}
 use Rattle.cq_rows.specs.Rows.{IsSound, Extends, KeepsSound, FillsCell, FillsRow, RowFilled, IsCellOf}
 use Rattle.cq_rows.proofs.Cells.{live_made, below_or_at}
 use Rattle.cq_rows.proofs.Sorts.{sort-along, end_one}

@@ -1,11 +1,11 @@
 -- What stands at the end of each stage.
-use Rattle.std.proofs.Common.{◌≡◌, ℕ, zero, suc, ◌+◌, ◌<◌, ◌≤◌, Bool, true, false, List, [], ◌∷◌, ◌++◌, length, get_or, Option, Some, None, refl, sym, ◌∙◌, ap, arith, ⊎_elim, inl, inr, length-append}
+use Rattle.std.proofs.Common.{◌≡◌, ℕ, zero, suc, ◌+◌, ◌<◌, ◌≤◌, Bool, true, false, List, [], ◌∷◌, ◌++◌, length, Option, Some, None, refl, sym, ◌∙◌, ap, arith, ⊎_elim, inl, inr, length-append}
 use Rattle.std.proofs.lemmas.Bool.{false≢true, cases_lt}
-use Rattle.std.proofs.lemmas.Option.{none-some, same_Some, slice_get_within, option_and_then_some, slice_get-get_or}
+use Rattle.std.proofs.lemmas.Option.{none-some, same_Some, slice_get_within, option_and_then_some}
 use Rattle.std.specs.Prelude.{slice_get, slice_index, option_and_then, IsSome, MatchBool}
 use Rattle.cq_tables.specs.Content.{Content, live_of, entity_of, cell_of, step_of, end_of, trace_of, IsWhole, keys_of, entities_of}
 use Rattle.cq_rows.specs.Theory.{Term, Theory, Proves, reflexive, symmetric, transitive, key, given, rule, along, generator_term, sort_of, Within, Closes, IsTheory}
-use Rattle.cq_rows.specs.Rows.{IsSound, HaveRows, IsImage, IsSame, FillsAll, AllFilled, IsCellOf, row_of_term, RulesHold, GivenHold, HasBegun, IsName, AllNamed, AllTraced, OneRowIsEqual}
+use Rattle.cq_rows.specs.Rows.{IsSound, HaveRows, IsImage, IsSame, FillsAll, AllFilled, IsCellOf, row_of_term, RulesHold, GivenHold, HasBegun, IsName, OneRowIsEqual}
 use Rattle.cq_rows.specs.Stage.{IsGrown, IsStage}
 use Rattle.cq_rows.proofs.Cells.{below_or_at}
 use Rattle.cq_rows.proofs.Sorts.{sorted_at, sort_from, sort-along, end_one, one_end, end_split, generator_sort}

@@ -1,11 +1,11 @@
 -- A well-sorted schema and a presentation over it, as what speaks of entity terms.
-use Rattle.std.proofs.Common.{◌≡◌, ℕ, ◌<◌, ◌^◌, List, length, get_or, map, Option, Some, None, All, refl, sym, ◌∙◌, ap, arith}
+use Rattle.std.proofs.Common.{◌≡◌, ℕ, ◌<◌, List, length, map, Some, All, sym, ◌∙◌, ap}
 use Rattle.std.proofs.lemmas.List.{length-map}
 use Rattle.std.proofs.lemmas.List.Elements.{All-get_or, All-map}
 use Rattle.std.proofs.lemmas.Option.{none-some, same_Some, slice_get-map, slice_get_within, get_or_from_slice_get}
-use Rattle.std.specs.Prelude.{slice_get, option_map}
+use Rattle.std.specs.Prelude.{slice_get}
 use Rattle.cq_base.specs.declared.name.Name.{Name}
-use Rattle.cq_tables.specs.Content.{step_of, end_of}
+use Rattle.cq_tables.specs.Content.{step_of}
 use Rattle.cq_theory.specs.declared.presentation.Sort.{Sort}
 use Rattle.cq_theory.specs.declared.presentation.Sort.TheVariants.{Plain, Entity}
 use Rattle.cq_theory.specs.declared.presentation.Equation.TheVariants.{Ent as EntEquation}
@@ -15,8 +15,8 @@ use Rattle.cq_theory.specs.SchemaData.{SchemaData}
 use Rattle.cq_theory.specs.declared.term.EntTerm.{EntTerm}
 use Rattle.cq_theory.specs.Schema.{IsSchema, IsPathEq}
 use Rattle.cq_theory.specs.Presentation.{IsPresentation, IsSort, IsEquation as IsSorted}
-use Rattle.cq_theory.specs.Sorts.{followed, entity_of}
-use Rattle.cq_rows.specs.Theory.{Rule, IsTheory, IsRule, IsEquation, sort_of}
+use Rattle.cq_theory.specs.Sorts.{entity_of}
+use Rattle.cq_rows.specs.Theory.{Rule, IsTheory, IsRule, IsEquation}
 use Rattle.cq_rows.specs.Plain.{theory_of, ends_of, generator_entity, entity_in}
 use Rattle.cq_rows.proofs.Bridge.{has_key, step_same, end_same, sort_same, given_is, map_some}
 

@@ -1,5 +1,4 @@
-use Rattle.std.proofs.Common.{◌≡◌, ◌<◌, ◌∷◌, ◌++◌, [], length, get_or, Some, None, map, sym, ap, ◌∙◌, arith}
-use Rattle.std.specs.Prelude.{slice_get}
+use Rattle.std.proofs.Common.{◌∙◌, arith}
 use Rattle.cq_rows.specs.Plain.{theory_of}
 use Rattle.cq_rows.proofs.Beginning.{HasRows-none, HasRows-more, HasRows-other, found_entity, found_type}
 use Rattle.cq_rows.proofs.grow.begin.Goals as goal

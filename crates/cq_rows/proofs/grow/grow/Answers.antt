@@ -1,4 +1,4 @@
-use Rattle.std.proofs.Common.{◌≡◌, ◌+◌, length, refl, sym, ap, ◌∙◌, arith}
+use Rattle.std.proofs.Common.{◌+◌, length, refl, sym, ap, ◌∙◌, arith}
 use Rattle.cq_rows.specs.Entries.{rows_of}
 use Rattle.cq_rows.proofs.Current.{IsBehind-start, IsBehind-extended}
 use Rattle.cq_rows.specs.Plain.{theory_of}

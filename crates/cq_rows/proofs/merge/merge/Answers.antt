@@ -1,9 +1,9 @@
-use Rattle.cq_tables.specs.Content.{keys_of, live_of}
-use Rattle.std.proofs.Common.{◌≡◌, ◌≢◌, ◌∷◌, [], ◌++◌, length, map, ◌∙◌, sym, ap, arith, refl}
+use Rattle.cq_tables.specs.Content.{keys_of}
+use Rattle.std.proofs.Common.{◌≡◌, ◌≢◌, ◌∷◌, [], ◌++◌, length, ◌∙◌, arith, refl}
 use Rattle.std.proofs.lemmas.Grind.{common_steps}
 use Rattle.cq_tables.specs.Changes.{given_pairs}
 use Rattle.cq_rows.specs.Entries.{rows_of, pairs_now}
-use Rattle.cq_rows.proofs.Merging.{IsMerging, IsMerging-start, IsMerging-next, IsMerging-end, IsMerging-fewer, popped, IsPopped-pair, IsPopped-made, IsPopped-directed, IsPopped-same, directed_apart, falls_renamed}
+use Rattle.cq_rows.proofs.Merging.{IsMerging-start, IsMerging-next, IsMerging-end, IsMerging-fewer, popped, IsPopped-pair, IsPopped-made, IsPopped-directed, IsPopped-same, directed_apart, falls_renamed}
 use Rattle.cq_rows.proofs.merge.merge.Goals as goal
 use Rattle.cq_rows.proofs.merge.merge.Goals.{After-drop-given-in-Some}
 
