@@ -1,0 +1,4 @@
+pub mod Lists
+pub mod Answering
+pub mod Standing
+pub mod SortedDuties

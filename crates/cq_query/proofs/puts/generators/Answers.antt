@@ -1,0 +1,10 @@
+use Rattle.std.proofs.Common.{◌≡◌, ◌+◌, ◌∷◌, [], ◌++◌, sym, ap, ◌∙◌, arith}
+use Rattle.std.specs.List.{range_with_len}
+use Rattle.std.proofs.lemmas.List.FromFn.{map-range_with_len_more}
+use Rattle.cq_query.specs.Puts.{alone, generators_from}
+use Rattle.cq_query.proofs.puts.generators.Goals as goal
+
+pub loop-number-preserved : goal.loop-number-preserved
+loop-number-preserved c =
+    c.in_ok-push.ensures.items ∙ (λ i. c.loop-number.invariant i ++ c.generator.ensures i ∷ [])
+    ∙ sym (map-range_with_len_more alone c.args.first c.loop-number.number (c.args.first + c.loop-number.number) (omega arith))

@@ -1,0 +1,65 @@
+//! Numbers grouped by what they belong to.
+ghost use Rattle.std.specs.Prelude.{◌≡◌, ◌<◌, [], map, length, All, IfOk, slice_get};
+ghost use Rattle.cq_theory.specs.Canonical.{below};
+ghost use Rattle.cq_query.specs.Groups.{positions, places, AreGroups};
+
+use cq_base::Seq;
+use std::alloc::{AllocError, Global};
+
+/// For each owner the places at which it stands in a list, and for each place of the list how often its owner stands
+/// before it.
+#[derive(Drop)]
+pub(crate) struct Groups {
+    pub groups: Seq<Seq<usize>>,
+    pub places: Seq<usize>,
+}
+
+impl Groups {
+    /// The groups of a list of owners, each of which is below `count`.
+    pub(crate) fn new(alloc: Global, count: usize, owners: &[u32]) -> Result<Groups, AllocError>
+        requires { All (λ owner. owner < count) owners.now }
+        ensures { IfOk result (λ made. AreGroups owners.now count made) }
+    {
+        let mut groups = empty_groups(alloc, count)?;
+        let mut places = Vec::new(alloc);
+        for (number, owner) in owners.iter().enumerate() {
+            let group = &mut groups[*owner as usize];
+            places.push(group.len())?;
+            group.push(number)?;
+        }
+        Ok(Groups {
+            groups: sealed(alloc, groups)?,
+            places: Seq::from_vec(places),
+        })
+    }
+
+    /// The places at which an owner stands.
+    pub(crate) fn of(&self, owner: usize) -> &[usize]
+        requires { owner < length self.now.groups }
+        ensures { slice_get self.now.groups owner ≡ Some result.now }
+    {
+        self.groups.as_slice()[owner].as_slice()
+    }
+}
+
+/// That many empty lists.
+fn empty_groups(alloc: Global, count: usize) -> Result<Vec<Vec<usize>>, AllocError>
+    ensures { IfOk result (λ groups. map (λ group. group.items) groups.items ≡ map (λ _. []) (below count)) }
+{
+    let mut groups = Vec::new(alloc);
+    for _number in 0..count {
+        groups.push(Vec::new(alloc))?;
+    }
+    Ok(groups)
+}
+
+/// The same lists, each as a list of its own.
+fn sealed(alloc: Global, groups: Vec<Vec<usize>>) -> Result<Seq<Seq<usize>>, AllocError>
+    ensures { IfOk result (λ lists. lists ≡ map (λ group. group.items) groups.items) }
+{
+    let lists: Vec<Seq<usize>> = groups
+        .into_iter()
+        .map(|group| Seq::from_vec(group))
+        .collect(alloc)?;
+    Ok(Seq::from_vec(lists))
+}

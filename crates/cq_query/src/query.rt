@@ -1,0 +1,163 @@
+//! Queries.
+ghost use Rattle.std.specs.Prelude.{◌≡◌, ◌<◌, ◌≤◌, length, slice_get, option_copied};
+ghost use Rattle.cq_query.specs.Groups.{positions, places};
+ghost use Rattle.cq_query.specs.Translation.{variables_at, key_sources, attribute_sources, path_sources, observation_sources};
+ghost use Rattle.cq_query.specs.IsQuery.{IsQuery};
+
+use crate::groups::Groups;
+use cq_base::{Name, Seq};
+use cq_theory::{Edge, EntTerm, Equation, ObsEq, PathEq, Schema, TypeTerm};
+use std::marker::Model;
+use std::rc::Rc;
+
+/// How a query makes the rows of one entity of its target. There is one row for each choice of a row for each variable that
+/// meets the where equations. Variables stand for generators, by their places. There is a term for each attribute of the
+/// entity, and for each foreign key of it a term for each variable of the block to which the key leads; both are in the
+/// order of the target.
+#[derive(Drop)]
+pub struct Block {
+    pub vars: Seq<(Name, u32)>,
+    pub tests: Seq<Equation>,
+    pub attributes: Seq<TypeTerm>,
+    pub keys: Seq<Seq<EntTerm>>,
+}
+
+/// A query from a source to a target: a block for each entity of the target, in its order (Schultz and Wisnesky,
+/// Algebraic Data Integration: uber-flower queries). Contracts see the schemas and the blocks, which are well sorted.
+#[derive(Drop)]
+pub struct Query {
+    pub source: Rc<Schema>,
+    pub target: Rc<Schema>,
+    pub blocks: Seq<Block>,
+    keys: Groups,
+    attributes: Groups,
+    path_eqs: Groups,
+    obs_eqs: Groups,
+}
+
+impl Model for Query {
+    ghost use Rattle.std.specs.Coded.{codes};
+    ghost use Rattle.std.specs.Prelude.{length};
+    ghost use Rattle.cq_theory.specs.contracts.term.TypeTerm as type_term;
+    ghost use Rattle.cq_query.specs.QueryData.{QueryData};
+    ghost use Rattle.cq_query.specs.IsQuery.{IsQuery};
+    ghost use Rattle.cq_query.specs.Groups.{AreGroups};
+    ghost use Rattle.cq_query.specs.Translation.{edge_sources, path_eq_sources, obs_eq_sources};
+
+    ghost Value = { QueryData };
+
+    ghost coded = { Prim.hlevel (codes, type_term.the_row.coded) };
+
+    ghost view = { λ q. record {
+      source = q.source.value;
+      target = q.target.value;
+      blocks = q.blocks;
+    } };
+
+    // Each table has the numbers of what begins at each entity of the target.
+    ghost invariant = { λ q.
+        IsQuery (record {
+          source = q.source.value;
+          target = q.target.value;
+          blocks = q.blocks;
+        })
+        × AreGroups (edge_sources q.target.value.keys) (length q.target.value.entities) q.keys
+        × AreGroups (edge_sources q.target.value.attributes) (length q.target.value.entities) q.attributes
+        × AreGroups (path_eq_sources q.target.value.path_eqs) (length q.target.value.entities) q.path_eqs
+        × AreGroups (obs_eq_sources q.target.value.obs_eqs) (length q.target.value.entities) q.obs_eqs };
+}
+
+impl Query {
+    /// Every query is well sorted. The call does nothing.
+    pub fn is_well_sorted(&self)
+        ensures { IsQuery self.now }
+    {
+        let _blocks = self.blocks.len();
+    }
+
+    /// The block of an entity of the target.
+    pub(crate) fn block(&self, entity: usize) -> Option<&Block>
+        ensures { option_copied result ≡ slice_get self.now.blocks entity }
+    {
+        self.blocks.as_slice().get(entity)
+    }
+
+    /// A foreign key of the target.
+    pub(crate) fn key(&self, key: usize) -> Option<&Edge>
+        ensures { option_copied result ≡ slice_get self.now.target.keys key }
+    {
+        self.target.keys.as_slice().get(key)
+    }
+
+    /// A path equation of the target.
+    pub(crate) fn path_eq(&self, number: usize) -> Option<&PathEq>
+        ensures { option_copied result ≡ slice_get self.now.target.path_eqs number }
+    {
+        self.target.path_eqs.as_slice().get(number)
+    }
+
+    /// An observation equation of the target.
+    pub(crate) fn obs_eq(&self, number: usize) -> Option<&ObsEq>
+        ensures { option_copied result ≡ slice_get self.now.target.obs_eqs number }
+    {
+        self.target.obs_eqs.as_slice().get(number)
+    }
+
+    /// The place of a foreign key of the target among those of its entity.
+    pub(crate) fn key_place(&self, key: usize) -> Option<usize>
+        ensures { result ≡ slice_get (places (key_sources self.now)) key }
+    {
+        self.keys.places.as_slice().get(key).copied()
+    }
+
+    /// The place of an attribute of the target among those of its entity.
+    pub(crate) fn attribute_place(&self, attribute: usize) -> Option<usize>
+        ensures { result ≡ slice_get (places (attribute_sources self.now)) attribute }
+    {
+        self.attributes.places.as_slice().get(attribute).copied()
+    }
+
+    /// The numbers of the foreign keys from an entity of the target.
+    pub(crate) fn keys_from(&self, entity: usize) -> &[usize]
+        requires { entity < length self.now.target.entities }
+        ensures { result.now ≡ positions (key_sources self.now) entity }
+    {
+        self.keys.of(entity)
+    }
+
+    /// The numbers of the attributes from an entity of the target.
+    pub(crate) fn attributes_from(&self, entity: usize) -> &[usize]
+        requires { entity < length self.now.target.entities }
+        ensures { result.now ≡ positions (attribute_sources self.now) entity }
+    {
+        self.attributes.of(entity)
+    }
+
+    /// The numbers of the path equations that begin at an entity of the target.
+    pub(crate) fn path_eqs_from(&self, entity: usize) -> &[usize]
+        requires { entity < length self.now.target.entities }
+        ensures { result.now ≡ positions (path_sources self.now) entity }
+    {
+        self.path_eqs.of(entity)
+    }
+
+    /// The numbers of the observation equations at an entity of the target.
+    pub(crate) fn obs_eqs_from(&self, entity: usize) -> &[usize]
+        requires { entity < length self.now.target.entities }
+        ensures { result.now ≡ positions (observation_sources self.now) entity }
+    {
+        self.obs_eqs.of(entity)
+    }
+
+    /// How many variables the block of an entity has.
+    pub(crate) fn variable_count(&self, entity: usize) -> u32
+        ensures count { result ≡ length (variables_at self.now entity) }
+        ensures few { result ≤ 16000000 }
+    {
+        self.is_well_sorted();
+        match self.block(entity) {
+            Some(block) => block.vars.len() as u32,
+            None => 0,
+        }
+    }
+}
