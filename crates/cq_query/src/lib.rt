@@ -1,4 +1,4 @@
-//! Queries from a schema to a schema: what they keep, their frozen presentations, their duties, and coeval presentations.
+//! Queries from a schema to a schema: what they keep, their frozen presentations and their duties.
 #![tactic(auto)]
 
 mod copies;
