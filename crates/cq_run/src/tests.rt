@@ -36,7 +36,7 @@ schema S = literal : T { entities E attributes x : E -> s }
 instance I = literal : S { generators a b : E }
 ";
 
-static CASES: [Case; 20] = [
+static CASES: [Case; 23] = [
     Case {
         words: &["run"],
         text: FIRST,
@@ -105,6 +105,24 @@ lines */ z : D -> n}instance I = literal : S { generators c : D a : E b : D }",
         text: "typeside T = literal { types s s } schema S = literal : T { } instance I = literal : S { }",
         status: Status::Refused,
         written: "refused 1:32 41 Duplicate\n",
+    },
+    Case {
+        words: RUN,
+        text: "typeside T = literal { types n constants zero : n functions succ : n -> n } schema S = literal : T { } instance I = literal : S { equations succ(zero, zero) = zero }",
+        status: Status::Refused,
+        written: "refused 1:141 43 WrongCount\n",
+    },
+    Case {
+        words: RUN,
+        text: "typeside T = literal { types s n constants Al : s zero : n } schema S = literal : T { } instance I = literal : S { equations Al = zero }",
+        status: Status::Refused,
+        written: "refused 1:126 44 WrongSort\n",
+    },
+    Case {
+        words: RUN,
+        text: "typeside T = literal { types s constants \"?x\" : s }",
+        status: Status::Refused,
+        written: "refused 1:42 45 Reserved\n",
     },
     Case {
         words: RUN,
@@ -203,6 +221,37 @@ fn a_file_at_the_limit_and_past_it(rt: HostRuntime) -> Result<(), Fail> {
         let blanks = vec![in alloc; b' '; length]?;
         files.push((String::from_str(alloc, "p.cql")?, blanks))?;
         let mut folder = MemFolder::new(alloc, files, Vec::new(alloc))?;
+        let mut out = MemSink::new(alloc, Vec::new(alloc), 100)?;
+        run(alloc, words.as_slice(), &mut folder, &mut out);
+        assert!(rt; out.bytes() == written.as_bytes());
+    }
+    Ok(())
+}
+
+/// A file whose one equation has a left side of 1,023 symbols under this many functions.
+fn tall(alloc: Global, functions: usize) -> Result<String, AllocError> {
+    let mut term = String::from_str(alloc, "zero")?;
+    for _level in 0..9 {
+        term = format!(in alloc; "plus({term}, {term})")?;
+    }
+    for _function in 0..functions {
+        term = format!(in alloc; "succ({term})")?;
+    }
+    format!(in alloc; "typeside T = literal {{ types n constants zero : n functions succ : n -> n plus : n, n -> n }}
+schema S = literal : T {{ }}
+instance I = literal : S {{ equations {term} = zero }}")
+}
+
+#[test]
+fn a_term_at_the_limit_and_past_it(rt: HostRuntime) -> Result<(), Fail> {
+    let alloc = rt.alloc();
+    let words = words(alloc, RUN)?;
+    for (functions, written) in [
+        (1, "refused 3:1 90 NotBuilt\n"),
+        (2, "refused 3:38 46 TooLarge\n"),
+    ] {
+        let text = tall(alloc, functions)?;
+        let mut folder = folder(alloc, text.as_str(), &[])?;
         let mut out = MemSink::new(alloc, Vec::new(alloc), 100)?;
         run(alloc, words.as_slice(), &mut folder, &mut out);
         assert!(rt; out.bytes() == written.as_bytes());
