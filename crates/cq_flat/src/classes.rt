@@ -11,7 +11,7 @@ pub fn singletons(alloc: Global, count: usize) -> Result<(Vec<u64>, Lists), Allo
     ensures classes { IfOk result (λ made. made.0.items ≡ range_with_len 0 count) }
     ensures partition { IfOk result (λ made. IsPartition made.0.items made.1) }
 {
-    let mut classes = Vec::new(alloc);
+    let mut classes = Vec::with_capacity(alloc, count)?;
     let mut members = Lists::new(alloc, count)?;
     for node in 0..count {
         let node = node as u64;

@@ -36,7 +36,7 @@ impl Closing {
     {
         let (classes, members) = singletons(alloc, nodes.len())?;
         let uses = uses_of(alloc, nodes)?;
-        let mut table = Table::new(alloc);
+        let mut table = Table::with_capacity(alloc, nodes.len())?;
         let mut pending = equations;
         enter_all(
             alloc,

@@ -80,12 +80,13 @@ impl Model for Table {
 impl Table {
     ghost use Rattle.cq_flat.specs.Keys.{found, same_key};
 
-    pub fn new(alloc: Global) -> Table
-        ensures { result ≡ [] }
+    /// No nodes, with room for this many.
+    pub fn with_capacity(alloc: Global, count: usize) -> Result<Table, AllocError>
+        ensures { IfOk result (λ table. table ≡ []) }
     {
-        Table {
-            nodes: HashMap::new(alloc),
-        }
+        Ok(Table {
+            nodes: HashMap::with_capacity(alloc, count)?,
+        })
     }
 
     /// Puts a node at a key, and gives the node that was there.

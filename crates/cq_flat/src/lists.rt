@@ -25,7 +25,7 @@ impl Lists {
     pub fn new(alloc: Global, count: usize) -> Result<Lists, AllocError>
         ensures { IfOk result (λ lists. lists ≡ replicate count []) }
     {
-        let mut lists = Vec::new(alloc);
+        let mut lists = Vec::with_capacity(alloc, count)?;
         for _i in 0..count {
             lists.push(Vec::new(alloc))?;
         }
