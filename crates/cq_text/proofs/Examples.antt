@@ -7,6 +7,7 @@ use Rattle.cq_theory.specs.declared.value.Value.TheVariants.{Const, Null}
 use Rattle.cq_theory.specs.TypesideData.{TypesideData}
 use Rattle.cq_theory.specs.SchemaData.{SchemaData}
 use Rattle.cq_theory.proofs.Values.{fold-Const, fold-Null}
+use Rattle.cq_theory.specs.Tables.{AtRow}
 use Rattle.cq_model.specs.InstanceData.{InstanceData}
 use Rattle.cq_text.specs.Transcript.{transcript_of, name_text}
 
@@ -69,6 +70,7 @@ employees = record {
           ∷ [];
     };
   };
+  assignment = AtRow 0 ∷ AtRow 1 ∷ AtRow 2 ∷ AtRow 0 ∷ AtRow 1 ∷ [];
 }
 
 employees_transcript : transcript_of (codes "I") (codes "S") employees ≡ codes "instance I : S\nentity Employee 3\n1 a first=Al last=?0 age=zero cummulative_age=?1 manager=2 worksIn=1\n2 b first=Bob last=Bo age=?2 cummulative_age=?3 manager=2 worksIn=1\n3 c first=Carl last=?4 age=zero cummulative_age=?5 manager=3 worksIn=2\nentity Department 2\n1 m name=Math secretary=2\n2 s name=CS secretary=3\nnulls 6\n?0 string\n?1 nat\n?2 nat\n?3 nat\n?4 string\n?5 nat\nentries 3\nplus(zero, ?2) = ?1\nplus(?2, ?2) = ?3\nplus(zero, zero) = ?5\nend\n"
