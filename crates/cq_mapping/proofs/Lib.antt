@@ -5,3 +5,5 @@ pub mod Identical
 pub mod Named
 pub mod MadeMappings
 pub mod Ranges
+pub mod Counted
+pub mod ImagedPresentations

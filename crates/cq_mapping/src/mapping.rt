@@ -1,6 +1,6 @@
 //! Mappings.
 ghost use Rattle.std.specs.Prelude.{◌≡◌, ◌+◌, ◌<◌, ◌^◌, ◌⊎◌, ◌∷◌, [], length, map, IfOk, IfErr, Some, None};
-ghost use Rattle.cq_mapping.specs.Mapping.{identity_of, attribute_itself};
+ghost use Rattle.cq_mapping.specs.Mapping.{IsMapping, identity_of, attribute_itself};
 ghost use Rattle.cq_theory.specs.Canonical.{below};
 ghost use Rattle.cq_mapping.specs.MappingParts.{mapping_fault, mapping_made};
 
@@ -91,6 +91,13 @@ impl Mapping {
             }
             Err(refusal) => Err(refusal),
         }
+    }
+
+    /// Every mapping is well sorted. The call does nothing.
+    pub fn is_well_sorted(&self)
+        ensures { IsMapping self.now }
+    {
+        let _entities = self.entities.len();
     }
 
     /// The mapping that sends each entity, foreign key and attribute of a schema to itself.
