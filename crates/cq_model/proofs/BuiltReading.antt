@@ -13,7 +13,6 @@ use Rattle.cq_theory.specs.SchemaData.{SchemaData as Schema}
 use Rattle.cq_theory.specs.declared.term.EntTerm.{EntTerm}
 use Rattle.cq_theory.specs.declared.value.Sheet.{Sheet}
 use Rattle.cq_theory.specs.declared.value.Algebra.{Algebra}
-use Rattle.cq_theory.specs.Tables.{Tables}
 use Rattle.cq_model.specs.declared.places.Places.{Places}
 use Rattle.cq_model.specs.Closed.{AreClosed}
 use Rattle.cq_model.specs.LeastNames.{rows_at}

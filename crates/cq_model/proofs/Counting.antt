@@ -58,7 +58,7 @@ mapped_more f count n member members groups group are within is member_within gr
     let size : length (take n members) ≡ n = length-take-le n members (omega arith) in
     let one_more : (e : ℕ) → map f (positions (take (n + 1) members) e) ≡ map f (positions (take n members) e) ++ (if member == e then f n ∷ [] else []) =
     λ e. ap (λ l. map f (positions l e)) longer ∙ ap (map f) (positions-append (take n members) member e) ∙ map-append f (positions (take n members) e) (if member == e then length (take n members) ∷ [] else [])
-        ∙ ap (λ m. map f (positions (take n members) e) ++ map f (if member == e then m ∷ [] else [])) size ∙ ap (λ l. map f (positions (take n members) e) ++ l) (mapped_if f (member == e) n) in
+    ∙ ap (λ m. map f (positions (take n members) e) ++ map f (if member == e then m ∷ [] else [])) size ∙ ap (λ l. map f (positions (take n members) e) ++ l) (mapped_if f (member == e) n) in
     let before : get_or groups member [] ≡ map f (positions (take n members) member) =
     ap (λ l. get_or l member []) are ∙ get_or-map-range_with_len (λ e. map f (positions (take n members) e)) 0 count member member [] member_within (omega arith) in
     ap (λ l. slice_set l member group) are

@@ -1,5 +1,5 @@
 -- The keys of a row are followed, one after the other.
-use Rattle.std.proofs.Common.{ℕ, zero, suc, Bool, true, false, List, [], ◌∷◌, ◌++◌, Option, Some, None, ◌≡◌, ◌≢◌, ◌<◌, ◌≤◌, ◌+◌, ◌⊎◌, inl, inr, cond, map, length, get_or, replicate, refl, sym, ap, subst, ◌∙◌, arith, length-append}
+use Rattle.std.proofs.Common.{ℕ, zero, suc, Bool, true, false, List, [], ◌∷◌, ◌++◌, Option, Some, None, ◌≡◌, ◌<◌, ◌≤◌, ◌+◌, inl, inr, cond, map, length, get_or, replicate, refl, sym, ap, subst, ◌∙◌, arith, length-append}
 use Rattle.std.specs.Prelude.{slice_get, slice_set, slice_index, slice_index_or}
 use Rattle.std.proofs.lemmas.Option.{slice_get-get_or, get_or_from_slice_get, slice_get_within}
 use Rattle.std.proofs.lemmas.List.{length-map, length-set, length-replicate}
@@ -36,7 +36,7 @@ no_key m keys items key entity row edge whole live keys_are same within read fro
     found (Some s) h =
         let there : slice_get (map ends_of items) key ≡ Some (ends_of edge) = read_mapped ends_of items key edge within read in
         let step : step_of (map ends_of items) (row_entity m row) key ≡ Some (row_entity m s) =
-            ap (λ (l : List (ℕ × ℕ)). step_of l (row_entity m row) key) (sym (keys_are ∙ ap (map ends_of) (sym same))) ∙ (whole.held row key s live h).step in
+        ap (λ (l : List (ℕ × ℕ)). step_of l (row_entity m row) key) (sym (keys_are ∙ ap (map ends_of) (sym same))) ∙ (whole.held row key s live h).step in
         absurd (step_other (map ends_of items) (row_entity m row) key (row_entity m s) (ends_of edge) there (λ e. from (e ∙ sym is)) step)
 
 name_at : (xs : List EntTerm) (i : ℕ) → i < length xs → (u : EntTerm) × (slice_get xs i ≡ Some u)

@@ -1,11 +1,9 @@
 -- The places of cells among the leaves.
-use Rattle.std.proofs.Common.{ℕ, List, [], ◌∷◌, ◌++◌, Option, Some, None, ◌≡◌, ◌<◌, ◌≤◌, ◌+◌, ◌*◌, ◌==◌, map, length, slice_index, slice_index_or, refl, sym, ap, subst, ◌∙◌, arith}
-use Rattle.std.specs.Prelude.{slice_get, All}
-use Rattle.std.specs.List.{flat_map, enumerate_from}
-use Rattle.std.proofs.lemmas.List.{length-map}
+use Rattle.std.proofs.Common.{ℕ, List, [], Some, ◌≡◌, ◌<◌, map, length, slice_index_or, sym, ap, ◌∙◌, arith}
+use Rattle.std.specs.Prelude.{slice_get}
+use Rattle.std.specs.List.{flat_map}
 use Rattle.std.proofs.lemmas.List.Folds.{flat_map-map}
-use Rattle.std.proofs.lemmas.List.FromFn.{get_or-map-range_with_len, length-map-range_with_len}
-use Rattle.std.proofs.lemmas.Option.{slice_get_within, get_or_from_slice_get, same_Some}
+use Rattle.std.proofs.lemmas.List.FromFn.{get_or-map-range_with_len}
 use Rattle.cq_theory.specs.declared.presentation.Presentation.{Presentation}
 use Rattle.cq_theory.specs.declared.schema.Edge.{Edge}
 use Rattle.cq_theory.specs.SchemaData.{SchemaData as Schema}
@@ -14,16 +12,13 @@ use Rattle.cq_theory.specs.declared.term.TypeTerm.{TypeTerm}
 use Rattle.cq_theory.specs.declared.term.TypeTerm.TheVariants.{Att}
 use Rattle.cq_theory.specs.Canonical.{below, edges_from}
 use Rattle.cq_theory.specs.Listed.{cell_nodes}
-use Rattle.cq_model.specs.Free.{sources, targets}
-use Rattle.cq_model.specs.Numbering.{positions, rank, members as size_of, Cell, row_cells, entity_cells, cells, label, types, starts}
+use Rattle.cq_model.specs.Free.{sources}
+use Rattle.cq_model.specs.Numbering.{positions, rank, Cell, row_cells, entity_cells, cells, label}
 use Rattle.cq_model.specs.RowNumbers.{name_in, names_by}
-use Rattle.cq_model.specs.LeafPlaces.{AreFirsts}
-use Rattle.cq_model.proofs.Lists.{IsIn, get-map, flat_map_same, map-map, map-flat_map, in_range}
-use Rattle.cq_model.proofs.Ranks.{positions_at, positions_rank}
-use Rattle.cq_model.proofs.Numbering.{label_of, label_at, cell_labelled, in_cells, from_cells, IsCell}
-use Rattle.cq_model.proofs.Counted.{types_are, first_is, attributes_at}
+use Rattle.cq_model.proofs.Lists.{flat_map_same, map-map, map-flat_map, in_range}
+use Rattle.cq_model.proofs.Ranks.{positions_rank}
+use Rattle.cq_model.proofs.Numbering.{cell_labelled, in_cells}
 use Rattle.cq_model.proofs.FreeListed.{edge_numbers}
-use Rattle.cq_model.proofs.FreeModel.{get-map_from}
 
 module _ (S : Schema) (P : Presentation) (owners : List ℕ) (names : List EntTerm) where
   abbrev entities : ℕ

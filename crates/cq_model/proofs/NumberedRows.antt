@@ -1,7 +1,6 @@
 -- The rows of a finished walk, sorted to their entities, are numbered by their least names.
-use Rattle.std.proofs.Common.{ℕ, zero, suc, true, false, List, [], ◌∷◌, Option, Some, None, ◌≡◌, ◌<◌, ◌≤◌, ◌+◌, ◌⊎◌, inl, inr, map, length, get_or, refl, sym, ap, subst, ◌∙◌, arith}
-use Rattle.std.specs.Prelude.{slice_get, slice_index, slice_index_or}
-use Rattle.std.specs.Ordering.{is_gt, is_lt}
+use Rattle.std.proofs.Common.{ℕ, true, List, [], Some, None, ◌≡◌, ◌<◌, ◌≤◌, inl, inr, map, length, sym, ap, subst, ◌∙◌, arith}
+use Rattle.std.specs.Prelude.{slice_get, slice_index}
 use Rattle.std.proofs.lemmas.Bool.{cases_lt}
 use Rattle.std.proofs.lemmas.List.{length-map}
 use Rattle.std.proofs.lemmas.List.FromFn.{length-map-range_with_len, get_or-map-range_with_len}
@@ -13,13 +12,11 @@ use Rattle.cq_rows.specs.Rows.{row_of_term}
 use Rattle.cq_theory.specs.declared.presentation.Presentation.{Presentation}
 use Rattle.cq_theory.specs.SchemaData.{SchemaData as Schema}
 use Rattle.cq_theory.specs.declared.term.EntTerm.{EntTerm}
-use Rattle.cq_theory.specs.Canonical.{below}
 use Rattle.cq_theory.specs.Sorts.{entity_of}
-use Rattle.cq_theory.specs.Listed.{term_cmp}
 use Rattle.cq_model.specs.Numbering.{positions, rank}
 use Rattle.cq_model.specs.Closed.{AreClosed}
 use Rattle.cq_model.specs.LeastNames.{rows_at, terms_at, IsLeast, AreNumbered}
-use Rattle.cq_model.specs.Walking.{IsBefore, IsUpTo, Listing, IsNamedUpTo, IsListing, IsWalked, IsWalkOf}
+use Rattle.cq_model.specs.Walking.{IsUpTo, Listing, IsNamedUpTo, IsListing, IsWalked, IsWalkOf}
 use Rattle.cq_model.specs.RowNumbers.{name_in, row_entities, rows_by, names_by, AreNumbers}
 use Rattle.cq_model.proofs.Lists.{get-map}
 use Rattle.cq_model.proofs.FreeModel.{get-map_from}

@@ -1,8 +1,7 @@
 -- Paths that are followed in well-formed tables.
-use Rattle.std.proofs.Common.{ℕ, zero, suc, List, [], ◌∷◌, Option, Some, None, ◌≡◌, ◌<◌, map, length, get_or, IfSome, refl, sym, ap, subst, ◌∙◌, arith}
+use Rattle.std.proofs.Common.{ℕ, zero, suc, List, [], ◌∷◌, Option, Some, None, ◌≡◌, ◌<◌, map, length, get_or, IfSome, refl, sym, ap, subst, ◌∙◌}
 use Rattle.std.specs.Prelude.{slice_get, slice_index_or, option_map}
 use Rattle.std.proofs.lemmas.Option.{slice_get_within, slice_get-get_or, get_or_from_slice_get, option_and_then_some}
-use Rattle.cq_base.specs.declared.name.Name.{Name}
 use Rattle.cq_theory.specs.declared.presentation.Presentation.{Presentation}
 use Rattle.cq_theory.specs.declared.presentation.Sort.{Sort}
 use Rattle.cq_theory.specs.declared.presentation.Sort.TheVariants.{Plain, Entity}
@@ -12,7 +11,7 @@ use Rattle.cq_theory.specs.declared.term.TypeTerm.{TypeTerm}
 use Rattle.cq_theory.specs.declared.term.Term.TheVariants.{Ent, Typ}
 use Rattle.cq_theory.specs.SchemaData.{SchemaData as Schema}
 use Rattle.cq_theory.specs.Sorts.{Generators, followed, target_of, entity_at, entity_of, type_of, IsGround}
-use Rattle.cq_theory.specs.Tables.{Tables, Meaning, AtRow, AtValue, Assignment, count_of, key_at, row_in, row_from, row_of, IsWellFormed, HasSort}
+use Rattle.cq_theory.specs.Tables.{Tables, Meaning, AtRow, AtValue, count_of, key_at, row_in, IsWellFormed, HasSort}
 use Rattle.cq_theory.proofs.Sound.{followed_some}
 use Rattle.cq_model.specs.InstanceData.{InstanceData, IsInstance}
 use Rattle.cq_model.proofs.Lists.{get-map}

@@ -1,7 +1,7 @@
 -- The leaves stand where the places say.
-use Rattle.std.proofs.Common.{ℕ, zero, suc, true, cond, List, [], ◌∷◌, ◌++◌, Option, Some, None, ◌≡◌, ◌<◌, ◌≤◌, ◌+◌, ◌*◌, ◌==◌, ◌⊎◌, inl, inr, map, length, slice_index, slice_index_or, refl, sym, ap, subst, ◌∙◌, arith, length-append, eq-eqb}
+use Rattle.std.proofs.Common.{ℕ, zero, suc, true, cond, List, [], ◌∷◌, ◌++◌, Option, Some, None, ◌≡◌, ◌<◌, ◌≤◌, ◌+◌, ◌*◌, ◌⊎◌, inl, inr, map, length, slice_index, slice_index_or, sym, ap, subst, ◌∙◌, arith, length-append, eq-eqb}
 use Rattle.std.specs.Prelude.{slice_get, option_and_then}
-use Rattle.std.specs.List.{flat_map, enumerate_from, filter_map}
+use Rattle.std.specs.List.{filter_map}
 use Rattle.std.proofs.lemmas.List.{length-map}
 use Rattle.std.proofs.lemmas.List.FromFn.{get_or-map-range_with_len, length-map-range_with_len}
 use Rattle.std.proofs.lemmas.Option.{slice_get_within, slice_get-get_or, get_or_from_slice_get, same_Some}
@@ -18,26 +18,26 @@ use Rattle.cq_theory.specs.declared.term.EntTerm.{EntTerm}
 use Rattle.cq_theory.specs.declared.term.TypeTerm.{TypeTerm}
 use Rattle.cq_theory.specs.declared.term.TypeTerm.TheVariants.{Gen, Att, rolls-Gen}
 use Rattle.cq_theory.specs.declared.term.TypeTerm.TheOpen as layer
-use Rattle.cq_theory.specs.declared.term.TypeTerm.TheViews.{out-TypeTerm, roll-TypeTerm, out-roll-TypeTerm}
+use Rattle.cq_theory.specs.declared.term.TypeTerm.TheViews.{out-TypeTerm, out-roll-TypeTerm}
 use Rattle.cq_theory.specs.Canonical.{below}
-use Rattle.cq_theory.specs.Sorts.{type_at, type_of, type_step, entity_of, followed}
+use Rattle.cq_theory.specs.Sorts.{type_of, type_step, entity_of, followed}
 use Rattle.cq_theory.proofs.TypeTerms.{fold-Gen, fold-Att}
 use Rattle.cq_model.specs.declared.places.Places.{Places}
 use Rattle.cq_model.specs.Closed.{AreClosed}
 use Rattle.cq_model.specs.Free.{sources, targets}
 use Rattle.cq_model.specs.Numbering.{positions, rank, members as size_of, Cell, cells, label, types, starts}
 use Rattle.cq_model.specs.RowNumbers.{name_in, row_entities, names_by}
-use Rattle.cq_model.specs.LeafPlaces.{AreFirsts, AddsLeaves, plain_type, places_from}
+use Rattle.cq_model.specs.LeafPlaces.{AreFirsts, plain_type, places_from}
 use Rattle.cq_model.specs.Walking.{IsWalkOf}
 use Rattle.cq_model.specs.NodeListData.{NodeListData}
-use Rattle.cq_model.specs.NodeTerms.{leaf_terms, cell_place, StandsAt, StandsFor, IsNodeAt, AreNodes, ArePlaces, AreTypes}
+use Rattle.cq_model.specs.NodeTerms.{leaf_terms, cell_place, StandsAt, StandsFor, IsNodeAt, ArePlaces}
 use Rattle.cq_model.specs.Pushing.{HavePlaces, AreTermsOf}
-use Rattle.cq_model.proofs.Lists.{IsIn, get-map, get-append, get-append_front, in_append}
+use Rattle.cq_model.proofs.Lists.{get-map, get-append, get-append_front}
 use Rattle.cq_model.proofs.FreeModel.{get-map_from}
 use Rattle.cq_model.proofs.Variants.{out-Att}
 use Rattle.cq_model.proofs.Numbering.{label_of, label_at, from_cells, IsCell}
 use Rattle.cq_model.proofs.Counted.{types_are, first_is, attributes_at}
-use Rattle.cq_model.proofs.NumberedRows.{walk_row, walk_name, walk_leads, walk_entity, walk_live, walk_lengths, listed}
+use Rattle.cq_model.proofs.NumberedRows.{walk_leads, walk_entity, walk_live, walk_lengths, listed}
 use Rattle.cq_model.proofs.LeafCells.{all_cells, term_of, cell_terms, cell_found}
 use Rattle.cq_model.proofs.LeafGenerators.{terms_from, IsGeneratorAt, generator_at, generator_place, same_count}
 
@@ -109,8 +109,8 @@ module _ (S : Schema) (P : Presentation) (m : Content) (entries : List ℕ) (sch
         let width : length (slice_index_or attributes e []) ≡ size_of (sources S) e = ap length (attributes_at members (sources S) (targets S) (length S.entities) e within) in
         let source_is : slice_index (sources S) a ≡ e = get_or_from_slice_get (sources S) a e 0 source in
         let rank_is : slice_index places.ranks a ≡ rank (sources S) e a =
-            ap (λ (l : List ℕ). slice_index l a) ranks ∙ get_or-map-range_with_len (λ b. rank (sources S) (slice_index (sources S) b) b) 0 (length (sources S)) a a 0 (slice_get_within (sources S) a e source) (omega arith)
-            ∙ ap (λ x. rank (sources S) x a) source_is in
+        ap (λ (l : List ℕ). slice_index l a) ranks ∙ get_or-map-range_with_len (λ b. rank (sources S) (slice_index (sources S) b) b) 0 (length (sources S)) a a 0 (slice_get_within (sources S) a e source) (omega arith)
+        ∙ ap (λ x. rank (sources S) x a) source_is in
         λ i. (first ∙ (λ j. start j + rank members e p * width j)) i + rank_is i
 
     source_of : (a : ℕ) (edge : Edge) → slice_get S.attributes a ≡ Some edge → slice_get (sources S) a ≡ Some edge.from
@@ -223,7 +223,7 @@ module _ (S : Schema) (P : Presentation) (m : Content) (entries : List ℕ) (sch
           ∙ (λ i. option_and_then (followed (c.found i)) (c.entity i)) ∙ led c.edge (row_entity m c.row) c.from ∙ ap (λ x. Some x) same
       | inr g ↦
           let there : slice_get list.types p ≡ Some g.2.type =
-              (λ i. slice_get (types_of i) (g.1 i)) ∙ get-append leaf_types (filter_map plain_type P.generators) g.0 g.2.type g.2.kind in
+          (λ i. slice_get (types_of i) (g.1 i)) ∙ get-append leaf_types (filter_map plain_type P.generators) g.0 g.2.type g.2.kind in
           let same : g.2.type ≡ type = same_Some g.2.type type (sym there ∙ kind) in
           ap (type_of S P.generators) (g.2.is ∙ ap Gen (plain_number g.2.number)) ∙ fold-Gen (Option ℕ) (type_step S P.generators) g.2.number ∙ g.2.typed ∙ ap (λ x. Some x) same
     ]

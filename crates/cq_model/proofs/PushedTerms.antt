@@ -1,12 +1,12 @@
 -- Terms that become nodes, step by step.
-use Rattle.std.proofs.Common.{ℕ, zero, suc, true, List, [], ◌∷◌, ◌++◌, Option, Some, None, ◌≡◌, ◌<◌, ◌≤◌, ◌+◌, ◌⊎◌, inl, inr, map, length, get_or, refl, sym, ap, subst, ◌∙◌, arith, length-append, append_assoc}
-use Rattle.std.specs.Prelude.{slice_get, slice_index, All, option_map}
+use Rattle.std.proofs.Common.{ℕ, zero, suc, List, [], ◌∷◌, ◌++◌, Option, Some, ◌≡◌, ◌<◌, ◌≤◌, ◌+◌, ◌⊎◌, inl, inr, map, length, get_or, refl, sym, ap, subst, ◌∙◌, arith, length-append, append_assoc}
+use Rattle.std.specs.Prelude.{slice_get, slice_index, All}
 use Rattle.std.specs.List.{flat_map}
 use Rattle.std.proofs.lemmas.List.{append-nil}
 use Rattle.std.proofs.lemmas.List.Concat.{flat_map-append}
 use Rattle.std.proofs.lemmas.List.Folds.{flat_map-map}
 use Rattle.std.proofs.lemmas.Option.{slice_get_within, same_Some}
-use Rattle.cq_tables.specs.Content.{Content, live_of}
+use Rattle.cq_tables.specs.Content.{Content}
 use Rattle.cq_rows.specs.Rows.{row_of_term}
 use Rattle.cq_flat.specs.declared.node.Node.{Node}
 use Rattle.cq_flat.specs.declared.node.Node.TheVariants as node
@@ -15,7 +15,6 @@ use Rattle.cq_model.specs.NodeListData.{NodeListData}
 use Rattle.cq_model.specs.NodeTerms.{made_terms, made_step, side_terms, cell_place, StandsAt, StandsFor, EachStands, IsNodeAt, AreNodes, AreSidesOf, AreTypes}
 use Rattle.cq_model.specs.Pushing.{HavePlaces, AreReadable, IsReadable, IsPlacing, AreTermsOf, AreEquationsOf, IsPushed, IsEquated}
 use Rattle.cq_theory.specs.declared.presentation.Presentation.{Presentation}
-use Rattle.cq_theory.specs.declared.schema.Edge.{Edge}
 use Rattle.cq_theory.specs.SchemaData.{SchemaData as Schema}
 use Rattle.cq_theory.specs.declared.term.EntTerm.{EntTerm}
 use Rattle.cq_theory.specs.declared.term.TypeTerm.{TypeTerm}
@@ -25,9 +24,9 @@ use Rattle.cq_theory.specs.declared.term.TypeTerm.TheOpen as layer
 use Rattle.cq_theory.specs.declared.term.TypeTerm.TheViews.{out-TypeTerm, out-roll-TypeTerm}
 use Rattle.cq_theory.specs.Sorts.{Generators, type_of, type_step, type_at, entity_of}
 use Rattle.cq_theory.proofs.TypeTerms.{fold-Gen, para-Gen, para-Const, para-Att, para-Fun}
-use Rattle.cq_model.proofs.Lists.{get-append_front, map-map, map-append}
+use Rattle.cq_model.proofs.Lists.{get-append_front, map-append}
 use Rattle.cq_model.proofs.Variants.{out-Att}
-use Rattle.cq_model.proofs.PlacedLeaves.{out-Gen, split_at}
+use Rattle.cq_model.proofs.PlacedLeaves.{out-Gen}
 
 pub out-Const : (c : ℕ) → out-TypeTerm (term.Const c) ≡ layer.Const c
 out-Const c = ap out-TypeTerm (sym (rolls-Const c)) ∙ out-roll-TypeTerm (layer.Const c)
@@ -198,10 +197,10 @@ module _ (S : Schema) (m : Content) (places : Places) where
         subst (λ (u : TypeTerm). AreTermsOf S m places P entries (terms ++ made_terms u) new × StandsFor m entries places (terms ++ made_terms u) u place) (sym (placing.constant c))
         (subst (λ (l : List TypeTerm). AreTermsOf S m places P entries (terms ++ l) new × StandsFor m entries places (terms ++ l) (term.Const c) place) (sym (made-Const c)) (
           terms_more P entries terms old new (term.Const c) (node.Const c) kind terms_are (ap (λ (l : NodeListData). l.nodes) added) (ap (λ (l : NodeListData). l.types) added)
-          (subst (λ (x : layer.TypeTerm-F TypeTerm). IsNodeAt m entries places (terms ++ term.Const c ∷ []) (length terms) x (node.Const c)) (sym (out-Const c)) refl)
-          (ap (type_of S P.generators) (sym (placing.constant c)) ∙ placing.sort (term.Const c) type sort ∙ ap (λ x. Some x) (kinds G type sort)),
+              (subst (λ (x : layer.TypeTerm-F TypeTerm). IsNodeAt m entries places (terms ++ term.Const c ∷ []) (length terms) x (node.Const c)) (sym (out-Const c)) refl)
+              (ap (type_of S P.generators) (sym (placing.constant c)) ∙ placing.sort (term.Const c) type sort ∙ ap (λ x. Some x) (kinds G type sort)),
           subst (λ (x : layer.TypeTerm-F TypeTerm). StandsAt m entries places (terms ++ term.Const c ∷ []) x place) (sym (out-Const c))
-          (ap (slice_get (terms ++ term.Const c ∷ [])) (place_is ∙ terms_are.nodes.count) ∙ last_term terms (term.Const c))
+              (ap (slice_get (terms ++ term.Const c ∷ [])) (place_is ∙ terms_are.nodes.count) ∙ last_term terms (term.Const c)),
         ));
   }
 
@@ -235,11 +234,11 @@ module _ (S : Schema) (m : Content) (places : Places) where
         let last = h.listed P entries G placed named (terms ++ flat_map made_terms (map placed ts)) type.0 placing type.1 first.0 in
         let parts : map placed (ts ++ t ∷ []) ≡ map placed ts ++ placed t ∷ [] = map-append placed ts (t ∷ []) in
         let whole : (terms ++ flat_map made_terms (map placed ts)) ++ made_terms (placed t) ≡ terms ++ flat_map made_terms (map placed ts ++ placed t ∷ []) =
-            append_assoc terms (flat_map made_terms (map placed ts)) (made_terms (placed t))
-            ∙ ap (λ (l : List TypeTerm). terms ++ l) (ap (λ (l : List TypeTerm). flat_map made_terms (map placed ts) ++ l) (sym (append-nil (made_terms (placed t)))) ∙ sym (flat_map-append made_terms (map placed ts) (placed t ∷ []))) in
+        append_assoc terms (flat_map made_terms (map placed ts)) (made_terms (placed t))
+        ∙ ap (λ (l : List TypeTerm). terms ++ l) (ap (λ (l : List TypeTerm). flat_map made_terms (map placed ts) ++ l) (sym (append-nil (made_terms (placed t)))) ∙ sym (flat_map-append made_terms (map placed ts) (placed t ∷ []))) in
         let stand : EachStands m entries places ((terms ++ flat_map made_terms (map placed ts)) ++ made_terms (placed t)) (map placed ts ++ placed t ∷ []) (found ++ place ∷ []) =
-            EachStands-append m entries places ((terms ++ flat_map made_terms (map placed ts)) ++ made_terms (placed t)) (map placed ts) found (placed t) place
-            (EachStands-more m entries places (terms ++ flat_map made_terms (map placed ts)) (made_terms (placed t)) (map placed ts) found first.1) last.1 in
+        EachStands-append m entries places ((terms ++ flat_map made_terms (map placed ts)) ++ made_terms (placed t)) (map placed ts) found (placed t) place
+        (EachStands-more m entries places (terms ++ flat_map made_terms (map placed ts)) (made_terms (placed t)) (map placed ts) found first.1) last.1 in
         subst (λ (us : List TypeTerm). AreTermsOf S m places P entries (terms ++ flat_map made_terms us) new × EachStands m entries places (terms ++ flat_map made_terms us) us (found ++ place ∷ [])) (sym parts)
         (subst (λ (l : List TypeTerm). AreTermsOf S m places P entries l new × EachStands m entries places l (map placed ts ++ placed t ∷ []) (found ++ place ∷ [])) whole (last.0, stand));
   }
@@ -261,12 +260,12 @@ module _ (S : Schema) (m : Content) (places : Places) where
         let here : length mid.nodes ≡ length all = first.0.nodes.count in
         let args_below : All (λ p. p < length all) found = subst (λ n. All (λ p. p < n) found) here before.within in
         let made : AreTermsOf S m places P entries (all ++ t ∷ []) new =
-            terms_more P entries all mid new t (node.Fun f found) kind first.0 (ap (λ (l : NodeListData). l.nodes) added) (ap (λ (l : NodeListData). l.types) added)
-            (subst (λ (x : layer.TypeTerm-F TypeTerm). IsNodeAt m entries places (all ++ t ∷ []) (length all) x (node.Fun f found)) (sym (out-Fun f us))
-            (found, refl, EachStands-more m entries places all (t ∷ []) us found first.1, args_below))
-            (ap (type_of S P.generators) (sym (placing.function f ts)) ∙ placing.sort (term.Fun f ts) type sort ∙ ap (λ x. Some x) (kinds G type sort).0) in
+        terms_more P entries all mid new t (node.Fun f found) kind first.0 (ap (λ (l : NodeListData). l.nodes) added) (ap (λ (l : NodeListData). l.types) added)
+        (subst (λ (x : layer.TypeTerm-F TypeTerm). IsNodeAt m entries places (all ++ t ∷ []) (length all) x (node.Fun f found)) (sym (out-Fun f us))
+        (found, refl, EachStands-more m entries places all (t ∷ []) us found first.1, args_below))
+        (ap (type_of S P.generators) (sym (placing.function f ts)) ∙ placing.sort (term.Fun f ts) type sort ∙ ap (λ x. Some x) (kinds G type sort).0) in
         let stands : StandsFor m entries places (all ++ t ∷ []) t place =
-            subst (λ (x : layer.TypeTerm-F TypeTerm). StandsAt m entries places (all ++ t ∷ []) x place) (sym (out-Fun f us)) (ap (slice_get (all ++ t ∷ [])) (place_is ∙ here) ∙ last_term all t) in
+        subst (λ (x : layer.TypeTerm-F TypeTerm). StandsAt m entries places (all ++ t ∷ []) x place) (sym (out-Fun f us)) (ap (slice_get (all ++ t ∷ [])) (place_is ∙ here) ∙ last_term all t) in
         subst (λ (u : TypeTerm). AreTermsOf S m places P entries (terms ++ made_terms u) new × StandsFor m entries places (terms ++ made_terms u) u place) (sym (placing.function f ts))
         (subst (λ (l : List TypeTerm). AreTermsOf S m places P entries l new × StandsFor m entries places l t place) whole (made, stands));
   }
@@ -288,10 +287,10 @@ module _ (S : Schema) (m : Content) (places : Places) where
         let stand_left : StandsFor m entries places all (placed t) a = StandsFor-more m entries places (terms ++ made_terms (placed t)) (made_terms (placed u)) (placed t) a one.1 in
         let count : length far.nodes ≡ length all = two.0.nodes.count in
         let equations : AreSidesOf m entries places all (sides ++ (placed t, placed u) ∷ []) new.equations =
-            sides_more P entries terms sides placed all (far.equations) new.equations
-            (λ x p h. StandsFor-more m entries places (terms ++ made_terms (placed t)) (made_terms (placed u)) x p (StandsFor-more m entries places terms (made_terms (placed t)) x p h))
-            (omega (arith, length-append terms (made_terms (placed t)), length-append (terms ++ made_terms (placed t)) (made_terms (placed u))))
-            (ap (λ (l : NodeListData). l.equations) added) (second.equations ∙ first.equations) before.equations stand_left two.1 (omega (arith, first.within, second.grows, count)) (omega (arith, second.within, count)) in
+        sides_more P entries terms sides placed all (far.equations) new.equations
+        (λ x p h. StandsFor-more m entries places (terms ++ made_terms (placed t)) (made_terms (placed u)) x p (StandsFor-more m entries places terms (made_terms (placed t)) x p h))
+        (omega (arith, length-append terms (made_terms (placed t)), length-append (terms ++ made_terms (placed t)) (made_terms (placed u))))
+        (ap (λ (l : NodeListData). l.equations) added) (second.equations ∙ first.equations) before.equations stand_left two.1 (omega (arith, first.within, second.grows, count)) (omega (arith, second.within, count)) in
         subst (λ (l : List TypeTerm). AreEquationsOf S m places P entries l (sides ++ (placed t, placed u) ∷ []) new) whole (record { listed = listed; equations = equations });
   }
     where

@@ -1,12 +1,10 @@
 -- The order of entity terms.
-use Rattle.std.proofs.Common.{ℕ, Bool, true, false, List, [], ◌∷◌, ◌++◌, ◌≡◌, ◌<◌, ◌≤◌, ◌+◌, ◌==◌, ◌⊎◌, inl, inr, cond, length, refl, sym, ap, ◌∙◌, arith, eq-eqb, length-append}
+use Rattle.std.proofs.Common.{ℕ, true, false, List, [], ◌∷◌, ◌++◌, ◌≡◌, ◌<◌, ◌≤◌, ◌+◌, ◌==◌, ◌⊎◌, inl, inr, cond, length, refl, sym, ap, ◌∙◌, arith, eq-eqb, length-append}
 use Rattle.std.proofs.lemmas.Bool.{lt-ltb, le-ltb}
 use Rattle.std.specs.Ordering.{is_gt, is_lt, on, then_cmp, nat_cmp}
-use Rattle.std.specs.declared.cmp.Ordering.{Ordering}
 use Rattle.std.specs.declared.cmp.Ordering.TheVariants.{Less, Equal, Greater}
 use Rattle.std.specs.Cmp.Lexicographic.{slice_cmp}
 use Rattle.cq_theory.specs.declared.term.EntTerm.{EntTerm}
-use Rattle.cq_theory.specs.EntTerm.{depth_of}
 use Rattle.cq_theory.specs.Listed.{term_cmp}
 use Rattle.cq_model.specs.Walking.{IsPathBefore, IsBefore, IsUpTo, generator_term, one_further}
 

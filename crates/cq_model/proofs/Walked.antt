@@ -12,7 +12,7 @@ use Rattle.cq_rows.specs.Saturated.{HasEntries}
 use Rattle.cq_rows.proofs.Bridge.{sort_same}
 use Rattle.cq_rows.proofs.Sorts.{sort-along, end_one}
 use Rattle.cq_rows.proofs.Cells.{filled_below}
-use Rattle.cq_rows.proofs.Tracing.{trace-append, trace_append, trace_one}
+use Rattle.cq_rows.proofs.Tracing.{trace_append, trace_one}
 use Rattle.cq_base.specs.declared.name.Name.{Name}
 use Rattle.cq_theory.specs.declared.presentation.Presentation.{Presentation}
 use Rattle.cq_theory.specs.declared.presentation.Sort.{Sort}
@@ -20,7 +20,7 @@ use Rattle.cq_theory.specs.SchemaData.{SchemaData as Schema}
 use Rattle.cq_theory.specs.declared.term.EntTerm.{EntTerm}
 use Rattle.cq_theory.specs.Sorts.{entity_of, entity_at}
 use Rattle.cq_model.proofs.Lists.{get-append_front}
-use Rattle.cq_model.specs.Walking.{IsBefore, IsUpTo, generator_term, one_further, Listing, unmet, Meets, IsNamedUpTo, IsPast, IsStep, IsGenerator, IsListing, IsWalked}
+use Rattle.cq_model.specs.Walking.{IsBefore, generator_term, one_further, Listing, unmet, Meets, IsNamedUpTo, IsPast, IsStep, IsGenerator, IsListing, IsWalked}
 use Rattle.cq_model.proofs.TermOrder.{IsBefore-further, IsBefore-keys, IsBefore-generators, IsBefore-generator, IsUpTo-further, IsUpTo-trans}
 
 -- what stands in a list with one more

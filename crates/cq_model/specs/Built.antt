@@ -1,5 +1,5 @@
 -- What is built of closed rows and closed nodes.
-use Rattle.std.specs.Prelude.{ℕ, List, [], Option, Some, None, ◌≡◌, map, length, slice_index, slice_index_or}
+use Rattle.std.specs.Prelude.{ℕ, List, Option, Some, None, ◌≡◌, map, length, slice_index}
 use Rattle.std.specs.List.{enumerate_from}
 use Rattle.cq_base.specs.declared.name.Name.{Name}
 use Rattle.cq_tables.specs.Content.{Content, cell_of}
@@ -16,7 +16,6 @@ use Rattle.cq_theory.specs.SchemaData.{SchemaData as Schema}
 use Rattle.cq_theory.specs.declared.term.EntTerm.{EntTerm}
 use Rattle.cq_theory.specs.declared.value.Value.{Value}
 use Rattle.cq_theory.specs.declared.value.Sheet.{Sheet}
-use Rattle.cq_theory.specs.declared.value.Algebra.{Algebra}
 use Rattle.cq_theory.specs.Tables.{Tables, Meaning, AtRow, AtValue, Assignment}
 
 -- what the closing of nodes gives

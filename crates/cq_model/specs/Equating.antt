@@ -1,15 +1,13 @@
 -- Equations that are added with the nodes of their sides.
-use Rattle.std.specs.Prelude.{ℕ, List, [], ◌∷◌, ◌++◌, Some, ◌≡◌, ◌<◌, ◌==◌, map, filter, take, length, slice_get, slice_index_or, All}
+use Rattle.std.specs.Prelude.{ℕ, List, [], ◌∷◌, ◌++◌, Some, ◌≡◌, ◌<◌, ◌==◌, map, filter, slice_index_or}
 use Rattle.std.specs.List.{flat_map}
 use Rattle.cq_tables.specs.Content.{Content}
-use Rattle.cq_tables.specs.Content.{entity_of as row_entity}
 use Rattle.cq_rows.specs.Rows.{row_of_term}
 use Rattle.cq_model.specs.declared.places.Places.{Places}
 use Rattle.cq_model.specs.NodeListData.{NodeListData}
-use Rattle.cq_model.specs.NodeTerms.{side_terms, equation_sides, AreNodes}
+use Rattle.cq_model.specs.NodeTerms.{side_terms}
 use Rattle.cq_model.specs.Pushing.{AreReadable, AreEquationsOf}
 use Rattle.cq_theory.specs.declared.presentation.Presentation.{Presentation}
-use Rattle.cq_theory.specs.declared.presentation.Equation.{Equation}
 use Rattle.cq_theory.specs.declared.schema.ObsEq.{ObsEq}
 use Rattle.cq_theory.specs.SchemaData.{SchemaData as Schema}
 use Rattle.cq_theory.specs.declared.term.EntTerm.{EntTerm}

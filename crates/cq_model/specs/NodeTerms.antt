@@ -1,5 +1,5 @@
 -- The terms whose equality is decided, and the nodes that stand for them.
-use Rattle.std.specs.Prelude.{ℕ, List, [], ◌∷◌, ◌++◌, ◌+◌, ◌<◌, ◌==◌, ◌≡◌, map, filter, length, Option, Some, None, true, slice_get, slice_index, All}
+use Rattle.std.specs.Prelude.{ℕ, List, [], ◌∷◌, ◌++◌, ◌+◌, ◌<◌, ◌==◌, ◌≡◌, map, filter, length, Some, true, slice_get, slice_index, All}
 use Rattle.std.specs.List.{flat_map, enumerate_from, filter_map}
 use Rattle.cq_tables.specs.Content.{Content, live_of}
 use Rattle.cq_tables.specs.Content.{entity_of as row_entity}

@@ -4,7 +4,6 @@ use Rattle.cq_tables.specs.Content.{Content, live_of, keys_of, made_of, IsWhole}
 use Rattle.cq_tables.specs.Content.{entity_of as row_entity}
 use Rattle.cq_rows.specs.Plain.{ends_of}
 use Rattle.cq_rows.specs.Rows.{AllFilled, row_of_term}
-use Rattle.cq_flat.specs.declared.node.Node.{Node}
 use Rattle.cq_model.specs.declared.places.Places.{Places}
 use Rattle.cq_model.specs.NodeListData.{NodeListData}
 use Rattle.cq_model.specs.NodeTerms.{made_terms, side_terms, cell_place, StandsFor, AreNodes, AreSidesOf, AreTypes}

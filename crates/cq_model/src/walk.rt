@@ -49,12 +49,7 @@ impl Walk {
     }
 
     /// Names a row by a generator, if it has no name.
-    fn meet_generator(
-        &mut self,
-        alloc: Global,
-        row: u64,
-        generator: u32,
-    ) -> Result<(), AllocError>
+    fn meet_generator(&mut self, alloc: Global, row: u64, generator: u32) -> Result<(), AllocError>
         requires { row < length self.old.met }
         ensures { OnOk result (Meets self.old self.new row (generator_term generator)) }
     {
@@ -66,13 +61,7 @@ impl Walk {
     }
 
     /// Names a row by the step along a key from the row at a place of the list, if it has no name.
-    fn meet_step(
-        &mut self,
-        alloc: Global,
-        row: u64,
-        at: usize,
-        key: u32,
-    ) -> Result<(), AllocError>
+    fn meet_step(&mut self, alloc: Global, row: u64, at: usize, key: u32) -> Result<(), AllocError>
         requires row { row < length self.old.met }
         requires at { at < length self.old.names }
         ensures { OnOk result ((name : Term) → slice_get self.old.names at ≡ Some name → Meets self.old self.new row (one_further name key)) }

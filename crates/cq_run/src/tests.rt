@@ -237,9 +237,11 @@ fn tall(alloc: Global, functions: usize) -> Result<String, AllocError> {
     for _function in 0..functions {
         term = format!(in alloc; "succ({term})")?;
     }
-    format!(in alloc; "typeside T = literal {{ types n constants zero : n functions succ : n -> n plus : n, n -> n }}
+    format!(in alloc;
+        "typeside T = literal {{ types n constants zero : n functions succ : n -> n plus : n, n -> n }}
 schema S = literal : T {{ }}
-instance I = literal : S {{ equations {term} = zero }}")
+instance I = literal : S {{ equations {term} = zero }}"
+    )
 }
 
 #[test]

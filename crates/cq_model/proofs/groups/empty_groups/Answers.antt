@@ -1,4 +1,4 @@
-use Rattle.std.proofs.Common.{ℕ, List, [], ◌∷◌, ◌++◌, map, sym, ap, ◌∙◌}
+use Rattle.std.proofs.Common.{[], ◌∷◌, ◌++◌, map, sym, ap, ◌∙◌}
 use Rattle.cq_model.proofs.Lists.{map-append}
 use Rattle.cq_model.proofs.Counting.{empties_more}
 use Rattle.cq_model.proofs.groups.empty_groups.Goals as goal

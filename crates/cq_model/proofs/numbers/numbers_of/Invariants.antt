@@ -1,4 +1,4 @@
-use Rattle.std.proofs.Common.{ℕ, ◌≡◌, length, replicate}
+use Rattle.std.proofs.Common.{◌≡◌, length, replicate}
 use Rattle.cq_model.proofs.Spreads.{AreSpread}
 use Rattle.cq_model.proofs.numbers.numbers_of.Given as goal
 

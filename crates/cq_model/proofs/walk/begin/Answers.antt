@@ -1,6 +1,5 @@
-use Rattle.std.proofs.Common.{ℕ, ◌≡◌, ◌∙◌, ◌<◌, ap, subst, length, arith}
+use Rattle.std.proofs.Common.{◌≡◌, ◌∙◌, ap, subst, length, arith}
 use Rattle.std.specs.Prelude.{slice_index}
-use Rattle.cq_theory.specs.SchemaData.{SchemaData as Schema}
 use Rattle.cq_model.specs.Walking.{IsWalked, generator_term}
 use Rattle.cq_model.proofs.Walked.{IsWalked-generator, IsWalked-other}
 use Rattle.cq_model.proofs.Expanding.{meets_marks, begun, begun_marks, generator_is, generator_not}

@@ -1,6 +1,4 @@
-use Rattle.std.proofs.Common.{rules, Option, ℕ, List, Some, None, ◌≡◌, ◌∙◌, ap, subst, sym, length, arith, true, ◌+◌}
-use Rattle.cq_tables.specs.Content.{live_of, step_of, keys_of}
-use Rattle.cq_tables.specs.Content.{entity_of as row_entity}
+use Rattle.std.proofs.Common.{rules, Option, ℕ, Some, ◌≡◌, ◌∙◌, ap, subst, sym, arith, ◌+◌}
 use Rattle.std.specs.Prelude.{IsSome}
 use Rattle.cq_theory.specs.SchemaData.{SchemaData as Schema}
 use Rattle.cq_model.specs.Walking.{Listing, IsExpanding}
@@ -34,14 +32,14 @@ cell-requires-clause-key c =
 pub loop-key-preserved : goal.loop-key-preserved
 loop-key-preserved c =
     elim c.match-cell.branch [
-    | in-Some+in_ok-meet_step w ↦
-        subst (λ (x : Listing). IsExpanding c.args.schema.now c.args.tables.now c.args.walk.now x c.args.at c.index-row.result.now (c.loop-key.key + 1)) (sym w.walk-is)
-        (expanding_step c.args.schema.now c.args.tables.now c.requires.whole c.requires.keys c.args.walk.now c.loop-key.walk w.meet_step.new.self c.args.at c.index-row.result.now c.loop-key.key w.in-Some.to c.loop-key.invariant
-        (sym w.in-Some.ensures.value) w.in_ok-meet_step.ensures)
-    | in_default w ↦
-        subst (λ (x : Listing). IsExpanding c.args.schema.now c.args.tables.now c.args.walk.now x c.args.at c.index-row.result.now (c.loop-key.key + 1)) (sym w.walk-is)
-        (expanding_skip c.args.schema.now c.args.tables.now c.requires.whole c.requires.keys c.args.walk.now c.loop-key.walk c.args.at c.index-row.result.now c.loop-key.key c.loop-key.invariant
-        (sym c.cell.ensures.value ∙ w.in_default.is))
+      | in-Some+in_ok-meet_step w ↦
+          subst (λ (x : Listing). IsExpanding c.args.schema.now c.args.tables.now c.args.walk.now x c.args.at c.index-row.result.now (c.loop-key.key + 1)) (sym w.walk-is)
+          (expanding_step c.args.schema.now c.args.tables.now c.requires.whole c.requires.keys c.args.walk.now c.loop-key.walk w.meet_step.new.self c.args.at c.index-row.result.now c.loop-key.key w.in-Some.to c.loop-key.invariant
+          (sym w.in-Some.ensures.value) w.in_ok-meet_step.ensures)
+      | in_default w ↦
+          subst (λ (x : Listing). IsExpanding c.args.schema.now c.args.tables.now c.args.walk.now x c.args.at c.index-row.result.now (c.loop-key.key + 1)) (sym w.walk-is)
+          (expanding_skip c.args.schema.now c.args.tables.now c.requires.whole c.requires.keys c.args.walk.now c.loop-key.walk c.args.at c.index-row.result.now c.loop-key.key c.loop-key.invariant
+          (sym c.cell.ensures.value ∙ w.in_default.is))
     ]
 
 pub returns : goal.returns

@@ -1,5 +1,5 @@
-use Rattle.std.proofs.Common.{ℕ, ◌≡◌, ◌<◌, ◌≤◌, ap, sym, length, arith}
-use Rattle.std.specs.Prelude.{slice_index, slice_get, Some}
+use Rattle.std.proofs.Common.{◌<◌, ◌≤◌, ap, sym, length, arith}
+use Rattle.std.specs.Prelude.{slice_index}
 use Rattle.std.proofs.lemmas.Option.{slice_get-get_or}
 use Rattle.cq_model.specs.Walking.{Listing}
 use Rattle.cq_model.proofs.Expanding.{IsWalked-end}
