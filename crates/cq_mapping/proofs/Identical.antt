@@ -11,7 +11,7 @@ use Rattle.cq_theory.specs.declared.schema.ObsEq.{ObsEq}
 use Rattle.cq_theory.specs.SchemaData.{SchemaData as Schema}
 use Rattle.cq_theory.specs.declared.term.EntTerm.{EntTerm}
 use Rattle.cq_theory.specs.declared.term.TypeTerm.{TypeTerm}
-use Rattle.cq_theory.specs.declared.term.TypeTerm.TheVariants.{Gen, Const, Att, Fun}
+use Rattle.cq_theory.specs.declared.term.TypeTerm.TheVariants.{Const, Att, Fun}
 use Rattle.cq_theory.specs.declared.term.Term.TheVariants.{Ent, Typ}
 use Rattle.cq_theory.specs.EntTerm.{extended}
 use Rattle.cq_theory.specs.TypeTerm.{symbols_of, symbols_step, substituted, substituted_step}
@@ -27,8 +27,7 @@ use Rattle.cq_theory.proofs.Faults.{made_of}
 use Rattle.cq_mapping.specs.MappingData.{MappingData as Mapping}
 use Rattle.cq_mapping.specs.Images.{entity_image, key_image, attribute_image, path_image, ent_image, type_image, type_image_step}
 use Rattle.cq_mapping.specs.Mapping.{IsMapping, IsKeyImage, IsAttributeImage, identity_of, attribute_itself}
-use Rattle.cq_mapping.specs.declared.duties.Duty.{Duty}
-use Rattle.cq_mapping.specs.Duties.{one_generator, path_duty, observation_duty, duties_of, IsDerivable, Preserves}
+use Rattle.cq_mapping.specs.Duties.{one_generator, path_duty, observation_duty, IsDerivable, Preserves}
 
 in_parts : {X : Type 0} (xs ys : List X) (n : ℕ) (x : X) → slice_get (xs ++ ys) n ≡ Some x → ((m : ℕ) × (slice_get xs m ≡ Some x)) ⊎ ((m : ℕ) × (slice_get ys m ≡ Some x))
 in_parts [] ys n x h = inr (n, h)

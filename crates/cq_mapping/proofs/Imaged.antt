@@ -1,18 +1,15 @@
 -- The image of a term that has a sort has the image of the sort.
-use Rattle.std.proofs.Common.{ℕ, Bool, true, List, [], ◌∷◌, ◌++◌, Option, Some, None, ◌≡◌, ◌<◌, ◌&&◌, if◌then◌else◌, map, length, refl, sym, ap, subst, ◌∙◌}
+use Rattle.std.proofs.Common.{ℕ, Bool, true, List, [], ◌∷◌, Option, Some, None, ◌≡◌, ◌&&◌, if◌then◌else◌, map, refl, sym, ap, ◌∙◌}
 use Rattle.std.specs.Prelude.{slice_get, option_and_then, option_map}
 use Rattle.std.proofs.lemmas.Bool.{and_parts}
 use Rattle.std.proofs.lemmas.Option.{option_and_then_some, slice_get-map}
 use Rattle.cq_base.specs.declared.name.Name.{Name}
-use Rattle.cq_theory.specs.declared.presentation.Presentation.{Presentation}
 use Rattle.cq_theory.specs.declared.presentation.Sort.{Sort}
 use Rattle.cq_theory.specs.declared.presentation.Sort.TheVariants.{Plain, Entity}
-use Rattle.cq_theory.specs.declared.schema.Edge.{Edge}
 use Rattle.cq_theory.specs.SchemaData.{SchemaData as Schema}
 use Rattle.cq_theory.specs.TypesideData.{TypesideData as Typeside}
 use Rattle.cq_theory.specs.declared.term.EntTerm.{EntTerm}
 use Rattle.cq_theory.specs.declared.term.TypeTerm.{TypeTerm}
-use Rattle.cq_theory.specs.declared.term.TypeTerm.TheVariants.{Gen, Const, Att, Fun}
 use Rattle.cq_theory.specs.declared.term.Term.{Term}
 use Rattle.cq_theory.specs.declared.term.Term.TheVariants.{Ent, Typ}
 use Rattle.cq_theory.specs.Sorts.{Generators, followed, target_of, entity_at, type_at, entity_of, is_type, have_types, applied_type, type_of, type_step, sort_of}

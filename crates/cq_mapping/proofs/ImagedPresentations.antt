@@ -1,6 +1,6 @@
 -- The image of a presentation is one over the target.
-use Rattle.std.proofs.Common.{ℕ, Bool, true, false, List, [], ◌∷◌, Option, Some, None, ◌≡◌, ◌<◌, ◌≤◌, ◌||◌, map, length, get_or, refl, sym, ap, subst, ◌∙◌, arith}
-use Rattle.std.specs.Prelude.{slice_get, option_map, nat_lt, All}
+use Rattle.std.proofs.Common.{ℕ, Bool, true, false, List, Option, Some, None, ◌≡◌, ◌<◌, ◌≤◌, ◌||◌, map, length, get_or, refl, sym, ap, subst, ◌∙◌, arith}
+use Rattle.std.specs.Prelude.{slice_get, option_map, nat_lt}
 use Rattle.std.specs.List.{list_any}
 use Rattle.std.proofs.lemmas.List.{length-map, get_or-map}
 use Rattle.std.proofs.lemmas.List.Folds.{list_any_at}
@@ -14,12 +14,11 @@ use Rattle.cq_theory.specs.declared.presentation.Equation.{Equation}
 use Rattle.cq_theory.specs.declared.presentation.Equation.TheVariants as equation
 use Rattle.cq_theory.specs.declared.presentation.Presentation.{Presentation}
 use Rattle.cq_theory.specs.declared.term.Term.{Term}
-use Rattle.cq_theory.specs.declared.term.Term.TheVariants.{Ent, Typ}
 use Rattle.cq_theory.specs.Sorts.{sort_of}
 use Rattle.cq_theory.specs.Derivation.{left_of, right_of}
 use Rattle.cq_theory.specs.Presentation.{IsSort, IsEquation, IsPresentation, term_symbols}
 use Rattle.cq_mapping.specs.MappingData.{MappingData as Mapping}
-use Rattle.cq_mapping.specs.Images.{entity_image, term_image, sort_image, equation_image, generator_images, sigma}
+use Rattle.cq_mapping.specs.Images.{term_image, sort_image, equation_image, generator_images, sigma}
 use Rattle.cq_mapping.specs.Mapping.{IsMapping}
 use Rattle.cq_mapping.specs.Duties.{is_long, has_long_side, is_too_large}
 use Rattle.cq_mapping.proofs.Imaged.{sort_of-image}

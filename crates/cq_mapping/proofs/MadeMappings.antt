@@ -1,15 +1,13 @@
 -- Parts without faults give a mapping.
-use Rattle.std.proofs.Common.{ℕ, zero, suc, Bool, true, false, not, List, [], ◌∷◌, ◌++◌, Option, Some, None, ◌≡◌, ◌<◌, ◌≤◌, ◌+◌, ◌-◌, ◌==◌, ◌&&◌, ◌||◌, ◌⊎◌, inl, inr, if◌then◌else◌, map, take, length, get_or, refl, sym, ap, subst, ◌∙◌, arith, length-append}
-use Rattle.std.specs.Prelude.{slice_get, slice_index, is_none, is_some, nat_lt, cond, option_map, option_and_then, All}
-use Rattle.std.specs.List.{filter_map, cons_option}
+use Rattle.std.proofs.Common.{ℕ, zero, suc, Bool, true, false, not, List, [], ◌∷◌, Option, Some, None, ◌≡◌, ◌<◌, ◌≤◌, ◌+◌, ◌-◌, ◌==◌, ◌||◌, ◌⊎◌, inl, inr, if◌then◌else◌, map, take, length, get_or, refl, sym, ap, subst, ◌∙◌, arith}
+use Rattle.std.specs.Prelude.{slice_get, slice_index, is_none, is_some, cond, option_map, option_and_then, All}
+use Rattle.std.specs.List.{cons_option}
 use Rattle.std.proofs.lemmas.Bool.{and_parts, eqb-true, eq-eqb}
 use Rattle.std.proofs.lemmas.List.{length-map}
 use Rattle.std.proofs.lemmas.Option.{option_and_then_some, cond_some, slice_get_within, slice_get-get_or, get_or_from_slice_get}
 use Rattle.cq_base.specs.declared.name.Name.{Name}
-use Rattle.cq_base.specs.declared.raw.Raw.{Raw}
 use Rattle.cq_base.specs.Names.{number_of}
 use Rattle.cq_base.proofs.Numbers.{number_of-within}
-use Rattle.cq_theory.specs.declared.lookup.Symbol.{Symbol}
 use Rattle.cq_theory.specs.declared.lookup.Symbol.TheVariants as symbol
 use Rattle.cq_theory.specs.declared.lookup.TermRefusal.{TermRefusal}
 use Rattle.cq_theory.specs.declared.lookup.TermRefusal.TheVariants.{Unknown, WrongCount, WrongSort, TooLarge}
@@ -25,28 +23,25 @@ use Rattle.cq_theory.specs.declared.presentation.Sort.{Sort}
 use Rattle.cq_theory.specs.declared.presentation.Sort.TheVariants.{Plain, Entity}
 use Rattle.cq_theory.specs.declared.schema.Edge.{Edge}
 use Rattle.cq_theory.specs.SchemaData.{SchemaData as Schema}
-use Rattle.cq_theory.specs.declared.term.EntTerm.{EntTerm}
 use Rattle.cq_theory.specs.declared.term.TypeTerm.{TypeTerm}
-use Rattle.cq_theory.specs.declared.term.TypeTerm.TheVariants.{Const, Att}
+use Rattle.cq_theory.specs.declared.term.TypeTerm.TheVariants.{Const}
 use Rattle.cq_theory.specs.TypeTerm.{symbols_of, symbols_step}
 use Rattle.cq_theory.specs.Sorts.{followed, target_of, type_of, type_step}
 use Rattle.cq_theory.specs.Schema.{IsSchema, edge_names, one_of}
-use Rattle.cq_theory.specs.Resolve as resolve
-use Rattle.cq_theory.specs.Resolve.{or_else, sort_named, symbol_of, entity_in, raw_sort, same_sort, are_of_one_sort, in_part, has_wrong_count}
-use Rattle.cq_theory.specs.Resolved.{resolved, type_term_in}
-use Rattle.cq_theory.specs.Declaring.{first_part_fault, duplicate_or, number_or_zero}
+use Rattle.cq_theory.specs.Resolve.{or_else, sort_named, symbol_of, entity_in, raw_sort, same_sort, are_of_one_sort, in_part}
+use Rattle.cq_theory.specs.Declaring.{number_or_zero}
 use Rattle.cq_theory.specs.Paths.{is_among, path_keys, path_start, path_end}
-use Rattle.cq_theory.specs.Routes.{is_at, attribute_last, path_attribute, path_ends, ends_with, entity_ends, attribute_ends, start_before, path_symbols}
+use Rattle.cq_theory.specs.Routes.{is_at, attribute_last, path_attribute, path_ends, ends_with, attribute_ends, start_before, path_symbols}
 use Rattle.cq_theory.proofs.TypeTerms.{fold-Att}
 use Rattle.cq_theory.proofs.DeclaredParts.{or_else_none, new_name, first_part_fault-each}
-use Rattle.cq_theory.proofs.Faults.{of_four, not_false, neither, at_most}
-use Rattle.cq_theory.proofs.MadePaths.{map_pair, path_keys-target}
+use Rattle.cq_theory.proofs.Faults.{of_four, not_false, at_most}
+use Rattle.cq_theory.proofs.MadePaths.{path_keys-target}
 use Rattle.cq_theory.proofs.MadeObservations.{stated_within, side_type, side_fits}
 use Rattle.cq_theory.proofs.OnValues.{All_at}
 use Rattle.cq_mapping.specs.MappingData.{MappingData as Mapping}
-use Rattle.cq_mapping.specs.Images.{entity_image, key_image, attribute_image}
+use Rattle.cq_mapping.specs.Images.{key_image, attribute_image}
 use Rattle.cq_mapping.specs.Mapping.{IsMapping, IsKeyImage, IsAttributeImage}
-use Rattle.cq_mapping.specs.MappingParts.{of_mapping, first_missing, entity_ends_fault, entity_part_fault, entity_parts_fault, given_entities, given_arrows, made_entity, made_entities, variables_of, are_ends, has_unknown_image, has_wrong_count_image, is_too_large_image, is_stated, is_image_of_key, is_image_of_attribute, made_path, made_term, path_term, arrow_named, path_in, term_in, made_key, made_attribute, is_right_key, is_right_attribute, is_right, arrow_fault, arrow_fault_over, arrow_part_fault, arrows_fault, arrows_and_rest_fault, made_over, mapping_fault, mapping_made}
+use Rattle.cq_mapping.specs.MappingParts.{of_mapping, first_missing, entity_ends_fault, entity_part_fault, entity_parts_fault, given_entities, given_arrows, made_entity, made_entities, variables_of, are_ends, has_unknown_image, has_wrong_count_image, is_too_large_image, is_stated, is_image_of_key, is_image_of_attribute, made_path, made_term, path_term, path_in, term_in, made_key, made_attribute, is_right_key, is_right_attribute, is_right, arrow_fault, arrow_part_fault, arrows_fault, arrows_and_rest_fault, made_over, mapping_fault, mapping_made}
 use Rattle.cq_mapping.proofs.Named.{found_name, get_mapped, symbol_of-key, symbol_of-attribute}
 
 no_refusal : (o : Option TheoryRefusal) → option_map of_mapping o ≡ None → o ≡ None

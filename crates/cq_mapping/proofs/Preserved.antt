@@ -1,10 +1,8 @@
 -- The image of a derivation's conclusion is derivable in the image of the presentation.
-use Rattle.std.proofs.Common.{ℕ, zero, suc, Bool, true, List, [], ◌∷◌, ◌++◌, Option, Some, None, ◌≡◌, ◌+◌, map, length, refl, sym, ap, subst, ◌∙◌, append_assoc, arith}
-use Rattle.std.specs.Prelude.{slice_get, option_and_then, option_map}
-use Rattle.std.specs.List.{flat_map}
-use Rattle.std.proofs.lemmas.List.{append-nil, length-map}
+use Rattle.std.proofs.Common.{ℕ, zero, suc, true, List, [], ◌∷◌, ◌++◌, Option, Some, None, ◌≡◌, ◌+◌, map, length, refl, sym, ap, subst, ◌∙◌, append_assoc, arith}
+use Rattle.std.specs.Prelude.{slice_get, option_map}
+use Rattle.std.proofs.lemmas.List.{append-nil}
 use Rattle.std.proofs.lemmas.Option.{option_and_then_some}
-use Rattle.cq_base.specs.declared.name.Name.{Name}
 use Rattle.cq_theory.specs.declared.presentation.Presentation.{Presentation}
 use Rattle.cq_theory.specs.declared.presentation.Equation.{Equation}
 use Rattle.cq_theory.specs.declared.presentation.Equation.TheVariants as equation
@@ -13,12 +11,12 @@ use Rattle.cq_theory.specs.declared.presentation.Sort.TheVariants.{Plain, Entity
 use Rattle.cq_theory.specs.SchemaData.{SchemaData as Schema}
 use Rattle.cq_theory.specs.declared.term.EntTerm.{EntTerm}
 use Rattle.cq_theory.specs.declared.term.TypeTerm.{TypeTerm}
-use Rattle.cq_theory.specs.declared.term.TypeTerm.TheVariants.{Gen, Const, Att, Fun}
+use Rattle.cq_theory.specs.declared.term.TypeTerm.TheVariants.{Const, Att, Fun}
 use Rattle.cq_theory.specs.declared.term.Term.{Term}
 use Rattle.cq_theory.specs.declared.term.Term.TheVariants.{Ent, Typ}
 use Rattle.cq_theory.specs.EntTerm.{extended}
 use Rattle.cq_theory.specs.TypeTerm.{substituted, substituted_step}
-use Rattle.cq_theory.specs.Sorts.{followed, target_of, type_at, entity_of, is_type, have_types, type_of, type_step, sort_of, IsGround}
+use Rattle.cq_theory.specs.Sorts.{followed, type_at, entity_of, is_type, have_types, type_of, type_step, sort_of, IsGround}
 use Rattle.cq_theory.specs.Schema.{one_of}
 use Rattle.cq_theory.specs.Derivation.{Derivation, Derivations, reflexivity, symmetry, transitivity, key, attribute, function, given, path_equation, observation, none, more, Concludes, Conclude, Derives, EachDerives, left_of, right_of}
 use Rattle.cq_theory.proofs.TypeTerms.{fold-Gen, fold-Const, fold-Att, fold-Fun, Each, on_terms}
@@ -27,12 +25,11 @@ use Rattle.cq_theory.proofs.Sound.{followed_some, is_type_some, applied_type_som
 use Rattle.cq_theory.proofs.Sorted.{type_of-substituted}
 use Rattle.cq_theory.proofs.Closings.{entity_before, extended-cons}
 use Rattle.cq_mapping.specs.MappingData.{MappingData as Mapping}
-use Rattle.cq_mapping.specs.Images.{entity_image, key_image, attribute_image, path_image, ent_image, type_image, type_image_step, term_image, equation_image, generator_images, sigma}
+use Rattle.cq_mapping.specs.Images.{entity_image, key_image, attribute_image, path_image, ent_image, type_image, type_image_step, term_image, equation_image, sigma}
 use Rattle.cq_mapping.specs.Mapping.{IsMapping}
-use Rattle.cq_mapping.specs.declared.duties.Duty.{Duty}
-use Rattle.cq_mapping.specs.Duties.{one_generator, path_duty, observation_duty, duties_of, Preserves}
+use Rattle.cq_mapping.specs.Duties.{path_duty, observation_duty, Preserves}
 use Rattle.cq_mapping.proofs.Imaged.{entity_of-image, sort_of-image}
-use Rattle.cq_mapping.proofs.Substituting.{replaced, substituted-substituted, Derives-replaced}
+use Rattle.cq_mapping.proofs.Substituting.{substituted-substituted, Derives-replaced}
 
 get_front : {X : Type 0} (xs ys : List X) (n : ℕ) (x : X) → slice_get xs n ≡ Some x → slice_get (xs ++ ys) n ≡ Some x
 get_front [] ys n x h = cc

@@ -1,7 +1,6 @@
 -- Images of entities, paths, terms and presentations under a mapping.
 use Rattle.std.specs.Prelude.{ℕ, List, [], map, slice_index, slice_index_or}
 use Rattle.std.specs.List.{flat_map}
-use Rattle.cq_base.specs.declared.name.Name.{Name}
 use Rattle.cq_theory.specs.declared.presentation.Sort.{Sort}
 use Rattle.cq_theory.specs.declared.presentation.Sort.TheVariants.{Plain, Entity}
 use Rattle.cq_theory.specs.declared.presentation.Equation.{Equation}

@@ -1,9 +1,9 @@
 -- The first fault of the parts of a mapping, and the mapping that they give.
-use Rattle.std.specs.Prelude.{ℕ, Bool, true, false, not, List, [], ◌∷◌, ◌+◌, ◌==◌, ◌&&◌, ◌||◌, if◌then◌else◌, map, length, slice_get, slice_index, Option, Some, None, is_none, nat_lt, option_map, option_and_then}
+use Rattle.std.specs.Prelude.{ℕ, Bool, true, false, not, List, [], ◌∷◌, ◌==◌, ◌&&◌, ◌||◌, if◌then◌else◌, map, length, slice_get, slice_index, Option, Some, None, is_none, nat_lt, option_map, option_and_then}
 use Rattle.cq_base.specs.declared.name.Name.{Name}
 use Rattle.cq_base.specs.Names.{number_of}
 use Rattle.cq_theory.specs.declared.lookup.Symbol.{Symbol}
-use Rattle.cq_theory.specs.declared.lookup.Symbol.TheVariants.{Function, Key, Attribute}
+use Rattle.cq_theory.specs.declared.lookup.Symbol.TheVariants.{Key, Attribute}
 use Rattle.cq_theory.specs.declared.lookup.TermRefusal.{TermRefusal}
 use Rattle.cq_theory.specs.declared.lookup.TermRefusal.TheVariants as term_refusal
 use Rattle.cq_theory.specs.declared.lookup.TheoryRefusal.{TheoryRefusal}

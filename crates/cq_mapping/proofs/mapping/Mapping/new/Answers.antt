@@ -1,6 +1,5 @@
 use Rattle.std.proofs.lemmas.Grind.{common_steps}
-use Rattle.std.proofs.Common.{◌≡◌, ◌⊎◌, Some, ◌∙◌, sym, refl, ap, length, subst, arith, rules}
-use Rattle.cq_theory.specs.SchemaData.{SchemaData as Schema}
+use Rattle.std.proofs.Common.{◌≡◌, ◌⊎◌, Some, ◌∙◌, ap, length, subst, arith, rules}
 use Rattle.cq_theory.specs.Schema.{IsSchema}
 use Rattle.cq_theory.specs.declared.lookup.ArrowRefusal.TheVariants.{Memory}
 use Rattle.cq_mapping.specs.MappingParts.{mapping_fault}
