@@ -7,11 +7,11 @@ PROGRAM is by default crates/cqlrun/out/cqlrun, which `./cqlrun` builds. For eac
 the seconds (the best of three runs), the rows a second, the peak memory, that memory for each row and attribute together, and how much the time
 grew from a tenth of the rows.
 """
-import os
 import pathlib
 import sys
 import tempfile
-import time
+
+from whole_run import run
 
 ROOT = pathlib.Path(__file__).resolve().parent.parent
 
@@ -24,21 +24,6 @@ def text(rows, attributes):
         f"schema S = literal : T {{ entities E attributes {names} : E -> s }}\n"
         f"instance I = literal : S {{ generators {generators} : E }}\n"
     )
-
-
-def run(program, folder):
-    """Seconds and peak memory in bytes of one run."""
-    start = time.perf_counter()
-    child = os.fork()
-    if child == 0:
-        os.chdir(folder)
-        out = os.open("out", os.O_WRONLY | os.O_CREAT | os.O_TRUNC)
-        os.dup2(out, 1)
-        os.execv(program, [program, "run", "p.cql"])
-    _, status, usage = os.wait4(child, 0)
-    if status != 0:
-        sys.exit(f"the program ended with {status}")
-    return time.perf_counter() - start, usage.ru_maxrss * 1024
 
 
 def main():

@@ -6,11 +6,11 @@
 PROGRAM is by default crates/cqlrun/out/cqlrun, which `./cqlrun` builds. For each case it prints the seconds at a tenth of its size and in
 full (the best of five runs, from the bytes to the last line), their ratio, and the peak memory of the larger run.
 """
-import os
 import pathlib
 import sys
 import tempfile
-import time
+
+from whole_run import run
 
 ROOT = pathlib.Path(__file__).resolve().parent.parent
 TYPESIDE = "typeside T = literal { types s constants Al : s }\n"
@@ -46,21 +46,6 @@ def instances(size):
     """This many declarations of instances with one generator each."""
     lines = "".join(f"instance I{n} = literal : S {{ generators a : E }}\n" for n in range(size))
     return TYPESIDE + "schema S = literal : T { entities E }\n" + lines, 0
-
-
-def run(program, folder, wanted):
-    """Seconds and peak memory in bytes of one run."""
-    start = time.perf_counter()
-    child = os.fork()
-    if child == 0:
-        os.chdir(folder)
-        out = os.open("out", os.O_WRONLY | os.O_CREAT | os.O_TRUNC)
-        os.dup2(out, 1)
-        os.execv(program, [program, "run", "p.cql"])
-    _, status, usage = os.wait4(child, 0)
-    if os.waitstatus_to_exitcode(status) != wanted:
-        sys.exit(f"the program ended with {status}")
-    return time.perf_counter() - start, usage.ru_maxrss * 1024
 
 
 def measure(program, case, size):
