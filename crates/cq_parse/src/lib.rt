@@ -23,6 +23,3 @@ mod words;
 
 pub use parser::parse;
 pub use refusal::ParseRefusal;
-
-#[cfg(test)]
-mod tests;

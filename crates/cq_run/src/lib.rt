@@ -11,4 +11,6 @@ pub use status::Status;
 pub use top::run;
 
 #[cfg(test)]
+mod programs;
+#[cfg(test)]
 mod tests;

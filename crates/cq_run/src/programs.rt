@@ -1,6 +1,6 @@
 //! Programs and their refusals, written out.
-use crate::{ParseRefusal, parse};
 use cq_lex::lex;
+use cq_parse::{ParseRefusal, parse};
 use std::alloc::{AllocError, Global};
 use std::process::Abort;
 use std::test::Fail;
