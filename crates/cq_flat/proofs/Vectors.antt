@@ -2,11 +2,10 @@
 use Rattle.std.proofs.Common.{◌≡◌, ℕ, ◌<◌, List, [], length, get_or, sym, ◌∙◌, ap, map}
 use Rattle.std.proofs.Math.ListN.{set}
 use Rattle.std.proofs.lemmas.List.{map-set, get_or-map, length-map}
-use Rattle.std.specs.Prelude.{Vec}
-use Rattle.std.specs.declared.alloc.Global.{Global}
+use Rattle.smallvec.specs.SmallVec.{SmallVec}
 
 abbrev pub Vector : Type 0
-Vector = Vec ℕ Global
+Vector = SmallVec ℕ
 
 abbrev pub lists : List Vector → List (List ℕ)
 lists vs = map (λ v. v.items) vs

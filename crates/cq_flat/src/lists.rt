@@ -1,14 +1,18 @@
 //! A list of numbers for each of some numbers.
 ghost use Rattle.std.specs.Prelude.{◌≡◌, ◌<◌, ℕ, [], ◌∷◌, ◌++◌, length, IfOk, OnOk, replicate, slice_index_or, slice_set};
 
+use smallvec::SmallVec;
 use std::alloc::{AllocError, Global};
 use std::marker::Model;
 use std::mem;
 
+/// A list of numbers. Most lists have at most one, which needs no allocation.
+pub type Numbers = SmallVec<u64, 1>;
+
 /// Numbered lists of numbers.
 #[derive(Drop)]
 pub struct Lists {
-    lists: Vec<Vec<u64>>,
+    lists: Vec<Numbers>,
     alloc: Global,
 }
 
@@ -27,7 +31,7 @@ impl Lists {
     {
         let mut lists = Vec::with_capacity(alloc, count)?;
         for _i in 0..count {
-            lists.push(Vec::new(alloc))?;
+            lists.push(SmallVec::new(alloc))?;
         }
         Ok(Lists { lists, alloc })
     }
@@ -61,12 +65,12 @@ impl Lists {
     }
 
     /// Takes a list out, and leaves an empty one.
-    pub fn take(&mut self, at: u64) -> Vec<u64>
+    pub fn take(&mut self, at: u64) -> Numbers
         requires { at < length self.old }
         ensures taken { result.items ≡ slice_index_or self.old at [] }
         ensures left { self.new ≡ slice_set self.old at [] }
     {
         let list = &mut self.lists[at as usize];
-        mem::replace(list, Vec::new(self.alloc))
+        mem::replace(list, SmallVec::new(self.alloc))
     }
 }

@@ -7,4 +7,4 @@ returns c =
     let vs = c.self.inside.lists.items in
     let at = lists_at vs c.args.at c.index_mut-list.result.now (rw (← c.self.view_is) at c.requires) c.index_mut-list.ensures.value in
     rw (← c.self.view_is)
-    (lists_written vs c.args.at c.push.new.self _ (c.in_ok-push.ensures.items ∙ ap (λ xs. xs ++ c.args.number ∷ []) (sym at)))
+    (lists_written vs c.args.at c.push.new.self _ (c.in_ok-push.ensures.ok ∙ ap (λ xs. xs ++ c.args.number ∷ []) (sym at)))
