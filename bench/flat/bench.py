@@ -2,13 +2,15 @@
 """Times the congruence closure at a tenth and in full.
 
 Builds a small program over the library in a temporary folder, runs each case at a tenth of its size and
-in full, and prints the seconds that `Flat::close` takes in it, the best of three runs, and their ratio.
+in full, and prints the seconds that `Flat::close` takes in it, the best of nine runs, and their ratio.
 Needs the command `rt` in the path. The build takes some minutes.
 
 Sizes in full:
   chain  600,003 nodes: 200,001 leaves, a function of each, and a function of both; 200,000
          equations, each leaf equal to the next
-  tower  200,002 nodes: two leaves, and 100,000 applications over each; one equation, the leaves equal
+  tower  100,001 nodes: a leaf, and 100,000 applications over it; one equation, the leaf equal to the
+         first application, which makes all of them equal from the bottom
+  towers 200,002 nodes: two leaves, and 100,000 applications over each; one equation, the leaves equal
 """
 
 import os
@@ -21,7 +23,7 @@ import tempfile
 
 TOP = os.path.dirname(os.path.dirname(os.path.dirname(os.path.abspath(__file__))))
 CRATES = ["cq_base", "cq_theory", "cq_flat"]
-SIZES = {"chain": 200_000, "tower": 100_000}
+SIZES = {"chain": 200_000, "tower": 100_000, "towers": 100_000}
 
 PROGRAM = r"""//! Times a closure.
 #![tactic(auto)]
@@ -54,6 +56,15 @@ fn chain(alloc: Global, size: u64) -> Result<(Vec<Node>, Vec<(u64, u64)>), Alloc
 }
 
 fn tower(alloc: Global, size: u64) -> Result<(Vec<Node>, Vec<(u64, u64)>), AllocError> {
+    let mut nodes = vec![in alloc; Node::Leaf]?;
+    for below in 0..size {
+        nodes.push(Node::Fun(0, Seq::from_vec(vec![in alloc; below]?)))?;
+    }
+    let equations = vec![in alloc; (0, 1)]?;
+    Ok((nodes, equations))
+}
+
+fn towers(alloc: Global, size: u64) -> Result<(Vec<Node>, Vec<(u64, u64)>), AllocError> {
     let mut nodes = vec![in alloc; Node::Leaf, Node::Leaf]?;
     for below in 0..size.saturating_mul(2) {
         nodes.push(Node::Fun(0, Seq::from_vec(vec![in alloc; below]?)))?;
@@ -76,8 +87,10 @@ fn main(rt: HostRuntime) -> io::Result<()> {
     }
     let (nodes, equations) = if kind == 0 {
         chain(alloc, size)?
-    } else {
+    } else if kind == 1 {
         tower(alloc, size)?
+    } else {
+        towers(alloc, size)?
     };
     let count = nodes.len();
     if !Flat::can_close(nodes.as_slice(), equations.as_slice()) {
@@ -86,10 +99,10 @@ fn main(rt: HostRuntime) -> io::Result<()> {
     let start = Instant::now(&rt)?;
     let flat = Flat::close(alloc, nodes, equations)?;
     let taken = start.elapsed(&rt)?;
-    let millis = taken.as_millis();
+    let micros = taken.as_micros();
     let nulls = flat.nulls().len();
     let entries = flat.entries().len();
-    println!(rt; "nodes {count} nulls {nulls} entries {entries} millis {millis}")
+    println!(rt; "nodes {count} nulls {nulls} entries {entries} micros {micros}")
 }
 """
 
@@ -118,9 +131,9 @@ def build(folder):
 
 def run(program, kind, size):
     best = None
-    for _ in range(3):
+    for _ in range(9):
         done = subprocess.run([program, str(kind), str(size)], capture_output=True, text=True, check=True)
-        found = re.search(r"nodes (\d+) nulls (\d+) entries (\d+) millis (\d+)", done.stdout)
+        found = re.search(r"nodes (\d+) nulls (\d+) entries (\d+) micros (\d+)", done.stdout)
         if not found:
             sys.exit(done.stdout + done.stderr)
         counts = [int(word) for word in found.groups()]
@@ -136,10 +149,10 @@ def main():
         for kind, (name, full) in enumerate(SIZES.items()):
             before = None
             for size in (full // 10, full):
-                nodes, nulls, entries, millis = run(program, kind, size)
-                ratio = f"{millis / before:.1f}" if before else ""
-                before = millis
-                print(f"{name:8}{nodes:>10}{nulls:>10}{entries:>10}{millis / 1000:>10.3f}{ratio:>8}", flush=True)
+                nodes, nulls, entries, micros = run(program, kind, size)
+                ratio = f"{micros / before:.1f}" if before else ""
+                before = micros
+                print(f"{name:8}{nodes:>10}{nulls:>10}{entries:>10}{micros / 1_000_000:>10.4f}{ratio:>8}", flush=True)
 
 
 main()

@@ -7,6 +7,7 @@ ghost use Rattle.cq_flat.specs.Closing.{Enters};
 
 use crate::key::{Key, Table};
 use crate::node::Node;
+use smallvec::SmallVec;
 use std::alloc::{AllocError, Global};
 
 /// What a node is looked up by, where nodes have these classes.
@@ -26,8 +27,8 @@ pub fn key(alloc: Global, classes: &[u64], node: &Node) -> Result<Option<Key>, A
 fn constant_key(alloc: Global, constant: u32) -> Result<Key, AllocError>
     ensures { IfOk result (λ key. key ≡ 0 ∷ constant ∷ []) }
 {
-    let numbers = vec![in alloc; 0, u64::from(constant)]?;
-    Ok(Key::from_vec(numbers))
+    let numbers = SmallVec::from_array(alloc, [0, u64::from(constant)])?;
+    Ok(Key::new(numbers))
 }
 
 /// The key of a function, where nodes have these classes.
@@ -40,13 +41,13 @@ pub fn function_key(
     requires { All (λ arg. arg < length classes.now) args.now }
     ensures { IfOk result (λ key. key ≡ 1 ∷ function ∷ map (slice_index classes.now) args.now) }
 {
-    let mut numbers = Vec::with_capacity(alloc, args.len() + 2)?;
+    let mut numbers = SmallVec::new(alloc);
     numbers.push(1)?;
     numbers.push(u64::from(function))?;
     for arg in args {
         numbers.push(classes[*arg as usize])?;
     }
-    Ok(Key::from_vec(numbers))
+    Ok(Key::new(numbers))
 }
 
 /// Puts a node into the table at its key. The node that was there waits to be joined with it.

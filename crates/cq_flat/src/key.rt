@@ -6,15 +6,16 @@ ghost use Rattle.std.specs.Cmp.Rules.{hashing};
 ghost use Rattle.std.specs.Hash as fed;
 ghost use Rattle.std.proofs.Common.{rules};
 
+use smallvec::SmallVec;
 use std::alloc::{AllocError, Global};
 use std::collections::HashMap;
 use std::hash::{Hash, Hasher};
 use std::marker::Model;
 
-/// A list of numbers, by which nodes are looked up.
+/// A list of numbers, by which nodes are looked up. That of a constant, or of a function of one argument, needs no allocation.
 #[derive(Drop)]
 pub struct Key {
-    numbers: Vec<u64>,
+    numbers: SmallVec<u64, 3>,
 }
 
 impl Model for Key {
@@ -26,7 +27,7 @@ impl Model for Key {
 }
 
 impl Key {
-    pub fn from_vec(numbers: Vec<u64>) -> Key
+    pub fn new(numbers: SmallVec<u64, 3>) -> Key
         ensures { result ≡ numbers.items }
     {
         Key { numbers }
