@@ -2,10 +2,14 @@
 #![tactic(auto)]
 
 mod application;
+pub mod building;
+pub mod equations;
 pub mod free;
 pub mod groups;
 pub mod instance;
 pub mod laws;
+pub mod leaves;
+pub mod nodes;
 pub mod nulls;
 pub mod numbers;
 pub mod places;
@@ -15,6 +19,7 @@ pub mod transform;
 mod values;
 pub mod walk;
 
+pub use building::{BuildRefusal, build};
 pub use free::build_free;
 pub use instance::Instance;
 pub use transform::{Image, Transform};

@@ -1,0 +1,117 @@
+//! The equations between type terms: those of a presentation, and those of its schema at each row.
+ghost use Rattle.std.specs.Prelude.{ℕ, ◌≡◌, ◌<◌, ◌≤◌, ◌^◌, [], true, Some, All, length, slice_get, slice_index_or, OnOk};
+ghost use Rattle.std.specs.List.{flat_map};
+ghost use Rattle.cq_tables.specs.Content.{live_of};
+ghost use Rattle.cq_tables.specs.Content.{entity_of as row_entity};
+ghost use Rattle.cq_theory.specs.Presentation.{IsPresentation};
+ghost use Rattle.cq_model.specs.NodeTerms.{equation_sides};
+ghost use Rattle.cq_model.specs.Pushing.{HavePlaces};
+ghost use Rattle.cq_model.specs.Equating.{AddsSides, AddsAtRow, AddsAtRows, AddsObservations, IsPresented};
+
+use crate::nodes::{NodeList, push_equation};
+use crate::places::Places;
+use cq_base::Seq;
+use cq_tables::Tables;
+use cq_theory::{Equation, Presentation, Schema};
+use std::alloc::{AllocError, Global};
+
+/// Adds the equations between type terms of a presentation.
+pub fn push_given(
+    alloc: Global,
+    schema: &Schema,
+    presentation: &Presentation,
+    tables: &Tables,
+    places: &Places,
+    entries: &[u64],
+    list: &mut NodeList,
+) -> Result<(), AllocError>
+    requires places { HavePlaces schema.now tables.now places.now (length list.old.nodes) }
+    requires presented { IsPresented schema.now tables.now places.now presentation.now entries.now (length list.old.nodes) }
+    requires presentation { IsPresentation schema.now presentation.now }
+    ensures grows { OnOk result (length list.old.nodes ≤ length list.new.nodes) }
+    ensures added { OnOk result (AddsSides schema.now tables.now places.now presentation.now entries.now (flat_map equation_sides presentation.now.equations) list.old list.new) }
+{
+    for equation in presentation.equations.as_slice() {
+        let Equation::Typ(left, right) = equation else {
+            continue;
+        };
+        push_equation(alloc, schema, tables, places, entries, list, left, right)?;
+    }
+    Ok(())
+}
+
+/// Adds the observation equations of an entity at a row.
+fn push_row(
+    alloc: Global,
+    schema: &Schema,
+    tables: &Tables,
+    places: &Places,
+    entity: u32,
+    row: u64,
+    list: &mut NodeList,
+) -> Result<(), AllocError>
+    requires places { HavePlaces schema.now tables.now places.now (length list.old.nodes) }
+    requires live { live_of tables.now row ≡ true }
+    requires entity { row_entity tables.now row ≡ entity }
+    ensures grows { OnOk result (length list.old.nodes ≤ length list.new.nodes) }
+    ensures added { OnOk result (AddsAtRow schema.now tables.now places.now entity schema.now.obs_eqs row list.old list.new) }
+{
+    for equation in schema.obs_eqs.as_slice() {
+        if equation.entity != entity {
+            continue;
+        }
+        push_equation(
+            alloc,
+            schema,
+            tables,
+            places,
+            &[row],
+            list,
+            &equation.left,
+            &equation.right,
+        )?;
+    }
+    Ok(())
+}
+
+/// Adds the observation equations of an entity at its rows.
+fn push_entity(
+    alloc: Global,
+    schema: &Schema,
+    tables: &Tables,
+    places: &Places,
+    entity: u32,
+    rows: &[u64],
+    list: &mut NodeList,
+) -> Result<(), AllocError>
+    requires places { HavePlaces schema.now tables.now places.now (length list.old.nodes) }
+    requires rows { All (λ row. (live_of tables.now row ≡ true) × (row_entity tables.now row ≡ entity)) rows.now }
+    ensures grows { OnOk result (length list.old.nodes ≤ length list.new.nodes) }
+    ensures added { OnOk result (AddsAtRows schema.now tables.now places.now entity rows.now list.old list.new) }
+{
+    for row in rows {
+        push_row(alloc, schema, tables, places, entity, *row, list)?;
+    }
+    Ok(())
+}
+
+/// Adds the observation equations of each entity at each of its rows.
+pub fn push_observations(
+    alloc: Global,
+    schema: &Schema,
+    tables: &Tables,
+    places: &Places,
+    order: &[Seq<u64>],
+    list: &mut NodeList,
+) -> Result<(), AllocError>
+    requires places { HavePlaces schema.now tables.now places.now (length list.old.nodes) }
+    requires rows { (e r i : ℕ) → slice_get (slice_index_or order.now e []) i ≡ Some r → (live_of tables.now r ≡ true) × (row_entity tables.now r ≡ e) }
+    requires few { length order.now < 2 ^ 32 }
+    ensures grows { OnOk result (length list.old.nodes ≤ length list.new.nodes) }
+    ensures added { OnOk result (AddsObservations schema.now tables.now places.now order.now (length order.now) list.old list.new) }
+{
+    for (entity, rows) in order.iter().enumerate() {
+        push_entity(alloc, schema, tables, places, entity as u32, rows.as_slice(), list)?;
+    }
+    Ok(())
+}
