@@ -1,7 +1,7 @@
 -- What it says of a term that it can be read: of an attribute its cell, of a constant and of a function its place, and of arguments that they can be read.
-use Rattle.std.proofs.Common.{ℕ, zero, suc, Bool, true, List, [], ◌∷◌, ◌++◌, Option, Some, None, ◌≡◌, ◌<◌, ◌≤◌, ◌&&◌, map, length, refl, sym, ap, subst, ◌∙◌, arith}
-use Rattle.std.specs.Prelude.{slice_get, slice_index, option_and_then, IsSome}
-use Rattle.std.proofs.lemmas.Option.{same_Some, option_and_then_some, slice_get_within}
+use Rattle.std.proofs.Common.{ℕ, zero, suc, Bool, true, List, [], ◌∷◌, ◌++◌, Option, Some, None, ◌≡◌, ◌<◌, ◌≤◌, ◌&&◌, map, length, get_or, Result, Ok, Err, refl, sym, ap, subst, ◌∙◌, arith}
+use Rattle.std.specs.Prelude.{slice_get, slice_index, option_and_then, IsSome, IfOk, OnOk}
+use Rattle.std.proofs.lemmas.Option.{same_Some, option_and_then_some, slice_get_within, slice_get-get_or}
 use Rattle.cq_base.specs.declared.name.Name.{Name}
 use Rattle.cq_flat.specs.declared.node.Node.TheVariants as node
 use Rattle.cq_tables.specs.Content.{Content, live_of, made_of, trace_of, cell_of, step_of, end_of, keys_of, IsHeld}
@@ -27,6 +27,15 @@ use Rattle.cq_model.proofs.PushedTerms.{HavePlaces-wider, AreReadable-wider, pus
 filled_cell : (o : Option ℕ) → IsSome o → (s : ℕ) × (o ≡ Some s)
 filled_cell None h = cc
 filled_cell (Some s) h = (s, refl)
+
+-- what an index into a list reads
+pub read_at : {X : Type 0} (xs items : List X) (i : ℕ) (d : X) → items ≡ xs → i < length items → slice_get xs i ≡ Some (get_or items i d)
+read_at {X} xs items i d same within = ap (λ (l : List X). slice_get l i) (sym same) ∙ slice_get-get_or items i d within
+
+-- where a call answers, both of its clauses hold
+pub if_answered : {X E : Type 0} (result : Result X E) (P : X → Type 0) (A : Type 0) (Q : X → Type 0) → ((x : X) → P x → A → Q x) → IfOk result P → OnOk result A → IfOk result Q
+if_answered (Ok x) P A Q f h g = f x h g
+if_answered (Err e) P A Q f h g = tt
 
 -- keys lead as they do whatever the generators are
 no_generators : Presentation
@@ -116,10 +125,11 @@ module _ (S : Schema) (m : Content) (places : Places) where
       map_and_then : (f : ℕ → Option ℕ) (o : Option ℕ) (type : ℕ) → option_and_then f o ≡ Some type → (e : ℕ) × (o ≡ Some e)
       map_and_then f o type h = option_and_then_some f o type h (λ e is _. (e, is))
 
-  pub constant_known : (rows : List ℕ) (count c : ℕ) → IsReadable S m places rows count (Const c) → c < length S.typeside.constants
-  constant_known rows count c h =
-      let found = map_some (λ (constant : Name × ℕ). constant.1) (slice_get S.typeside.constants c) h.type (sym (fold-Const (Option ℕ) (type_step S h.generators) c) ∙ h.sort) in
-      slice_get_within S.typeside.constants c found.0 found.1
+  pub constant_known : (rows : List ℕ) (count c : ℕ) (t : TypeTerm) (constants : List (Name × ℕ)) → t ≡ Const c → constants ≡ S.typeside.constants → IsReadable S m places rows count t → c < length constants
+  constant_known rows count c t constants is same h =
+      let sort : type_of S h.generators (Const c) ≡ Some h.type = ap (type_of S h.generators) (sym is) ∙ h.sort in
+      let found = map_some (λ (constant : Name × ℕ). constant.1) (slice_get S.typeside.constants c) h.type (sym (fold-Const (Option ℕ) (type_step S h.generators) c) ∙ sort) in
+      subst (λ (l : List (Name × ℕ)). c < length l) (sym same) (slice_get_within S.typeside.constants c found.0 found.1)
 
   -- a constant behind the others
   pub readable_constant : (rows : List ℕ) (old new : NodeListData) (c place : ℕ) (constant : Name × ℕ) → slice_get S.typeside.constants c ≡ Some constant → place ≡ length old.nodes
@@ -129,10 +139,12 @@ module _ (S : Schema) (m : Content) (places : Places) where
       let other = map_some (λ (constant : Name × ℕ). constant.1) (slice_get S.typeside.constants c) type (sym (fold-Const (Option ℕ) (type_step S G) c) ∙ sort) in
       sym other.2 ∙ ap (λ (k : Name × ℕ). k.1) (same_Some other.0 constant (sym other.1 ∙ found)))
 
-  pub function_known : (rows : List ℕ) (count f : ℕ) (ts : List TypeTerm) → IsReadable S m places rows count (Fun f ts) → f < length S.typeside.functions
-  function_known rows count f ts h =
-      let found = applied_type_some (slice_get S.typeside.functions f) (map (type_of S h.generators) ts) h.type (sym (fold-Fun (Option ℕ) (type_step S h.generators) f ts) ∙ h.sort) in
-      slice_get_within S.typeside.functions f found.0 found.1
+  pub function_known : (rows : List ℕ) (count f : ℕ) (ts : List TypeTerm) (t : TypeTerm) (functions : List Function) → t ≡ Fun f ts → functions ≡ S.typeside.functions → IsReadable S m places rows count t
+      → f < length functions
+  function_known rows count f ts t functions is same h =
+      let sort : type_of S h.generators (Fun f ts) ≡ Some h.type = ap (type_of S h.generators) (sym is) ∙ h.sort in
+      let found = applied_type_some (slice_get S.typeside.functions f) (map (type_of S h.generators) ts) h.type (sym (fold-Fun (Option ℕ) (type_step S h.generators) f ts) ∙ sort) in
+      subst (λ (l : List Function). f < length l) (sym same) (slice_get_within S.typeside.functions f found.0 found.1)
 
   args_typed : (G : Generators) (ts : List TypeTerm) (types : List ℕ) → have_types (map (type_of S G) ts) types ≡ true → (i : ℕ) (t : TypeTerm) → slice_get ts i ≡ Some t
       → (type : ℕ) × (type_of S G t ≡ Some type)

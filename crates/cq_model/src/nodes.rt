@@ -42,12 +42,19 @@ impl NodeList {
         }
     }
 
+    /// How many nodes there are.
+    pub fn count(&self) -> u64
+        ensures { result ≡ length self.now.nodes }
+    {
+        self.nodes.len() as u64
+    }
+
     /// Adds a node of a type, and answers its place.
     pub fn push(&mut self, node: Node, kind: u32) -> Result<u64, AllocError>
         ensures place { IfOk result (λ place. place ≡ length self.old.nodes) }
         ensures added { OnOk result (self.new ≡ record { nodes = self.old.nodes ++ node ∷ []; types = self.old.types ++ kind ∷ []; equations = self.old.equations }) }
     {
-        let place = self.nodes.len() as u64;
+        let place = self.count();
         self.nodes.push(node)?;
         self.types.push(kind)?;
         Ok(place)
@@ -107,6 +114,8 @@ fn push_term(
             list.push(Node::Const(*constant), kind)
         }
         TypeTerm::Att(attribute, term) => {
+            // The number of nodes fits, and so does the place of a cell below it.
+            let _count = list.count();
             Ok(place_of_cell(tables, places, rows, *attribute, term))
         }
 
