@@ -1,8 +1,8 @@
 -- Terms that become nodes, step by step.
-use Rattle.std.proofs.Common.{ℕ, zero, suc, List, [], ◌∷◌, ◌++◌, Option, Some, ◌≡◌, ◌<◌, ◌≤◌, ◌+◌, ◌⊎◌, inl, inr, map, length, get_or, refl, sym, ap, subst, ◌∙◌, arith, length-append, append_assoc}
+use Rattle.std.proofs.Common.{ℕ, zero, suc, List, [], ◌∷◌, ◌++◌, Option, Some, ◌≡◌, ◌<◌, ◌≤◌, ◌+◌, ◌⊎◌, inl, inr, map, length, get_or, take, refl, sym, ap, subst, ◌∙◌, arith, length-append, append_assoc}
 use Rattle.std.specs.Prelude.{slice_get, slice_index, All}
 use Rattle.std.specs.List.{flat_map}
-use Rattle.std.proofs.lemmas.List.{append-nil}
+use Rattle.std.proofs.lemmas.List.{append-nil, take_more}
 use Rattle.std.proofs.lemmas.List.Concat.{flat_map-append}
 use Rattle.std.proofs.lemmas.List.Folds.{flat_map-map}
 use Rattle.std.proofs.lemmas.Option.{slice_get_within, same_Some}
@@ -242,6 +242,14 @@ module _ (S : Schema) (m : Content) (places : Places) where
         subst (λ (us : List TypeTerm). AreTermsOf S m places P entries (terms ++ flat_map made_terms us) new × EachStands m entries places (terms ++ flat_map made_terms us) us (found ++ place ∷ [])) (sym parts)
         (subst (λ (l : List TypeTerm). AreTermsOf S m places P entries l new × EachStands m entries places l (map placed ts ++ placed t ∷ []) (found ++ place ∷ [])) whole (last.0, stand));
   }
+
+  -- the same as a loop over the arguments has it
+  pub pushed_next : (rows : List ℕ) (old mid new : NodeListData) (items : List TypeTerm) (i : ℕ) (found longer : List ℕ) (t : TypeTerm) (place : ℕ) → ArePushed rows old mid (take i items) found
+      → IsPushed S m places rows mid new t place → i < length items → t ≡ get_or items i t → longer ≡ found ++ place ∷ [] → ArePushed rows old new (take (i + 1) items) longer
+  pushed_next rows old mid new items i found longer t place before h within is longer_is =
+      let more : ArePushed rows old new (take i items ++ t ∷ []) (found ++ place ∷ []) = pushed_more rows old mid new (take i items) found t place before h in
+      let ts : take i items ++ t ∷ [] ≡ take (i + 1) items = ap (λ (u : TypeTerm). take i items ++ u ∷ []) is ∙ sym (take_more items i t within) in
+      subst (λ (both : List TypeTerm × List ℕ). ArePushed rows old new both.0 both.1) (λ j. (ts j, sym longer_is j)) more
 
   pub pushed_fun : (rows : List ℕ) (old mid new : NodeListData) (f kind place : ℕ) (ts : List TypeTerm) (found : List ℕ) → ArePushed rows old mid ts found → place ≡ length mid.nodes
       → new ≡ record { nodes = mid.nodes ++ node.Fun f found ∷ []; types = mid.types ++ kind ∷ []; equations = mid.equations }

@@ -1,6 +1,6 @@
 use Rattle.std.proofs.Common.{rules, ℕ, List, [], ◌∷◌, ◌++◌, Some, ◌≡◌, ◌<◌, ◌≤◌, ◌+◌, length, take, get_or, slice_index, IfOk, sym, ap, subst, ◌∙◌, arith}
 use Rattle.std.specs.Prelude.{slice_get}
-use Rattle.std.proofs.lemmas.List.{take_more, take_all}
+use Rattle.std.proofs.lemmas.List.{take_all}
 use Rattle.cq_base.specs.declared.name.Name.{Name}
 use Rattle.cq_flat.specs.declared.node.Node.TheVariants as node
 use Rattle.cq_tables.specs.Content.{Content}
@@ -12,7 +12,7 @@ use Rattle.cq_theory.specs.declared.term.TypeTerm.TheVariants.{Gen, Const, Att, 
 use Rattle.cq_model.specs.declared.places.Places.{Places}
 use Rattle.cq_model.specs.NodeListData.{NodeListData}
 use Rattle.cq_model.specs.Pushing.{HavePlaces, IsReadable, IsPushed}
-use Rattle.cq_model.proofs.PushedTerms.{HavePlaces-wider, pushed_gen, ArePushed, pushed_more}
+use Rattle.cq_model.proofs.PushedTerms.{HavePlaces-wider, pushed_gen, ArePushed, pushed_next}
 use Rattle.cq_model.proofs.ReadableTerms.{read_at, if_answered, IsReadable-wider, readable_cell, constant_known, readable_constant, function_known, argument_readable, readable_application}
 use Rattle.cq_model.proofs.nodes.+push_term.Goals as goal
 
@@ -72,14 +72,9 @@ loop-arg-preserved t c =
     let m : Content = c.args.tables.now in
     let places : Places = c.args.places.now in
     let rows : List ℕ = c.args.rows.now in
-    let items : List TypeTerm = c.as_slice-arg-items.result.now in
-    let i : ℕ = c.loop-arg.arg-index in
-    let arg : TypeTerm = c.arg-item.result in
-    let ts : take (i + 1) items ≡ take i items ++ arg ∷ [] = take_more items i arg c.loop-arg-test.true ∙ ap (λ (u : TypeTerm). take i items ++ u ∷ []) (sym c.arg-item.is) in
-    let more : ArePushed S m places rows c.args.list.now c.push_term.new.list (take i items ++ arg ∷ []) (c.loop-arg.found.items ++ c.in_ok-place-in-Fun.place ∷ []) =
-    pushed_more S m places rows c.args.list.now c.loop-arg.list c.push_term.new.list (take i items) c.loop-arg.found.items arg c.in_ok-place-in-Fun.place c.loop-arg.invariant c.in_ok-place-in-Fun.ensures in
-    subst (λ (us : List TypeTerm). ArePushed S m places rows c.args.list.now c.push_term.new.list us c.push-in-loop-arg.new.self.items) (sym ts)
-    (subst (λ (l : List ℕ). ArePushed S m places rows c.args.list.now c.push_term.new.list (take i items ++ arg ∷ []) l) (sym c.in_ok-push-in-Fun.ensures.items) more)
+    let list : NodeListData = c.args.list.now in
+    pushed_next S m places rows list c.loop-arg.list c.push_term.new.list c.as_slice-arg-items.result.now c.loop-arg.arg-index c.loop-arg.found.items c.push-in-loop-arg.new.self.items c.arg-item.result c.in_ok-place-in-Fun.place
+    c.loop-arg.invariant c.in_ok-place-in-Fun.ensures c.loop-arg-test.true c.arg-item.is c.in_ok-push-in-Fun.ensures.items
 
 pub returns-in-Gen : goal.returns-in-Gen
 returns-in-Gen t c =
