@@ -20,6 +20,7 @@ pub mod LeafGenerators
 pub mod LeafCells
 pub mod PlacedLeaves
 pub mod PushedTerms
+pub mod LeadingPaths
 pub mod ReadableTerms
 pub mod Enumerated
 pub mod BuiltRows

@@ -1,32 +1,27 @@
 -- What it says of a term that it can be read: of an attribute its cell, of a constant and of a function its place, and of arguments that they can be read.
-use Rattle.std.proofs.Common.{ℕ, zero, suc, Bool, true, List, [], ◌∷◌, ◌++◌, Option, Some, None, ◌≡◌, ◌<◌, ◌≤◌, ◌&&◌, map, length, get_or, Result, Ok, Err, refl, sym, ap, subst, ◌∙◌, arith}
+use Rattle.std.proofs.Common.{ℕ, zero, suc, true, List, [], ◌∷◌, ◌++◌, Option, Some, ◌≡◌, ◌<◌, ◌≤◌, map, length, get_or, Result, Ok, Err, sym, ap, subst, ◌∙◌, arith}
 use Rattle.std.specs.Prelude.{slice_get, slice_index, option_and_then, IsSome, IfOk, OnOk}
 use Rattle.std.proofs.lemmas.Option.{same_Some, option_and_then_some, slice_get_within, slice_get-get_or}
 use Rattle.cq_base.specs.declared.name.Name.{Name}
 use Rattle.cq_flat.specs.declared.node.Node.TheVariants as node
-use Rattle.cq_tables.specs.Content.{Content, live_of, made_of, trace_of, cell_of, step_of, end_of, keys_of, IsHeld}
+use Rattle.cq_tables.specs.Content.{Content, live_of, end_of, keys_of}
 use Rattle.cq_tables.specs.Content.{entity_of as row_entity}
 use Rattle.cq_rows.specs.Rows.{row_of_term}
-use Rattle.cq_rows.proofs.Bridge.{step_same, end_same, map_some}
-use Rattle.cq_theory.specs.declared.presentation.Presentation.{Presentation}
-use Rattle.cq_theory.specs.declared.schema.Edge.{Edge}
+use Rattle.cq_rows.proofs.Bridge.{map_some}
 use Rattle.cq_theory.specs.SchemaData.{SchemaData as Schema}
 use Rattle.cq_theory.specs.declared.typeside.Fun.{Fun as Function}
 use Rattle.cq_theory.specs.declared.term.EntTerm.{EntTerm}
 use Rattle.cq_theory.specs.declared.term.TypeTerm.{TypeTerm}
-use Rattle.cq_theory.specs.declared.term.TypeTerm.TheVariants.{Gen, Const, Att, Fun}
-use Rattle.cq_theory.specs.Sorts.{Generators, followed, target_of, entity_at, type_at, entity_of, is_type, have_types, type_of, type_step}
+use Rattle.cq_theory.specs.declared.term.TypeTerm.TheVariants.{Const, Att, Fun}
+use Rattle.cq_theory.specs.Sorts.{Generators, followed, target_of, entity_at, entity_of, is_type, have_types, type_of, type_step}
 use Rattle.cq_theory.proofs.Sound.{followed_some, applied_type_some, both, is_type_some}
-use Rattle.cq_theory.proofs.TypeTerms.{fold-Gen, fold-Const, fold-Att, fold-Fun}
+use Rattle.cq_theory.proofs.TypeTerms.{fold-Const, fold-Att, fold-Fun}
 use Rattle.cq_model.specs.declared.places.Places.{Places}
 use Rattle.cq_model.specs.NodeListData.{NodeListData}
 use Rattle.cq_model.specs.NodeTerms.{cell_place}
 use Rattle.cq_model.specs.Pushing.{HavePlaces, IsReadable, IsPushed}
-use Rattle.cq_model.proofs.PushedTerms.{HavePlaces-wider, AreReadable-wider, pushed_cell, pushed_const, ArePushed, pushed_fun}
-
-filled_cell : (o : Option ℕ) → IsSome o → (s : ℕ) × (o ≡ Some s)
-filled_cell None h = cc
-filled_cell (Some s) h = (s, refl)
+use Rattle.cq_model.proofs.LeadingPaths.{path_leads, path_ends}
+use Rattle.cq_model.proofs.PushedTerms.{AreReadable-wider, pushed_cell, pushed_const, ArePushed, pushed_fun}
 
 -- what an index into a list reads
 pub read_at : {X : Type 0} (xs items : List X) (i : ℕ) (d : X) → items ≡ xs → i < length items → slice_get xs i ≡ Some (get_or items i d)
@@ -37,10 +32,6 @@ pub if_answered : {X E : Type 0} (result : Result X E) (P : X → Type 0) (A : T
 if_answered (Ok x) P A Q f h g = f x h g
 if_answered (Err e) P A Q f h g = tt
 
--- keys lead as they do whatever the generators are
-no_generators : Presentation
-no_generators = record { generators = []; equations = [] }
-
 -- the row to which a term leads, and all that finding its cell at an attribute asks for
 pub record HasCell (m : Content) (places : Places) (rows : List ℕ) (count a : ℕ) (t : EntTerm) : Type 0 where
   pub attribute : a < length places.ranks
@@ -49,34 +40,9 @@ pub record HasCell (m : Content) (places : Places) (rows : List ℕ) (count a : 
   pub path : IsSome (end_of (keys_of m) (row_entity m (slice_index rows t.generator)) t.path)
   pub row : ℕ
   pub traced : row_of_term m rows t ≡ Some row
-  pub made : row < length places.firsts
   pub within : cell_place places row a < count
 
 module _ (S : Schema) (m : Content) (places : Places) (count : ℕ) (have : HavePlaces S m places count) where
-  -- a key of a live row's entity leads to a live row of its target
-  key_leads : (k r middle : ℕ) → live_of m r ≡ true → followed (slice_get S.keys k) (row_entity m r) ≡ Some middle
-      → (s : ℕ) × (cell_of m r k ≡ Some s) × (live_of m s ≡ true) × (row_entity m s ≡ middle)
-  key_leads k r middle live leads =
-      let step : step_of (keys_of m) (row_entity m r) k ≡ Some middle = ap (λ keys. step_of keys (row_entity m r) k) have.keys ∙ step_same S no_generators (row_entity m r) k ∙ leads in
-      let cell : (s : ℕ) × (cell_of m r k ≡ Some s) = filled_cell (cell_of m r k) (have.filled r k middle live step) in
-      let held : IsHeld m r k cell.0 = have.whole.held r k cell.0 live cell.1 in
-      (cell.0, cell.1, held.live, same_Some _ _ (sym held.step ∙ step))
-
-  -- so does a path
-  path_leads : (path : List ℕ) (r target : ℕ) → live_of m r ≡ true → target_of S.keys path (row_entity m r) ≡ Some target
-      → (s : ℕ) × (trace_of m r path ≡ Some s) × (live_of m s ≡ true) × (row_entity m s ≡ target)
-  path_leads [] r target live leads = (r, refl, live, same_Some _ _ leads)
-  path_leads (k ∷ path) r target live leads =
-      option_and_then_some (target_of S.keys path) (followed (slice_get S.keys k) (row_entity m r)) target leads (λ middle first rest.
-      let cell = key_leads k r middle live first in
-      let further = path_leads path cell.0 target cell.2 (ap (target_of S.keys path) cell.3 ∙ rest) in
-      (further.0, ap (option_and_then (λ s. trace_of m s path)) cell.1 ∙ further.1, further.2, further.3))
-
-  path_ends : (path : List ℕ) (e target : ℕ) → target_of S.keys path e ≡ Some target → IsSome (end_of (keys_of m) e path)
-  path_ends path e target leads =
-      let ends : end_of (keys_of m) e path ≡ Some target = ap (λ keys. end_of keys e path) have.keys ∙ end_same S no_generators path e ∙ leads in
-      subst (λ (o : Option ℕ). IsSome o) (sym ends) refl
-
   pub has_cell : (rows : List ℕ) (a : ℕ) (t : EntTerm) → IsReadable S m places rows count (Att a t) → HasCell m places rows count a t
   has_cell rows a t h =
       let sort : option_and_then (followed (slice_get S.attributes a)) (entity_of S h.generators t) ≡ Some h.type = sym (fold-Att (Option ℕ) (type_step S h.generators) a t) ∙ h.sort in
@@ -85,15 +51,14 @@ module _ (S : Schema) (m : Content) (places : Places) (count : ℕ) (have : Have
       let edge = followed_some (slice_get S.attributes a) e h.type leaves in
       let live : live_of m (slice_index rows t.generator) ≡ true = h.readable.live t.generator start first in
       let leads : target_of S.keys t.path (row_entity m (slice_index rows t.generator)) ≡ Some e = ap (target_of S.keys t.path) (h.readable.entity t.generator start first) ∙ rest in
-      let row = path_leads t.path (slice_index rows t.generator) e live leads in
+      let row = path_leads S m have.whole have.keys have.filled t.path (slice_index rows t.generator) e live leads in
       record {
         attribute = omega (arith, slice_get_within S.attributes a edge.0 edge.1, have.ranks);
         start = h.readable.known t.generator start first;
         live = live;
-        path = path_ends t.path (row_entity m (slice_index rows t.generator)) e leads;
+        path = path_ends S m have.whole have.keys have.filled t.path (row_entity m (slice_index rows t.generator)) e leads;
         row = row.0;
         traced = row.1;
-        made = subst (λ n. row.0 < n) (sym have.firsts) (have.whole.made row.0 row.2);
         within = have.cells row.0 a edge.0 row.2 edge.1 (edge.2 ∙ sym row.3);
       }))
 
@@ -105,12 +70,6 @@ module _ (S : Schema) (m : Content) (places : Places) where
     type = h.type;
     sort = h.sort;
   }
-
-  -- a generator of a type has a place
-  pub generator_placed : (rows : List ℕ) (count n : ℕ) → IsReadable S m places rows count (Gen n) → n < length places.generators
-  generator_placed rows count n h =
-      let sort : type_at (slice_get h.generators n) ≡ Some h.type = sym (fold-Gen (Option ℕ) (type_step S h.generators) n) ∙ h.sort in
-      h.readable.placed n h.type sort
 
   -- the cell of a term
   pub readable_cell : (rows : List ℕ) (list : NodeListData) (a r place : ℕ) (t : EntTerm) → HavePlaces S m places (length list.nodes) → IsReadable S m places rows (length list.nodes) (Att a t)
@@ -125,6 +84,7 @@ module _ (S : Schema) (m : Content) (places : Places) where
       map_and_then : (f : ℕ → Option ℕ) (o : Option ℕ) (type : ℕ) → option_and_then f o ≡ Some type → (e : ℕ) × (o ≡ Some e)
       map_and_then f o type h = option_and_then_some f o type h (λ e is _. (e, is))
 
+  -- the place of a constant, as a list with what the typeside has
   pub constant_known : (rows : List ℕ) (count c : ℕ) (t : TypeTerm) (constants : List (Name × ℕ)) → t ≡ Const c → constants ≡ S.typeside.constants → IsReadable S m places rows count t → c < length constants
   constant_known rows count c t constants is same h =
       let sort : type_of S h.generators (Const c) ≡ Some h.type = ap (type_of S h.generators) (sym is) ∙ h.sort in
@@ -139,6 +99,7 @@ module _ (S : Schema) (m : Content) (places : Places) where
       let other = map_some (λ (constant : Name × ℕ). constant.1) (slice_get S.typeside.constants c) type (sym (fold-Const (Option ℕ) (type_step S G) c) ∙ sort) in
       sym other.2 ∙ ap (λ (k : Name × ℕ). k.1) (same_Some other.0 constant (sym other.1 ∙ found)))
 
+  -- the same of a function
   pub function_known : (rows : List ℕ) (count f : ℕ) (ts : List TypeTerm) (t : TypeTerm) (functions : List Function) → t ≡ Fun f ts → functions ≡ S.typeside.functions → IsReadable S m places rows count t
       → f < length functions
   function_known rows count f ts t functions is same h =
@@ -146,6 +107,7 @@ module _ (S : Schema) (m : Content) (places : Places) where
       let found = applied_type_some (slice_get S.typeside.functions f) (map (type_of S h.generators) ts) h.type (sym (fold-Fun (Option ℕ) (type_step S h.generators) f ts) ∙ sort) in
       subst (λ (l : List Function). f < length l) (sym same) (slice_get_within S.typeside.functions f found.0 found.1)
 
+  -- arguments that have the types of a list have some
   args_typed : (G : Generators) (ts : List TypeTerm) (types : List ℕ) → have_types (map (type_of S G) ts) types ≡ true → (i : ℕ) (t : TypeTerm) → slice_get ts i ≡ Some t
       → (type : ℕ) × (type_of S G t ≡ Some type)
   args_typed G [] types h i t at = cc

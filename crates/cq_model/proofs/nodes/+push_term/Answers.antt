@@ -1,4 +1,4 @@
-use Rattle.std.proofs.Common.{rules, ℕ, List, [], ◌∷◌, ◌++◌, Some, ◌≡◌, ◌<◌, ◌≤◌, ◌+◌, length, take, get_or, slice_index, IfOk, sym, ap, subst, ◌∙◌, arith}
+use Rattle.std.proofs.Common.{rules, ℕ, List, [], ◌∷◌, ◌++◌, Some, ◌≡◌, ◌≤◌, length, get_or, slice_index, sym, ap, subst, ◌∙◌, arith}
 use Rattle.std.specs.Prelude.{slice_get}
 use Rattle.std.proofs.lemmas.List.{take_all}
 use Rattle.cq_base.specs.declared.name.Name.{Name}
@@ -8,10 +8,10 @@ use Rattle.cq_theory.specs.SchemaData.{SchemaData as Schema}
 use Rattle.cq_theory.specs.TypesideData.{TypesideData}
 use Rattle.cq_theory.specs.declared.typeside.Fun.{Fun as Function}
 use Rattle.cq_theory.specs.declared.term.TypeTerm.{TypeTerm, the_lemmas}
-use Rattle.cq_theory.specs.declared.term.TypeTerm.TheVariants.{Gen, Const, Att, Fun}
+use Rattle.cq_theory.specs.declared.term.TypeTerm.TheVariants.{Gen, Att, Fun}
 use Rattle.cq_model.specs.declared.places.Places.{Places}
 use Rattle.cq_model.specs.NodeListData.{NodeListData}
-use Rattle.cq_model.specs.Pushing.{HavePlaces, IsReadable, IsPushed}
+use Rattle.cq_model.specs.Pushing.{IsReadable, IsPushed}
 use Rattle.cq_model.proofs.PushedTerms.{HavePlaces-wider, pushed_gen, ArePushed, pushed_next}
 use Rattle.cq_model.proofs.ReadableTerms.{read_at, if_answered, IsReadable-wider, readable_cell, constant_known, readable_constant, function_known, argument_readable, readable_application}
 use Rattle.cq_model.proofs.nodes.+push_term.Goals as goal

@@ -1,8 +1,7 @@
-use Rattle.std.proofs.Common.{ℕ, List, ◌≤◌, length}
+use Rattle.std.proofs.Common.{ℕ, ◌≤◌, length}
 use Rattle.cq_tables.specs.Content.{Content}
 use Rattle.cq_theory.specs.SchemaData.{SchemaData as Schema}
 use Rattle.cq_model.specs.declared.places.Places.{Places}
-use Rattle.cq_model.specs.NodeListData.{NodeListData}
 use Rattle.cq_model.proofs.PushedTerms.{HavePlaces-wider, equated}
 use Rattle.cq_model.proofs.ReadableTerms.{IsReadable-wider}
 use Rattle.cq_model.proofs.nodes.push_equation.Goals as goal
