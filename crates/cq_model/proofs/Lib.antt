@@ -40,3 +40,4 @@ pub mod BuiltListed
 pub mod Columned
 pub mod BuiltReading
 pub mod OnWay
+pub mod AddedLeaves
