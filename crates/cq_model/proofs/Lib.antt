@@ -41,3 +41,4 @@ pub mod Columned
 pub mod BuiltReading
 pub mod OnWay
 pub mod AddedLeaves
+pub mod AddedSides

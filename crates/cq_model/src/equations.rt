@@ -111,7 +111,15 @@ pub fn push_observations(
     ensures added { OnOk result (AddsObservations schema.now tables.now places.now order.now (length order.now) list.old list.new) }
 {
     for (entity, rows) in order.iter().enumerate() {
-        push_entity(alloc, schema, tables, places, entity as u32, rows.as_slice(), list)?;
+        push_entity(
+            alloc,
+            schema,
+            tables,
+            places,
+            entity as u32,
+            rows.as_slice(),
+            list,
+        )?;
     }
     Ok(())
 }

@@ -44,7 +44,6 @@ pub fn first_places(
 /// The number of each attribute among those of its entity.
 pub fn ranks(alloc: Global, entities: usize, sources: &[u32]) -> Result<Vec<u32>, AllocError>
     requires within { All (λ source. source < entities) sources.now }
-
     requires few { length sources.now < 2 ^ 32 }
     ensures { IfOk result (λ ranks. ranks.items ≡ map (λ a. rank sources.now (slice_index sources.now a) a) (below (length sources.now))) }
 {

@@ -1,8 +1,7 @@
-use Rattle.std.proofs.Common.{ℕ, List, [], ◌∷◌, ◌++◌, ◌≡◌, ◌<◌, ◌+◌, ◌∙◌, length, replicate, slice_index, slice_set, refl, sym, ap, arith, rules}
+use Rattle.std.proofs.Common.{ℕ, List, [], ◌∷◌, ◌++◌, ◌≡◌, ◌<◌, ◌+◌, ◌∙◌, replicate, slice_index, slice_set, refl, sym, ap, arith, rules}
 use Rattle.std.proofs.lemmas.List.{length-replicate, get_or-replicate}
 use Rattle.std.proofs.lemmas.List.FromFn.{map-range_with_len_more}
 use Rattle.std.proofs.lemmas.Option.{slice_get-get_or}
-use Rattle.cq_theory.specs.Canonical.{below}
 use Rattle.cq_model.specs.Numbering.{rank}
 use Rattle.cq_model.proofs.Counting.{firsts_none, firsts_more, first_read}
 use Rattle.cq_model.proofs.Ranks.{rank_within, members-length}
