@@ -21,7 +21,7 @@ use Rattle.cq_theory.specs.Sorts.{followed, target_of, entity_at, entity_of}
 use Rattle.cq_theory.specs.Tables.{Tables, Assignment, count_of}
 use Rattle.cq_theory.specs.Listed.{Lists}
 use Rattle.cq_theory.proofs.Sound.{followed_some}
-use Rattle.cq_model.proofs.FreeModel.{All_from}
+use Rattle.cq_model.proofs.Lists.{All_from}
 use Rattle.cq_model.proofs.BuiltRows.{entity_at_some, counts_are, least_name}
 use Rattle.cq_model.proofs.ListedHolds.{well_formed, initial}
 use Rattle.cq_model.proofs.ListedNodes.{all_plain, nulls_listed, entries_listed}

@@ -23,7 +23,7 @@ use Rattle.cq_theory.specs.declared.presentation.Sort.{Sort}
 use Rattle.cq_theory.specs.declared.presentation.Sort.TheVariants.{Plain, Entity}
 use Rattle.cq_theory.specs.Sorts.{type_at}
 use Rattle.cq_model.specs.Standing.{HasPlace}
-use Rattle.cq_model.proofs.FreeModel.{All_from}
+use Rattle.cq_model.proofs.Lists.{All_from}
 
 module _ (S : Schema) (P : Presentation) (m : Content) (rows : List ℕ) (closed : AreClosed S P m rows)
     (order : List (List ℕ)) (names : List (List EntTerm)) (numbers : List ℕ) (places : Places) (nodes : List Node) (equations : List (ℕ × ℕ)) (types : List ℕ)

@@ -14,8 +14,7 @@ use Rattle.cq_model.specs.Closed.{AreClosed}
 use Rattle.cq_model.specs.LeastNames.{rows_at, terms_at, IsLeast, AreNumbered}
 use Rattle.cq_model.specs.Built.{tables_of, assignment_of, number_in, key_column, standing}
 use Rattle.cq_model.proofs.Enumerated.{numbered_at}
-use Rattle.cq_model.proofs.FreeModel.{All_from, get-map_from}
-use Rattle.cq_model.proofs.Lists.{get-map}
+use Rattle.cq_model.proofs.Lists.{get-map, All_from, get-map_from}
 use Rattle.cq_theory.specs.declared.presentation.Presentation.{Presentation}
 use Rattle.cq_theory.specs.declared.presentation.Sort.{Sort}
 use Rattle.cq_theory.specs.declared.presentation.Sort.TheVariants.{Plain, Entity}

@@ -19,7 +19,7 @@ use Rattle.cq_theory.specs.Presentation.{IsSort, IsPresentation}
 use Rattle.cq_theory.specs.Sorts.{Generators, followed, type_at, entity_of, is_type, have_types, type_of, type_step}
 use Rattle.cq_theory.proofs.TypeTerms.{fold-Gen, fold-Const, fold-Att, fold-Fun, on_terms}
 use Rattle.cq_theory.proofs.Sound.{followed_some, both, is_type_some, applied_type_some}
-use Rattle.cq_model.proofs.FreeModel.{All_at}
+use Rattle.cq_model.proofs.Lists.{All_at}
 
 pub out-Gen : (n : ℕ) → out-TypeTerm (Gen n) ≡ layer.Gen n
 out-Gen n = ap out-TypeTerm (sym (rolls-Gen n)) ∙ out-roll-TypeTerm (layer.Gen n)

@@ -39,7 +39,7 @@ use Rattle.cq_theory.specs.Tables.{Tables, AtRow, Assignment, count_of, value_of
 use Rattle.cq_theory.proofs.TypeTerms.{fold-Gen, fold-Const, fold-Fun, Each, on_terms}
 use Rattle.cq_theory.proofs.Values as values_say
 use Rattle.cq_theory.proofs.Derivations.{Derives-reflexive, Derives-symmetric, Derives-transitive, Derives-function}
-use Rattle.cq_model.proofs.FreeModel.{All_from, get-map_from}
+use Rattle.cq_model.proofs.Lists.{All_from, get-map_from}
 use Rattle.cq_model.proofs.Variants.{out-Att}
 use Rattle.cq_model.proofs.BuiltTerms.{out-Gen, EachTyped, args_typed, typed_cell, typed_function, type_within}
 use Rattle.cq_model.proofs.BuiltEntries.{is_for_from, IsEntryOf, entry_node, entries_apart}

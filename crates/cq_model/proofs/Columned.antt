@@ -8,8 +8,7 @@ use Rattle.cq_rows.specs.Plain.{ends_of}
 use Rattle.cq_tables.specs.Content.{step_of}
 use Rattle.cq_theory.specs.declared.schema.Edge.{Edge}
 use Rattle.cq_model.specs.LeastNames.{rows_at}
-use Rattle.cq_model.proofs.Lists.{get-map}
-use Rattle.cq_model.proofs.FreeModel.{All_from}
+use Rattle.cq_model.proofs.Lists.{get-map, All_from}
 
 enumerate_from-append : {X : Type 0} (s : ℕ) (xs : List X) (x : X) → enumerate_from s (xs ++ x ∷ []) ≡ enumerate_from s xs ++ (s + length xs, x) ∷ []
 enumerate_from-append s [] x = let here : s ≡ s + 0 = omega arith in ap (λ n. (n, x) ∷ []) here

@@ -9,11 +9,9 @@ use Rattle.cq_theory.specs.Canonical.{below}
 use Rattle.cq_theory.specs.declared.value.Value.{Value}
 use Rattle.cq_theory.specs.declared.value.Value.TheVariants.{Null}
 use Rattle.cq_model.specs.Numbering.{positions, rank, members, Cell, row_cells, entity_cells, cells, label, column, entity_types, types, starts, column_from}
-use Rattle.cq_model.specs.Free.{generator_term, names_over}
-use Rattle.cq_model.proofs.Lists.{flat_map_same, map_same, map-map, map-flat_map, in_range}
+use Rattle.cq_model.proofs.Lists.{flat_map_same, map_same, map-map, map-flat_map, in_range, All_from, get-map_from}
 use Rattle.cq_model.proofs.Ranks.{positions_at, members-length}
 use Rattle.cq_model.proofs.Numbering.{next_start, cells-monotone}
-use Rattle.cq_model.proofs.FreeModel.{All_from, get-map_from}
 
 -- lists of groups, of which each has a property
 pub All_groups : (P : List ℕ → Type 0) (xs : List ℕ) (n : ℕ) → ((e : ℕ) → P (positions xs e)) → All P (map (positions xs) (below n))
@@ -75,22 +73,3 @@ module _ (owners sources targets : List ℕ) (entities : ℕ) where
       let last : length (cells owners sources (suc e)) ≤ length (cells owners sources entities) = cells-monotone owners sources (suc e) entities (omega arith) in
       let below_limit : length (cells owners sources e) + members owners e * members sources e < limit = omega arith in
       subst (λ n. n < limit) (sym (λ i. first_is e within i + length (rows_at e within i) * length (attributes_at e within i))) below_limit
-
-  column_is : (a : ℕ) → slice_index sources a < entities → column_from rows attributes firsts sources a ≡ column owners sources a
-  column_is a within =
-      let e : ℕ = slice_index sources a in
-      let f : ℕ → Value = λ row. Null (length (cells owners sources e) + rank sources e a + row * members sources e) in
-      (λ i. map (λ row. Null (first_is e within i + rank sources e a + row * length (attributes_at e within i))) (below (length (rows_at e within i))))
-      ∙ map_same f (λ row. Null (label owners sources e row a)) (below (members owners e)) (λ row _.
-      let same : length (cells owners sources e) + rank sources e a + row * members sources e ≡ label owners sources e row a = omega arith in
-      ap (λ n. Null n) same)
-
-  -- the columns counted out are those of the numbering
-  pub columns_are : All (λ e. e < entities) sources → map (column_from rows attributes firsts sources) (below (length sources)) ≡ map (column owners sources) (below (length sources))
-  columns_are within = map_same (column_from rows attributes firsts sources) (column owners sources) (below (length sources)) (λ a is. column_is a (within a 0 (in_range (length sources) a is)))
-
-  pub counts_are : map length rows ≡ map (members owners) (below entities)
-  counts_are = map-map length (positions owners) (below entities)
-
-  pub names_are : map (map generator_term) rows ≡ names_over owners entities
-  names_are = map-map (map generator_term) (positions owners) (below entities)

@@ -91,16 +91,6 @@ first_read firsts sources next n i first are within read =
     read ∙ ap (λ l. get_or l (slice_index sources i) first) are
     ∙ get_or-map-range_with_len (λ e. slice_index firsts e + rank sources e i) 0 n (slice_index sources i) (slice_index sources i) first within (omega arith)
 
--- the column of an attribute, from what is read of its entity
-pub column_made : (rows attributes : List (List ℕ)) (firsts sources : List ℕ) (i first step count : ℕ) → first ≡ slice_index firsts (slice_index sources i) + rank sources (slice_index sources i) i
-    → step ≡ length (slice_index_or attributes (slice_index sources i) []) → count ≡ length (slice_index_or rows (slice_index sources i) [])
-    → map (λ row. Null (first + row * step)) (below count) ≡ column_from rows attributes firsts sources i
-column_made rows attributes firsts sources i first step count first_is step_is count_is = λ j. map (λ row. Null (first_is j + row * step_is j)) (below (count_is j))
-
--- the numbers of a column are below a limit that leaves room
-pub numbers_fit : (first start r step count n : ℕ) → first ≡ start + r → r ≤ n → n < 2 ^ 32 → start + count * step < 2 ^ 63 → first + count * step + 1 < 2 ^ 64
-numbers_fit first start r step count n is some few fits = omega arith
-
 module _ (rows attributes : List (List ℕ)) (targets : List ℕ) (n : ℕ) where
   below_more : below (n + 1) ≡ below n ++ n ∷ []
   below_more =

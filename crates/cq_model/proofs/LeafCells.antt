@@ -12,13 +12,25 @@ use Rattle.cq_theory.specs.declared.term.TypeTerm.{TypeTerm}
 use Rattle.cq_theory.specs.declared.term.TypeTerm.TheVariants.{Att}
 use Rattle.cq_theory.specs.Canonical.{below, edges_from}
 use Rattle.cq_theory.specs.Listed.{cell_nodes}
-use Rattle.cq_model.specs.Free.{sources}
+use Rattle.cq_model.specs.LeafPlaces.{sources}
 use Rattle.cq_model.specs.Numbering.{positions, rank, Cell, row_cells, entity_cells, cells, label}
 use Rattle.cq_model.specs.RowNumbers.{name_in, names_by}
 use Rattle.cq_model.proofs.Lists.{flat_map_same, map-map, map-flat_map, in_range}
 use Rattle.cq_model.proofs.Ranks.{positions_rank}
 use Rattle.cq_model.proofs.Numbering.{cell_labelled, in_cells}
-use Rattle.cq_model.proofs.FreeListed.{edge_numbers}
+
+-- the numbers of the edges from an entity are the positions of the entity among the sources
+pub edge_numbers : (s : ℕ) (edges : List Edge) (e : ℕ)
+    → map (λ (p : ℕ × Edge). p.0) (filter (λ (p : ℕ × Edge). p.1.from == e) (enumerate_from s edges)) ≡ positions_from s (map (λ (edge : Edge). edge.from) edges) e
+edge_numbers s [] e = refl
+edge_numbers s (edge ∷ edges) e =
+    let rest = edge_numbers (s + 1) edges e in
+    kept (edge.from == e) (filter (λ (p : ℕ × Edge). p.1.from == e) (enumerate_from (s + 1) edges))
+    ∙ (λ i. if edge.from == e then s ∷ rest i else rest i)
+  where
+    kept : (b : Bool) (ps : List (ℕ × Edge)) → map (λ (p : ℕ × Edge). p.0) (cond b ((s, edge) ∷ ps) ps) ≡ (if b then s ∷ map (λ (p : ℕ × Edge). p.0) ps else map (λ (p : ℕ × Edge). p.0) ps)
+    kept true ps = refl
+    kept false ps = refl
 
 module _ (S : Schema) (P : Presentation) (owners : List ℕ) (names : List EntTerm) where
   abbrev entities : ℕ

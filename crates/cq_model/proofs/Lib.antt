@@ -3,13 +3,8 @@ pub mod Ranks
 pub mod Lists
 pub mod Numbering
 pub mod Variants
-pub mod FreeModel
-pub mod FreeHolds
-pub mod FreeInitial
-pub mod FreeListed
 pub mod Counting
 pub mod Counted
-pub mod FreeInstance
 pub mod TermOrder
 pub mod Walked
 pub mod Expanding

@@ -31,7 +31,7 @@ use Rattle.cq_theory.specs.Sorts.{entity_at, type_at, entity_of, type_of, sort_o
 use Rattle.cq_theory.specs.Derivation.{given, left_of, right_of, Derives}
 use Rattle.cq_theory.specs.Tables.{Tables, AtRow, AtValue, Assignment, count_of, row_of, value_of, meaning_of, HasSort, IsWellFormed, Holds, Initial}
 use Rattle.cq_theory.proofs.Sound.{meaning_of-derived}
-use Rattle.cq_model.proofs.FreeModel.{get-map_from}
+use Rattle.cq_model.proofs.Lists.{get-map_from}
 use Rattle.cq_model.proofs.BuiltRows.{key_columns, generator_rows, paths_hold, entity_equations_hold, one_row_derives, least_name}
 use Rattle.cq_model.proofs.BuiltValues.{derived_value_of, node_values, one_value_derives, cell_columns, null_types, sound_entries, distinct_entries, generator_values, observations_hold}
 

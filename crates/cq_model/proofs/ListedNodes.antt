@@ -38,8 +38,7 @@ use Rattle.cq_theory.proofs.TypeTerms.{fold-Att, fold-Fun, on_terms}
 use Rattle.cq_theory.proofs.Sorted.{sort_of-derived}
 use Rattle.cq_theory.proofs.Sound.{followed_some, both, is_type_some, applied_type_some}
 use Rattle.cq_rows.proofs.Bridge.{map_some}
-use Rattle.cq_model.proofs.Lists.{IsIn, get-append, get-append_front, in_map, in_flat_map, in_append, in_range_from, get-map}
-use Rattle.cq_model.proofs.FreeModel.{All_at, All_from}
+use Rattle.cq_model.proofs.Lists.{IsIn, get-append, get-append_front, in_map, in_flat_map, in_append, in_range_from, get-map, All_at, All_from}
 use Rattle.cq_model.proofs.Variants.{out-Att}
 use Rattle.cq_model.proofs.BuiltTerms.{out-Gen, out-Const, out-Fun, type_at_some}
 use Rattle.cq_model.proofs.BuiltEntries.{in_filter, in_filter_map}

@@ -1,9 +1,9 @@
 -- Members of lists by their places, lists of consecutive numbers, and lists without repetition.
-use Rattle.std.proofs.Common.{ℕ, zero, suc, false, not, List, [], ◌∷◌, ◌++◌, Option, Some, None, ◌≡◌, ◌<◌, ◌+◌, ◌*◌, cond, map, filter, length, refl, sym, ap, subst, ◌∙◌, arith}
-use Rattle.std.specs.Prelude.{slice_get, nat_eq}
+use Rattle.std.proofs.Common.{ℕ, zero, suc, false, not, List, [], ◌∷◌, ◌++◌, Option, Some, None, ◌≡◌, ◌<◌, ◌+◌, ◌*◌, cond, map, filter, length, get_or, refl, sym, ap, subst, ◌∙◌, arith}
+use Rattle.std.specs.Prelude.{slice_get, nat_eq, All}
 use Rattle.std.specs.List.{range_with_len, flat_map, filter_map, cons_option}
 use Rattle.std.proofs.lemmas.Bool.{ne_eqb}
-use Rattle.std.proofs.lemmas.Option.{slice_get_within}
+use Rattle.std.proofs.lemmas.Option.{get_or_from_slice_get, slice_get-get_or, slice_get_within}
 use Rattle.std.proofs.lemmas.List.FromFn.{length-range_with_len}
 use Rattle.cq_theory.specs.Listed.{firsts}
 
@@ -167,3 +167,16 @@ in_range n k h =
 
 pub in_range_from : (n k : ℕ) → k < n → IsIn k (range_with_len 0 n)
 in_range_from n k h = let here : 0 + k ≡ k = omega arith in record { place = k; is = get-range 0 n k h ∙ ap (λ m. Some m) here }
+
+-- what holds of each member
+pub All_at : {X : Type 0} (P : X → Type 0) (xs : List X) (n : ℕ) (x : X) → All P xs → slice_get xs n ≡ Some x → P x
+All_at P xs n x all h = subst P (get_or_from_slice_get xs n x x h) (all n x (slice_get_within xs n x h))
+
+pub All_from : {X : Type 0} (P : X → Type 0) (xs : List X) → ((n : ℕ) (x : X) → slice_get xs n ≡ Some x → P x) → All P xs
+All_from P xs h n d within = h n (get_or xs n d) (slice_get-get_or xs n d within)
+
+-- where a member of an image comes from
+pub get-map_from : {X Y : Type 0} (f : X → Y) (xs : List X) (n : ℕ) (y : Y) → slice_get (map f xs) n ≡ Some y → (x : X) × (slice_get xs n ≡ Some x) × (f x ≡ y)
+get-map_from f [] n y h = cc
+get-map_from f (x ∷ xs) zero y h = (x, refl, cc)
+get-map_from f (x ∷ xs) (suc n) y h = get-map_from f xs n y h

@@ -18,8 +18,7 @@ use Rattle.cq_model.specs.Closed.{AreClosed}
 use Rattle.cq_model.specs.LeastNames.{rows_at, terms_at, IsLeast, AreNumbered}
 use Rattle.cq_model.specs.Walking.{IsUpTo, Listing, IsNamedUpTo, IsListing, IsWalked, IsWalkOf}
 use Rattle.cq_model.specs.RowNumbers.{name_in, row_entities, rows_by, names_by, AreNumbers}
-use Rattle.cq_model.proofs.Lists.{get-map}
-use Rattle.cq_model.proofs.FreeModel.{get-map_from}
+use Rattle.cq_model.proofs.Lists.{get-map, get-map_from}
 use Rattle.cq_model.proofs.Ranks.{positions_at, positions_rank, positions-increasing}
 use Rattle.cq_model.proofs.TermOrder.{is_lt-before, is_gt-up_to}
 use Rattle.cq_model.proofs.Walked.{covered}

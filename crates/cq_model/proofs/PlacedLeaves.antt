@@ -24,16 +24,14 @@ use Rattle.cq_theory.specs.Sorts.{type_of, type_step, entity_of, followed}
 use Rattle.cq_theory.proofs.TypeTerms.{fold-Gen, fold-Att}
 use Rattle.cq_model.specs.declared.places.Places.{Places}
 use Rattle.cq_model.specs.Closed.{AreClosed}
-use Rattle.cq_model.specs.Free.{sources, targets}
 use Rattle.cq_model.specs.Numbering.{positions, rank, members as size_of, Cell, cells, label, types, starts}
 use Rattle.cq_model.specs.RowNumbers.{name_in, row_entities, names_by}
-use Rattle.cq_model.specs.LeafPlaces.{AreFirsts, plain_type, places_from}
+use Rattle.cq_model.specs.LeafPlaces.{sources, targets, AreFirsts, plain_type, places_from}
 use Rattle.cq_model.specs.Walking.{IsWalkOf}
 use Rattle.cq_model.specs.NodeListData.{NodeListData}
 use Rattle.cq_model.specs.NodeTerms.{leaf_terms, cell_place, StandsAt, StandsFor, IsNodeAt, ArePlaces}
 use Rattle.cq_model.specs.Pushing.{HavePlaces, AreTermsOf}
-use Rattle.cq_model.proofs.Lists.{get-map, get-append, get-append_front}
-use Rattle.cq_model.proofs.FreeModel.{get-map_from}
+use Rattle.cq_model.proofs.Lists.{get-map, get-append, get-append_front, get-map_from}
 use Rattle.cq_model.proofs.Variants.{out-Att}
 use Rattle.cq_model.proofs.Numbering.{label_of, label_at, from_cells, IsCell}
 use Rattle.cq_model.proofs.Counted.{types_are, first_is, attributes_at}

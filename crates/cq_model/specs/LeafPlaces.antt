@@ -5,8 +5,16 @@ use Rattle.cq_base.specs.declared.name.Name.{Name}
 use Rattle.cq_flat.specs.declared.node.Node.TheVariants.{Leaf}
 use Rattle.cq_theory.specs.declared.presentation.Sort.{Sort}
 use Rattle.cq_theory.specs.declared.presentation.Sort.TheVariants.{Plain, Entity}
+use Rattle.cq_theory.specs.SchemaData.{SchemaData}
 use Rattle.cq_model.specs.Numbering.{rank}
 use Rattle.cq_model.specs.NodeListData.{NodeListData}
+
+-- the entity and the type of each attribute
+abbrev pub sources : SchemaData → List ℕ
+sources S = map (λ edge. edge.from) S.attributes
+
+abbrev pub targets : SchemaData → List ℕ
+targets S = map (λ edge. edge.to) S.attributes
 
 -- the first cell of each row stands behind those of the earlier rows of its entity
 abbrev pub AreFirsts : List ℕ → List ℕ → List (List ℕ) → List ℕ → List ℕ → Type 0

@@ -1,6 +1,5 @@
 pub mod InstanceData
 pub mod Listed
-pub mod Free
 pub mod Numbering
 pub mod Closed
 pub mod LeastNames

@@ -45,10 +45,6 @@ module _ (owners sources : List ℕ) where
   abbrev pub label : ℕ → ℕ → ℕ → ℕ
   label e row a = length (cells e) + row * members sources e + rank sources e a
 
-  -- the column of an attribute, with a null of its own at each row
-  abbrev pub column : ℕ → List Value
-  column a = map (λ row. Null (label (slice_index sources a) row a)) (below (members owners (slice_index sources a)))
-
 -- What is counted out from the rows and the attributes of each entity, given as lists by entity.
 module _ (rows attributes : List (List ℕ)) where
   -- the types of the nulls of an entity's cells, where `targets` has the type of each attribute
@@ -61,9 +57,3 @@ module _ (rows attributes : List (List ℕ)) where
   -- how many cells the first entities have, for each number of them
   abbrev pub starts : List ℕ → ℕ → List ℕ
   starts targets entities = map (λ e. length (types targets e)) (below entities)
-
-  -- the column of an attribute, where `firsts` has the number of each entity's first cell
-  abbrev pub column_from : List ℕ → List ℕ → ℕ → List Value
-  column_from firsts sources a =
-      let e = slice_index sources a in
-      map (λ row. Null (slice_index firsts e + rank sources e a + row * length (slice_index_or attributes e []))) (below (length (slice_index_or rows e [])))

@@ -6,8 +6,8 @@ ghost use Rattle.cq_theory.specs.Presentation.{IsPresentation};
 ghost use Rattle.cq_model.specs.Listed.{IsListed};
 ghost use Rattle.cq_model.specs.declared.building.BuildRefusal.TheVariants.{Depth, TooManyRows, Inconsistent};
 
+use crate::edges::{sources, targets};
 use crate::equations::{push_given, push_observations};
-use crate::free::{sources, targets};
 use crate::groups::grouped;
 use crate::instance::Instance;
 use crate::leaves::{first_places, push_generators, push_leaves, ranks};

@@ -3,8 +3,8 @@
 
 mod application;
 pub mod building;
+pub mod edges;
 pub mod equations;
-pub mod free;
 pub mod groups;
 pub mod instance;
 pub mod laws;
@@ -20,6 +20,5 @@ mod values;
 pub mod walk;
 
 pub use building::{BuildRefusal, build};
-pub use free::build_free;
 pub use instance::Instance;
 pub use transform::{Image, Transform};

@@ -1,7 +1,7 @@
 use Rattle.std.proofs.Common.{ℕ, ◌≡◌, ◌<◌, ◌∙◌, sym, subst, List, length, get_or, replicate, refl, arith, rules, ◌+◌}
 use Rattle.std.proofs.lemmas.List.{length-replicate, length-set, get_or_default, get_or-replicate}
 use Rattle.std.proofs.lemmas.Option.{slice_get-get_or}
-use Rattle.cq_model.proofs.FreeModel.{All_at}
+use Rattle.cq_model.proofs.Lists.{All_at}
 use Rattle.cq_model.proofs.Ranks.{rank_within, members-length}
 use Rattle.cq_model.proofs.Spreads.{AreSpread, spread_none, spread_more, spread_numbers, next_read}
 use Rattle.cq_model.proofs.numbers.numbers_of.Goals as goal
