@@ -1,5 +1,5 @@
 -- What loops over entities and attributes count out, one step on.
-use Rattle.std.proofs.Common.{ℕ, Bool, true, List, [], ◌∷◌, ◌++◌, Some, ◌≡◌, ◌≢◌, ◌≤◌, ◌<◌, ◌+◌, ◌*◌, ◌^◌, ◌==◌, if◌then◌else◌, inl, inr, map, take, length, get_or, slice_set, slice_index, slice_index_or, false, refl, sym, ap, ◌∙◌, arith, eq-eqb, length-append, append_assoc}
+use Rattle.std.proofs.Common.{ℕ, Bool, true, List, [], ◌∷◌, ◌++◌, Some, ◌≡◌, ◌≢◌, ◌<◌, ◌+◌, ◌==◌, if◌then◌else◌, inl, inr, map, take, length, get_or, slice_set, slice_index, false, refl, sym, ap, ◌∙◌, arith, eq-eqb, length-append, append_assoc}
 use Rattle.std.proofs.Math.Seq.{get_or-append_seam}
 use Rattle.std.specs.Prelude.{slice_get}
 use Rattle.std.specs.List.{flat_map}
@@ -9,8 +9,7 @@ use Rattle.std.proofs.lemmas.List.Concat.{flat_map-append}
 use Rattle.std.proofs.lemmas.List.FromFn.{fill_by_all, length-map-range_with_len, get_or-map-range_with_len, map-range_with_len_more}
 use Rattle.std.proofs.lemmas.Option.{slice_get-get_or}
 use Rattle.cq_theory.specs.Canonical.{below}
-use Rattle.cq_theory.specs.declared.value.Value.TheVariants.{Null}
-use Rattle.cq_model.specs.Numbering.{positions, rank, entity_types, types, starts, column_from}
+use Rattle.cq_model.specs.Numbering.{positions, rank, entity_types, types, starts}
 use Rattle.cq_model.proofs.Lists.{range-append, map-append}
 use Rattle.cq_model.proofs.Ranks.{positions-append, rank_more, rank_zero}
 

@@ -1,7 +1,7 @@
 -- The places of cells among the leaves.
-use Rattle.std.proofs.Common.{ℕ, List, [], Some, ◌≡◌, ◌<◌, map, length, slice_index_or, sym, ap, ◌∙◌, arith}
-use Rattle.std.specs.Prelude.{slice_get}
-use Rattle.std.specs.List.{flat_map}
+use Rattle.std.proofs.Common.{ℕ, Bool, true, false, List, [], ◌∷◌, Some, ◌≡◌, ◌<◌, ◌+◌, cond, map, filter, length, slice_index_or, refl, sym, ap, ◌∙◌, arith}
+use Rattle.std.specs.Prelude.{slice_get, ◌==◌, if◌then◌else◌}
+use Rattle.std.specs.List.{flat_map, enumerate_from}
 use Rattle.std.proofs.lemmas.List.Folds.{flat_map-map}
 use Rattle.std.proofs.lemmas.List.FromFn.{get_or-map-range_with_len}
 use Rattle.cq_theory.specs.declared.presentation.Presentation.{Presentation}
@@ -13,7 +13,7 @@ use Rattle.cq_theory.specs.declared.term.TypeTerm.TheVariants.{Att}
 use Rattle.cq_theory.specs.Canonical.{below, edges_from}
 use Rattle.cq_theory.specs.Listed.{cell_nodes}
 use Rattle.cq_model.specs.LeafPlaces.{sources}
-use Rattle.cq_model.specs.Numbering.{positions, rank, Cell, row_cells, entity_cells, cells, label}
+use Rattle.cq_model.specs.Numbering.{positions_from, positions, rank, Cell, row_cells, entity_cells, cells, label}
 use Rattle.cq_model.specs.RowNumbers.{name_in, names_by}
 use Rattle.cq_model.proofs.Lists.{flat_map_same, map-map, map-flat_map, in_range}
 use Rattle.cq_model.proofs.Ranks.{positions_rank}

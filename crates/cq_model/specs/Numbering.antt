@@ -3,8 +3,6 @@
 use Rattle.std.specs.Prelude.{ℕ, zero, suc, List, [], ◌∷◌, ◌+◌, ◌*◌, ◌==◌, if◌then◌else◌, map, length, slice_index, slice_index_or}
 use Rattle.std.specs.List.{flat_map}
 use Rattle.cq_theory.specs.Canonical.{below}
-use Rattle.cq_theory.specs.declared.value.Value.{Value}
-use Rattle.cq_theory.specs.declared.value.Value.TheVariants.{Null}
 
 -- the numbers of the members that are e, where the first member has the number s
 abbrev pub positions_from : ℕ → List ℕ → ℕ → List ℕ
