@@ -1,0 +1,35 @@
+// Two lists of people become one by their e-mail addresses: each address has one owner, so
+// a customer and a subscriber with one address are one person.
+typeside T = literal {
+  types text
+  constants Ann Ben Cleo "1 Elm St" "2 Oak St" : text
+}
+
+schema Lists = literal : T {
+  entities Customer Subscriber Address Person
+  foreign_keys
+    mail : Customer -> Address
+    news : Subscriber -> Address
+    owner : Address -> Person
+  attributes
+    street : Customer -> text
+    nick : Subscriber -> text
+    name home : Person -> text
+  observation_equations
+    forall c : Customer. street(c) = home(owner(mail(c)))
+    forall s : Subscriber. nick(s) = name(owner(news(s)))
+}
+
+// The shop has the customers c1 and c2, the newsletter the subscribers s1 and s2. c1 and s1
+// gave the same address.
+instance Merged = literal : Lists {
+  generators
+    c1 c2 : Customer
+    s1 s2 : Subscriber
+    elm oak : Address
+  equations
+    mail(c1) = elm street(c1) = "1 Elm St"
+    mail(c2) = oak street(c2) = "2 Oak St"
+    news(s1) = elm nick(s1) = Ann
+    nick(s2) = Cleo
+}
