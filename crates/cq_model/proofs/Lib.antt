@@ -37,3 +37,7 @@ pub mod BuiltReading
 pub mod OnWay
 pub mod AddedLeaves
 pub mod AddedSides
+pub mod NamedRows
+pub mod NamedLeaves
+pub mod AllNodes
+pub mod ModelMade

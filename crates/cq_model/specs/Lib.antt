@@ -12,3 +12,4 @@ pub mod Pushing
 pub mod Equating
 pub mod LeafPlaces
 pub mod Standing
+pub mod BuiltParts

@@ -1,9 +1,16 @@
 //! The listed model of a presentation.
-ghost use Rattle.std.specs.Prelude.{ℕ, ◌≡◌, ◌≤◌, ◌<◌, IfOk, Err};
+ghost use Rattle.std.specs.Prelude.{ℕ, List, ◌≡◌, ◌≤◌, ◌<◌, ◌^◌, map, length, IfOk, IfErr, Err};
+ghost use Rattle.cq_flat.specs.declared.node.Node.{Node};
+ghost use Rattle.cq_flat.specs.Nodes.{HasEarlierArguments, AreSides};
 ghost use Rattle.cq_rows.specs.Saturated.{NoneCloses, SomeWide};
 ghost use Rattle.cq_theory.specs.Closing.{IsInconsistent, IsInconsistentAt};
 ghost use Rattle.cq_theory.specs.Presentation.{IsPresentation};
+ghost use Rattle.cq_model.specs.Built.{IsBuilt, IsClosureOf, tables_of, assignment_of};
+ghost use Rattle.cq_model.specs.BuiltParts.{AreNamedRows, AreLeaves, instance_of, IsRefusal};
+ghost use Rattle.cq_model.specs.Closed.{AreClosed};
+ghost use Rattle.cq_model.specs.InstanceData.{IsInstance};
 ghost use Rattle.cq_model.specs.Listed.{IsListed};
+ghost use Rattle.cq_model.specs.Standing.{meaning};
 ghost use Rattle.cq_model.specs.declared.building.BuildRefusal.TheVariants.{Depth, TooManyRows, Inconsistent};
 
 use crate::edges::{sources, targets};
@@ -15,13 +22,14 @@ use crate::nodes::NodeList;
 use crate::nulls::count_nulls;
 use crate::numbers::{NumberedRows, number_rows};
 use crate::places::Places;
-use crate::reading::{read_algebra, read_sheet};
+use crate::reading::{read_algebra, read_sheet, read_standings};
+use crate::standing::Standing;
 use crate::walk::least_names;
 use cq_base::Seq;
 use cq_flat::Flat;
 use cq_rows::{RowsRefusal, saturate};
 use cq_tables::Tables;
-use cq_theory::{Algebra, EntTerm, Presentation, Schema, Sheet};
+use cq_theory::{Algebra, Presentation, Schema, Sheet};
 use std::alloc::{AllocError, Global};
 use std::rc::Rc;
 
@@ -47,14 +55,37 @@ impl From<AllocError> for BuildRefusal {
     }
 }
 
+/// The rows of closed tables in the order of their least names, numbered by entity.
+fn name_rows(
+    alloc: Global,
+    schema: &Schema,
+    presentation: &Presentation,
+    tables: &Tables,
+    entries: &[u64],
+) -> Result<NumberedRows, AllocError>
+    requires presentation { IsPresentation schema.now presentation.now }
+    requires closed { AreClosed schema.now presentation.now tables.now entries.now }
+    ensures { IfOk result (λ numbered. AreNamedRows schema.now presentation.now tables.now entries.now numbered) }
+{
+    let (rows, names) = least_names(alloc, schema, presentation, tables, entries)?;
+    number_rows(alloc, schema.entities.len(), tables, rows, names)
+}
+
 /// The cells and the generators of types as nodes, and their places.
 fn place_leaves(
     alloc: Global,
     schema: &Schema,
     presentation: &Presentation,
-    made: u64,
+    tables: &Tables,
     numbered: &NumberedRows,
-) -> Result<(NodeList, Places), AllocError> {
+) -> Result<(NodeList, Places), AllocError>
+    requires { (entries : List ℕ) × AreClosed schema.now presentation.now tables.now entries
+        × AreNamedRows schema.now presentation.now tables.now entries numbered.now }
+    ensures { (entries : List ℕ) → AreClosed schema.now presentation.now tables.now entries
+        → AreNamedRows schema.now presentation.now tables.now entries numbered.now
+        → IfOk result (λ made. AreLeaves schema.now presentation.now tables.now entries numbered.now.names made.1 made.0) }
+{
+    schema.is_well_sorted();
     let entities = schema.entities.len();
     let sources = sources(alloc, schema.attributes.as_slice())?;
     let targets = targets(alloc, schema.attributes.as_slice())?;
@@ -67,7 +98,7 @@ fn place_leaves(
     )?;
     let firsts = first_places(
         alloc,
-        made,
+        tables.made(),
         numbered.rows.as_slice(),
         numbered.members.as_slice(),
         attributes.as_slice(),
@@ -93,8 +124,15 @@ fn make_nodes(
     tables: &Tables,
     entries: &[u64],
     numbered: &NumberedRows,
-) -> Result<(NodeList, Places), AllocError> {
-    let (mut list, places) = place_leaves(alloc, schema, presentation, tables.made(), numbered)?;
+) -> Result<(NodeList, Places), AllocError>
+    requires presentation { IsPresentation schema.now presentation.now }
+    requires closed { AreClosed schema.now presentation.now tables.now entries.now }
+    requires rows { AreNamedRows schema.now presentation.now tables.now entries.now numbered.now }
+    ensures { IfOk result (λ made. IsBuilt schema.now presentation.now tables.now entries.now numbered.now.order numbered.now.names numbered.now.numbers
+        made.1 made.0.nodes made.0.equations made.0.types) }
+{
+    schema.is_well_sorted();
+    let (mut list, places) = place_leaves(alloc, schema, presentation, tables, numbered)?;
     push_given(
         alloc,
         schema,
@@ -115,51 +153,129 @@ fn make_nodes(
     Ok((list, places))
 }
 
-/// The names, the sheet and the algebra of a listed model.
-#[derive(Drop)]
-struct ModelParts {
-    names: Seq<Seq<EntTerm>>,
-    sheet: Sheet,
-    algebra: Algebra,
-}
-
-/// The parts of the listed model over closed rows.
-fn model_parts(
-    alloc: Global,
-    schema: &Schema,
-    presentation: &Presentation,
-    tables: &Tables,
-    entries: &[u64],
-) -> Result<ModelParts, BuildRefusal> {
-    let (rows, names) = least_names(alloc, schema, presentation, tables, entries)?;
-    let numbered = number_rows(alloc, schema.entities.len(), tables, rows, names)?;
-    let (list, places) = make_nodes(alloc, schema, presentation, tables, entries, &numbered)?;
+/// The closure of nodes, and the type of each.
+fn close_nodes(alloc: Global, list: NodeList) -> Result<(Flat, Vec<u32>), AllocError>
+    requires arguments { HasEarlierArguments list.nodes }
+    requires sides { AreSides list.nodes list.equations }
+    ensures closure { IfOk result (λ made. IsClosureOf list.nodes list.equations made.0) }
+    ensures types { IfOk result (λ made. made.1.items ≡ list.types) }
+{
     let NodeList {
         nodes,
         types,
         equations,
     } = list;
     let flat = Flat::close(alloc, nodes, equations)?;
+    Ok((flat, types))
+}
+
+/// The columns of a listed model, its nulls and entries, and what each generator stands for.
+#[derive(Drop)]
+struct ModelParts {
+    sheet: Sheet,
+    algebra: Algebra,
+    standings: Seq<Standing>,
+}
+
+/// The parts of the listed model, read from numbered rows and from the closure of nodes that have these types and places.
+fn read_parts(
+    alloc: Global,
+    schema: &Schema,
+    presentation: &Presentation,
+    tables: &Tables,
+    entries: &[u64],
+    numbered: &NumberedRows,
+    places: &Places,
+    types: &[u32],
+    flat: &Flat,
+) -> Result<ModelParts, AllocError>
+    requires few_types { length types.now < 2 ^ 64 }
+    requires closed { AreClosed schema.now presentation.now tables.now entries.now }
+    requires built { (nodes : List Node) × (equations : List (ℕ × ℕ)) × IsBuilt schema.now presentation.now tables.now entries.now numbered.now.order numbered.now.names
+        numbered.now.numbers places.now nodes equations types.now × IsClosureOf nodes equations flat.now }
+    ensures tables { IfOk result (λ parts. record { sheet = parts.sheet; algebra = parts.algebra }
+        ≡ tables_of schema.now presentation.now tables.now entries.now numbered.now.order numbered.now.numbers places.now types.now flat.now) }
+    ensures assignment { IfOk result (λ parts. map meaning parts.standings
+        ≡ assignment_of schema.now presentation.now tables.now entries.now numbered.now.order numbered.now.numbers places.now flat.now.values) }
+{
+    let order = numbered.order.as_slice();
+    let numbers = numbered.numbers.as_slice();
+    let sheet = read_sheet(alloc, schema, tables, order, numbers, places, flat)?;
+    let algebra = read_algebra(alloc, types, flat)?;
+    let standings = read_standings(alloc, presentation, entries, numbers, places, flat)?;
+    Ok(ModelParts {
+        sheet,
+        algebra,
+        standings,
+    })
+}
+
+/// The parts of the listed model over closed rows, which have these names and numbers. It is refused only where two
+/// constants are equal, and where memory runs out.
+fn model_parts(
+    alloc: Global,
+    schema: &Schema,
+    presentation: &Presentation,
+    tables: &Tables,
+    entries: &[u64],
+    numbered: &NumberedRows,
+) -> Result<ModelParts, BuildRefusal>
+    requires presentation { IsPresentation schema.now presentation.now }
+    requires closed { AreClosed schema.now presentation.now tables.now entries.now }
+    requires rows { AreNamedRows schema.now presentation.now tables.now entries.now numbered.now }
+    ensures instance { IfOk result (λ parts. IsInstance (instance_of schema.now presentation.now numbered.now.names parts)) }
+    ensures listed { IfOk result (λ parts. IsListed (instance_of schema.now presentation.now numbered.now.names parts)) }
+    ensures consistent { IfOk result (λ _. IsInconsistent schema.now presentation.now → ⊥) }
+    ensures refused { IfErr result (IsRefusal schema.now presentation.now) }
+{
+    schema.is_well_sorted();
+    let (list, places) = make_nodes(alloc, schema, presentation, tables, entries, numbered)?;
+    let (flat, types) = close_nodes(alloc, list)?;
     if let Some((least, greater)) = flat.clash() {
         return Err(BuildRefusal::Inconsistent(least, greater));
     }
-    let sheet = read_sheet(
+    let parts = read_parts(
         alloc,
         schema,
+        presentation,
         tables,
-        numbered.order.as_slice(),
-        numbered.numbers.as_slice(),
+        entries,
+        numbered,
         &places,
+        types.as_slice(),
         &flat,
     )?;
-    let algebra = read_algebra(alloc, types.as_slice(), &flat)?;
+    Ok(parts)
+}
 
-    let NumberedRows { names, .. } = numbered;
-    Ok(ModelParts {
-        names,
-        sheet,
-        algebra,
-    })
+/// The listed model over closed rows. It is refused only where two constants are equal, and where memory runs out.
+fn build_closed(
+    alloc: Global,
+    schema: Rc<Schema>,
+    presentation: Presentation,
+    tables: &Tables,
+    entries: &[u64],
+) -> Result<Instance, BuildRefusal>
+    requires presentation { IsPresentation schema.value presentation }
+    requires closed { AreClosed schema.value presentation tables.now entries.now }
+    ensures schema { IfOk result (λ instance. instance.schema ≡ schema.value) }
+    ensures presentation { IfOk result (λ instance. instance.presentation ≡ presentation) }
+    ensures listed { IfOk result (λ instance. IsListed instance) }
+    ensures consistent { IfOk result (λ _. IsInconsistent schema.value presentation → ⊥) }
+    ensures refused { IfErr result (IsRefusal schema.value presentation) }
+{
+    let numbered = name_rows(alloc, &schema, &presentation, tables, entries)?;
+    match model_parts(alloc, &schema, &presentation, tables, entries, &numbered) {
+        Ok(parts) => Ok(Instance::from_parts(
+            schema,
+            presentation,
+            numbered.names,
+            parts.sheet,
+            parts.algebra,
+            parts.standings,
+        )),
+        Err(refusal) => Err(refusal),
+    }
 }
 
 /// The listed model of a presentation, made of rows up to a depth of at most 64. Rows that are named by shorter terms come
@@ -190,163 +306,11 @@ pub fn build(
     if !partial.closed {
         return Err(BuildRefusal::Depth);
     }
-    let parts = model_parts(
+    build_closed(
         alloc,
-        &schema,
-        &presentation,
-        &partial.tables,
-        partial.generator_rows.as_slice(),
-    )?;
-    Ok(Instance::from_parts(
         schema,
         presentation,
-        parts.names,
-        parts.sheet,
-        parts.algebra,
-    ))
-}
-
-#[cfg(test)]
-mod tests {
-    use super::*;
-    use cq_base::{Name, Raw};
-    use cq_theory::{ObsPart, PresentationParts, SchemaParts, Typeside, TypesideParts, Value};
-    use std::test::Fail;
-
-    fn name(alloc: Global, text: &str) -> Name {
-        Name::new(alloc, text).unwrap()
-    }
-
-    fn word(alloc: Global, text: &str) -> Raw {
-        Raw::Word(name(alloc, text))
-    }
-
-    fn app(alloc: Global, symbol: &str, arg: Raw) -> Result<Raw, AllocError> {
-        let args = vec_of(alloc, arg)?;
-        Ok(Raw::App(name(alloc, symbol), args))
-    }
-
-    fn vec_of<T: Drop>(alloc: Global, item: T) -> Result<Seq<T>, AllocError> {
-        let mut items = Vec::new(alloc);
-        match items.push(item) {
-            Ok(()) => Ok(Seq::from_vec(items)),
-            Err(_) => Err(AllocError),
-        }
-    }
-
-    fn edge(alloc: Global, edge: &str, from: &str, to: &str) -> (Name, Name, Name) {
-        (name(alloc, edge), name(alloc, from), name(alloc, to))
-    }
-
-    /// One entity E, a key k with k.k = k, an attribute x, and f(e.x) = e.x.
-    fn schema(alloc: Global) -> Result<Rc<Schema>, AllocError> {
-        let mut constants = Vec::new(alloc);
-        constants.push((name(alloc, "A"), name(alloc, "T")))?;
-        constants.push((name(alloc, "B"), name(alloc, "T")))?;
-        let function = (name(alloc, "f"), vec_of(alloc, name(alloc, "T"))?, name(alloc, "T"));
-        let typeside = Typeside::new(
-            alloc,
-            TypesideParts {
-                types: vec_of(alloc, name(alloc, "T"))?,
-                constants: Seq::from_vec(constants),
-                functions: vec_of(alloc, function)?,
-            },
-        )
-        .unwrap();
-        let mut left = Vec::new(alloc);
-        left.push(name(alloc, "E"))?;
-        left.push(name(alloc, "k"))?;
-        left.push(name(alloc, "k"))?;
-        let mut right = Vec::new(alloc);
-        right.push(name(alloc, "E"))?;
-        right.push(name(alloc, "k"))?;
-        let x = app(alloc, "x", word(alloc, "e"))?;
-        let observation = ObsPart {
-            variable: name(alloc, "e"),
-            entity: Some(name(alloc, "E")),
-            left: app(alloc, "f", x)?,
-            right: app(alloc, "x", word(alloc, "e"))?,
-        };
-        let parts = SchemaParts {
-            entities: vec_of(alloc, name(alloc, "E"))?,
-            keys: vec_of(alloc, edge(alloc, "k", "E", "E"))?,
-            path_eqs: vec_of(alloc, (Seq::from_vec(left), Seq::from_vec(right)))?,
-            attributes: vec_of(alloc, edge(alloc, "x", "E", "T"))?,
-            obs_eqs: vec_of(alloc, observation)?,
-        };
-        let schema = Schema::new(alloc, Rc::new(alloc, typeside)?, parts).unwrap();
-        Ok(Rc::new(alloc, schema)?)
-    }
-
-    /// Generators a, b, c of E, with a.k = b and a.x = A.
-    fn presentation(alloc: Global, schema: &Schema, clash: bool) -> Result<Presentation, AllocError> {
-        let mut generators = Vec::new(alloc);
-        for text in ["a", "b", "c"] {
-            generators.push((name(alloc, text), name(alloc, "E")))?;
-        }
-        let mut equations = Vec::new(alloc);
-        equations.push((app(alloc, "k", word(alloc, "a"))?, word(alloc, "b")))?;
-        equations.push((app(alloc, "x", word(alloc, "a"))?, word(alloc, "A")))?;
-        if clash {
-            let x = app(alloc, "x", word(alloc, "a"))?;
-            equations.push((app(alloc, "f", x)?, word(alloc, "B")))?;
-        }
-        let parts = PresentationParts {
-            generators: Seq::from_vec(generators),
-            equations: Seq::from_vec(equations),
-        };
-        Ok(Presentation::new(alloc, schema, parts).unwrap())
-    }
-
-    fn push_value(alloc: Global, text: &mut String, value: &Value) -> Result<(), AllocError> {
-        match value {
-            Value::Const(constant) => {
-                let constant = *constant;
-                text.push_str(format!(in alloc; " c{constant}")?.as_str())
-            }
-            Value::Null(label) => {
-                let label = *label;
-                text.push_str(format!(in alloc; " ?{label}")?.as_str())
-            }
-            Value::Fun(_, _) => text.push_str(" built"),
-        }
-    }
-
-    /// Each row with the length of its name, its generator, key and value, and then the entries.
-    fn shown(alloc: Global, instance: &Instance) -> Result<String, AllocError> {
-        let mut text = String::new(alloc);
-        for row in 0..instance.count(0) {
-            let name = instance.name_of(0, row);
-            let generator = name.generator;
-            let depth = name.path.len();
-            let key = instance.key(0, row);
-            text.push_str(format!(in alloc; "g{generator}.{depth} k{key}")?.as_str())?;
-            push_value(alloc, &mut text, instance.cell(0, row))?;
-            text.push_str(" | ")?;
-        }
-        for entry in instance.algebra().entries.as_slice() {
-            push_value(alloc, &mut text, &entry.args.as_slice()[0])?;
-            text.push_str(" ->")?;
-            push_value(alloc, &mut text, &entry.value)?;
-            text.push_str(";")?;
-        }
-        Ok(text)
-    }
-
-    #[test]
-    fn rows_keys_nulls_and_entries(rt: HostRuntime) -> Result<(), Fail> {
-        let alloc = rt.alloc();
-        let schema = schema(alloc)?;
-        let given = presentation(alloc, &schema, false)?;
-        let clashing = presentation(alloc, &schema, true)?;
-        let instance = build(alloc, schema.clone()?, given, 4).unwrap();
-        let text = shown(alloc, &instance)?;
-        assert_eq!(rt;
-            text.as_str(),
-            "g0.0 k1 c0 | g1.0 k1 ?0 | g2.0 k3 ?1 | g2.1 k3 ?2 |  c0 -> c0; ?0 -> ?0; ?1 -> ?1; ?2 -> ?2;"
-        );
-        let refused = build(alloc, schema, clashing, 4).err();
-        assert!(rt; refused == Some(BuildRefusal::Inconsistent(0, 1)));
-        Ok(())
-    }
+        &partial.tables,
+        partial.generator_rows.as_slice(),
+    )
 }

@@ -1,0 +1,147 @@
+-- The nodes of the equations stand for themselves, behind the leaves; and each row has the name at its place.
+use Rattle.std.proofs.Common.{ℕ, zero, suc, List, [], ◌∷◌, ◌++◌, Some, ◌≡◌, inl, inr, length, refl, sym, ap, subst, ◌∙◌, arith, append_assoc}
+use Rattle.std.specs.Prelude.{slice_get}
+use Rattle.std.specs.List.{flat_map}
+use Rattle.std.proofs.lemmas.List.Concat.{flat_map-append}
+use Rattle.std.proofs.lemmas.Option.{same_Some}
+use Rattle.cq_tables.specs.Content.{Content}
+use Rattle.cq_model.specs.declared.places.Places.{Places}
+use Rattle.cq_model.specs.Built.{IsBuilt}
+use Rattle.cq_model.specs.BuiltParts.{AreLeaves}
+use Rattle.cq_model.specs.Equating.{IsNameOf, AreNamesOf, none, more, AddsSides, AddsObservations}
+use Rattle.cq_model.specs.LeastNames.{rows_at, terms_at, AreNumbered}
+use Rattle.cq_model.specs.NodeListData.{NodeListData}
+use Rattle.cq_model.specs.NodeTerms.{made_terms, side_terms, equation_sides, entity_sides, given_sides, leaf_terms, node_terms, StandsAt, ArePlaces}
+use Rattle.cq_model.specs.Pushing.{AreEquationsOf}
+use Rattle.cq_model.proofs.Lists.{IsIn, in_append, from_flat_map, get-append_front}
+use Rattle.cq_model.proofs.PlacedLeaves.{split_at, out-Gen}
+use Rattle.cq_model.proofs.PushedTerms.{StandsFor-more, made-Gen, made-Const, made-Att, made-Fun, out-Const, out-Fun}
+use Rattle.cq_model.proofs.Variants.{out-Att}
+use Rattle.cq_theory.specs.declared.presentation.Presentation.{Presentation}
+use Rattle.cq_theory.specs.SchemaData.{SchemaData as Schema}
+use Rattle.cq_theory.specs.declared.term.EntTerm.{EntTerm}
+use Rattle.cq_theory.specs.declared.term.TypeTerm.{TypeTerm}
+use Rattle.cq_theory.specs.declared.term.TypeTerm.TheVariants as term
+use Rattle.cq_theory.specs.declared.term.TypeTerm.TheOpen as layer
+use Rattle.cq_theory.specs.declared.term.TypeTerm.TheViews.{out-TypeTerm, roll-TypeTerm}
+use Rattle.cq_theory.specs.Canonical.{below}
+use Rattle.cq_theory.proofs.TypeTerms.{Each, on_terms}
+
+-- a constant or an application
+abbrev IsMadeLayer : layer.TypeTerm-F TypeTerm → Type 0
+IsMadeLayer (layer.Gen n) = ⊥
+IsMadeLayer (layer.Const c) = Unit {0}
+IsMadeLayer (layer.Att a t) = ⊥
+IsMadeLayer (layer.Fun f ts) = Unit {0}
+
+abbrev IsMade : TypeTerm → Type 0
+IsMade t = IsMadeLayer (out-TypeTerm t)
+
+-- each member is one
+abbrev AllMade : List TypeTerm → Type 0
+AllMade ts = (t : TypeTerm) → IsIn t ts → IsMade t
+
+made_none : AllMade []
+made_none t h = let no : slice_get [] h.place ≡ Some t = h.is in cc
+
+made_one : (t : TypeTerm) → IsMade t → AllMade (t ∷ [])
+made_one t made u h = go h.place h.is
+  where
+    go : (n : ℕ) → slice_get (t ∷ []) n ≡ Some u → IsMade u
+    go zero is = subst IsMade (same_Some t u is) made
+    go (suc n) is = let no : slice_get [] n ≡ Some u = is in cc
+
+made_append : (ts us : List TypeTerm) → AllMade ts → AllMade us → AllMade (ts ++ us)
+made_append ts us left right t h = in_append (IsMade t) ts us h.place t h.is (left t) (right t)
+
+made_flat : (ts : List TypeTerm) → Each (λ t. AllMade (made_terms t)) ts → AllMade (flat_map made_terms ts)
+made_flat [] each = made_none
+made_flat (t ∷ ts) each = made_append (made_terms t) (flat_map made_terms ts) each.0 (made_flat ts each.1)
+
+all_made : (t : TypeTerm) → AllMade (made_terms t)
+all_made = on_terms (λ t. AllMade (made_terms t))
+    (λ n. subst AllMade (sym (made-Gen n)) made_none)
+    (λ c. subst AllMade (sym (made-Const c)) (made_one (term.Const c) (subst IsMadeLayer (sym (out-Const c)) tt)))
+    (λ a t. subst AllMade (sym (made-Att a t)) made_none)
+    (λ f ts each. subst AllMade (sym (made-Fun f ts)) (made_append (flat_map made_terms ts) (term.Fun f ts ∷ []) (made_flat ts each) (made_one (term.Fun f ts) (subst IsMadeLayer (sym (out-Fun f ts)) tt))))
+
+sides_made : (sides : List (TypeTerm × TypeTerm)) → AllMade (flat_map side_terms sides)
+sides_made sides t h =
+    let from = from_flat_map side_terms sides t h in
+    made_append (made_terms from.source.0) (made_terms from.source.1) (all_made from.source.0) (all_made from.source.1) t from.in_part
+
+-- a term is its layer, closed
+from_layer : (t : TypeTerm) (l : layer.TypeTerm-F TypeTerm) → out-TypeTerm t ≡ l → t ≡ roll-TypeTerm l
+from_layer t l h = closed t ∙ ap roll-TypeTerm h
+  where
+    closed : (t : TypeTerm) → t ≡ roll-TypeTerm (out-TypeTerm t)
+    closed = on_terms (λ t. t ≡ roll-TypeTerm (out-TypeTerm t))
+        (λ n. sym (term.rolls-Gen n) ∙ ap roll-TypeTerm (sym (out-Gen n)))
+        (λ c. sym (term.rolls-Const c) ∙ ap roll-TypeTerm (sym (out-Const c)))
+        (λ a t. sym (term.rolls-Att a t) ∙ ap roll-TypeTerm (sym (out-Att a t)))
+        (λ f ts each. sym (term.rolls-Fun f ts) ∙ ap roll-TypeTerm (sym (out-Fun f ts)))
+
+module _ (m : Content) (rows : List ℕ) (places : Places) where
+  -- a constant or an application stands for itself
+  made_stands : (terms : List TypeTerm) (t : TypeTerm) (p : ℕ) (l : layer.TypeTerm-F TypeTerm) → out-TypeTerm t ≡ l → IsMadeLayer l → slice_get terms p ≡ Some t → StandsAt m rows places terms l p
+  made_stands terms t p (layer.Gen n) is made at = absurd made
+  made_stands terms t p (layer.Const c) is made at = at ∙ ap (λ (u : TypeTerm). Some u) (from_layer t (layer.Const c) is ∙ term.rolls-Const c)
+  made_stands terms t p (layer.Att a u) is made at = absurd made
+  made_stands terms t p (layer.Fun f ts) is made at = at ∙ ap (λ (u : TypeTerm). Some u) (from_layer t (layer.Fun f ts) is ∙ term.rolls-Fun f ts)
+
+  module _ (S : Schema) (P : Presentation) where
+    -- more terms behind those that have places, all of them constants and applications
+    places_more : (terms later : List TypeTerm) → AllMade later → ArePlaces m rows places terms S P → ArePlaces m rows places (terms ++ later) S P
+    places_more terms later made h = record {
+      cell = λ r a edge live found from.
+          let cell = h.cell r a edge live found from in
+          (cell.0, get-append_front terms later _ (term.Att a cell.0) cell.1, cell.2);
+      generator = λ n type sort. get-append_front terms later _ (term.Gen n) (h.generator n type sort);
+      own = λ p t at. elim (split_at terms later p t at) [
+        | inl a ↦ StandsFor-more m rows places terms later t p (h.own p t a)
+        | inr b ↦ made_stands (terms ++ later) t p (out-TypeTerm t) refl (made t (record { place = b.0; is = b.2 })) at
+      ];
+    }
+
+    pub node_places : (names : List (List EntTerm)) → ArePlaces m rows places (leaf_terms S P names) S P → ArePlaces m rows places (node_terms S P names) S P
+    node_places names h = places_more (leaf_terms S P names) (flat_map side_terms (given_sides S P names)) (sides_made (given_sides S P names)) h
+
+module _ (S : Schema) (P : Presentation) (m : Content) (entries : List ℕ) where
+  -- rows and names in step
+  names_along : (places : Places) (e : ℕ) (rows : List ℕ) (names : List EntTerm) → length names ≡ length rows
+      → ((n r : ℕ) (t : EntTerm) → slice_get rows n ≡ Some r → slice_get names n ≡ Some t → IsNameOf S m places P entries e r t) → AreNamesOf S m places P entries e rows names
+  names_along places e [] [] same each = none
+  names_along places e [] (t ∷ names) same each = absurd (omega arith)
+  names_along places e (r ∷ rows) [] same each = absurd (omega arith)
+  names_along places e (r ∷ rows) (t ∷ names) same each = more (each 0 r t refl refl) (names_along places e rows names (omega arith) (λ n r' t' a b. each (suc n) r' t' a b))
+
+  -- the names of an entity's rows lead to these
+  numbered_names : (places : Places) (order : List (List ℕ)) (names : List (List EntTerm)) (numbers : List ℕ) → AreNumbered S P m entries order names numbers
+      → (e : ℕ) → AreNamesOf S m places P entries e (rows_at order e) (terms_at names e)
+  numbered_names places order names numbers h e = names_along places e (rows_at order e) (terms_at names e) (h.counted e) (λ n r t row name.
+      let least = h.named e n r t row name in
+      record { sort = least.entity ∙ ap (λ x. Some x) (h.live e n r row).1; row_is = least.row })
+
+  -- the leaves, and then the equations with what they are made of
+  pub built_nodes : (order : List (List ℕ)) (names : List (List EntTerm)) (numbers : List ℕ) (places : Places) (leaves given list : NodeListData)
+      → AreNumbered S P m entries order names numbers → AreLeaves S P m entries names places leaves
+      → AddsSides S m places P entries (flat_map equation_sides P.equations) leaves given → AddsObservations S m places order (length order) given list
+      → IsBuilt S P m entries order names numbers places list.nodes list.equations list.types
+  built_nodes order names numbers places leaves given list numbered placed adds observed =
+      let L : List TypeTerm = leaf_terms S P names in
+      let first : List (TypeTerm × TypeTerm) = flat_map equation_sides P.equations in
+      let second : List (TypeTerm × TypeTerm) = flat_map (entity_sides S P names) (below (length S.entities)) in
+      let one : AreEquationsOf S m places P entries (L ++ flat_map side_terms first) first given = adds L [] placed.listed in
+      let added : AreEquationsOf S m places P entries ((L ++ flat_map side_terms first) ++ flat_map side_terms second) (first ++ second) list =
+      subst (λ n. AreEquationsOf S m places P entries ((L ++ flat_map side_terms first) ++ flat_map side_terms (flat_map (entity_sides S P names) (below n))) (first ++ flat_map (entity_sides S P names) (below n)) list)
+      numbered.entities (observed P entries names (λ e _. numbered_names places order names numbers numbered e) (L ++ flat_map side_terms first) first one) in
+      let whole : (L ++ flat_map side_terms first) ++ flat_map side_terms second ≡ node_terms S P names =
+      append_assoc L (flat_map side_terms first) (flat_map side_terms second) ∙ ap (λ (l : List TypeTerm). L ++ l) (sym (flat_map-append side_terms first second)) in
+      let all : AreEquationsOf S m places P entries (node_terms S P names) (given_sides S P names) list = subst (λ (l : List TypeTerm). AreEquationsOf S m places P entries l (first ++ second) list) whole added in
+      record {
+        numbered = numbered;
+        places_are = node_places m entries places S P names placed.places_are;
+        nodes_are = all.listed.nodes;
+        sides = all.equations;
+        types_are = all.listed.types;
+      }

@@ -1,0 +1,47 @@
+use Rattle.std.proofs.Common.{ℕ, List, Some, ◌≡◌, ◌<◌, true, length, sym, ap, subst, ◌∙◌, arith}
+use Rattle.std.specs.Prelude.{slice_get}
+use Rattle.cq_tables.specs.Content.{live_of}
+use Rattle.cq_tables.specs.Content.{entity_of as row_entity}
+use Rattle.cq_theory.specs.declared.schema.Edge.{Edge}
+use Rattle.cq_model.specs.LeastNames.{rows_at}
+use Rattle.cq_model.specs.NodeTerms.{cell_place}
+use Rattle.cq_model.specs.Built.{sheet_of, assignment_of}
+use Rattle.cq_model.proofs.BuiltReading as reading
+use Rattle.cq_model.proofs.building.read_parts.Goals as goal
+
+pub read_sheet-requires : goal.read_sheet-requires
+read_sheet-requires c =
+    let built = c.requires.built in
+    let order : c.as_slice-order.result.now ≡ c.args.numbered.now.order = c.as_slice-order.ensures in
+    record {
+      entities = ap length order ∙ reading.entities_counted c.args.schema.now c.args.presentation.now c.args.tables.now c.args.entries.now c.requires.closed c.args.numbered.now.order c.args.numbered.now.names c.args.numbered.now.numbers c.args.places.now built.0 built.1 c.args.types.now built.2 c.args.flat.now built.3;
+      few_values = omega (arith, c.requires.few_types, reading.types_counted c.args.schema.now c.args.presentation.now c.args.tables.now c.args.entries.now c.requires.closed c.args.numbered.now.order c.args.numbered.now.names c.args.numbered.now.numbers c.args.places.now built.0 built.1 c.args.types.now built.2 c.args.flat.now built.3);
+      keys = c.requires.closed.keys;
+      rows = subst (λ (l : List (List ℕ)). (e n r : ℕ) → slice_get (rows_at l e) n ≡ Some r → (live_of c.args.tables.now r ≡ true) × (row_entity c.args.tables.now r ≡ e)) (sym order)
+          (reading.rows_are c.args.schema.now c.args.presentation.now c.args.tables.now c.args.entries.now c.requires.closed c.args.numbered.now.order c.args.numbered.now.names c.args.numbered.now.numbers c.args.places.now built.0 built.1 c.args.types.now built.2 c.args.flat.now built.3);
+      places = subst (λ (l : List (List ℕ)). (a n r : ℕ) (edge : Edge) → slice_get c.args.schema.now.attributes a ≡ Some edge → slice_get (rows_at l edge.from) n ≡ Some r → cell_place c.args.places.now r a < length c.args.flat.now.values) (sym order)
+          (reading.places_within c.args.schema.now c.args.presentation.now c.args.tables.now c.args.entries.now c.requires.closed c.args.numbered.now.order c.args.numbered.now.names c.args.numbered.now.numbers c.args.places.now built.0 built.1 c.args.types.now built.2 c.args.flat.now built.3);
+    }
+
+pub read_algebra-requires : goal.read_algebra-requires
+read_algebra-requires c =
+    let built = c.requires.built in
+    reading.nulls_within c.args.schema.now c.args.presentation.now c.args.tables.now c.args.entries.now c.requires.closed c.args.numbered.now.order c.args.numbered.now.names c.args.numbered.now.numbers c.args.places.now built.0 built.1 c.args.types.now built.2 c.args.flat.now built.3
+
+pub read_standings-requires : goal.read_standings-requires
+read_standings-requires c =
+    let built = c.requires.built in
+    reading.generators_within c.args.schema.now c.args.presentation.now c.args.tables.now c.args.entries.now c.requires.closed c.args.numbered.now.order c.args.numbered.now.names c.args.numbered.now.numbers c.args.places.now built.0 built.1 c.args.types.now built.2 c.args.flat.now built.3
+
+pub returns-clause-tables : goal.returns-clause-tables
+returns-clause-tables c =
+    let built = c.requires.built in
+    let sheet = c.in_ok-sheet.ensures c.args.presentation.now c.args.entries.now
+    ∙ (λ i. sheet_of c.args.schema.now c.args.presentation.now c.args.tables.now c.args.entries.now (c.as_slice-order.ensures i) (c.as_slice-numbers.ensures i) c.args.places.now c.args.flat.now.values) in
+    reading.tables_read c.args.schema.now c.args.presentation.now c.args.tables.now c.args.entries.now c.requires.closed c.args.numbered.now.order c.args.numbered.now.names c.args.numbered.now.numbers c.args.places.now built.0 built.1 c.args.types.now built.2 c.args.flat.now built.3
+    c.in_ok-sheet.sheet c.in_ok-algebra.algebra sheet c.in_ok-algebra.ensures.nulls c.in_ok-algebra.ensures.entries
+
+pub returns-clause-assignment : goal.returns-clause-assignment
+returns-clause-assignment c =
+    c.in_ok-standings.ensures c.args.schema.now c.args.tables.now c.args.numbered.now.order
+    ∙ (λ i. assignment_of c.args.schema.now c.args.presentation.now c.args.tables.now c.args.entries.now c.args.numbered.now.order (c.as_slice-numbers.ensures i) c.args.places.now c.args.flat.now.values)
