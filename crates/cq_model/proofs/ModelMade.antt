@@ -17,7 +17,7 @@ use Rattle.cq_model.specs.NodeTerms.{node_terms, given_sides}
 use Rattle.cq_model.specs.Standing.{meaning}
 use Rattle.cq_model.proofs.BuiltListed as built_says
 use Rattle.cq_model.proofs.BuiltNodes.{at_place, function_node}
-use Rattle.cq_model.proofs.FreeModel.{All_from}
+use Rattle.cq_model.proofs.Lists.{All_from}
 use Rattle.cq_theory.specs.declared.presentation.Presentation.{Presentation}
 use Rattle.cq_theory.specs.SchemaData.{SchemaData as Schema}
 use Rattle.cq_theory.specs.Schema.{IsSchema}

@@ -22,8 +22,7 @@ use Rattle.cq_model.specs.declared.places.Places.{Places}
 use Rattle.cq_model.specs.BuiltParts.{AreNamedRows, AreLeaves}
 use Rattle.cq_model.specs.Closed.{AreClosed}
 use Rattle.cq_model.specs.Equating.{IsPresented}
-use Rattle.cq_model.specs.Free.{sources, targets}
-use Rattle.cq_model.specs.LeafPlaces.{AreFirsts, AddsLeaves, AddsGenerators, plain_type, places_from}
+use Rattle.cq_model.specs.LeafPlaces.{sources, targets, AreFirsts, AddsLeaves, AddsGenerators, plain_type, places_from}
 use Rattle.cq_model.specs.NodeListData.{NodeListData}
 use Rattle.cq_model.specs.NodeTerms.{leaf_terms, ArePlaces, AreSidesOf}
 use Rattle.cq_model.specs.Numbering.{positions, rank, types, starts}
@@ -32,7 +31,7 @@ use Rattle.cq_model.specs.RowNumbers.{row_entities, names_by}
 use Rattle.cq_model.proofs.BuiltRows.{entity_at_some}
 use Rattle.cq_model.proofs.BuiltTerms.{type_at_some}
 use Rattle.cq_model.proofs.Counted.{members_within, starts_fit}
-use Rattle.cq_model.proofs.FreeModel.{All_at, All_from, get-map_from}
+use Rattle.cq_model.proofs.Lists.{All_at, All_from, get-map_from}
 use Rattle.cq_model.proofs.NumberedRows.{walk_live, walk_once}
 use Rattle.cq_model.proofs.PlacedLeaves.{leaf_places, leaves_listed, have_places}
 use Rattle.cq_model.proofs.RowMembers.{members_in}

@@ -11,7 +11,7 @@ use Rattle.cq_model.specs.Closed.{AreClosed}
 use Rattle.cq_model.specs.LeastNames.{AreNumbered}
 use Rattle.cq_model.specs.RowNumbers.{AreNumberedAs}
 use Rattle.cq_model.specs.Walking.{IsWalkOf}
-use Rattle.cq_model.proofs.FreeModel.{All_from}
+use Rattle.cq_model.proofs.Lists.{All_from}
 use Rattle.cq_model.proofs.NumberedRows.{walk_live, are_numbered}
 
 module _ (S : Schema) (P : Presentation) (m : Content) (entries : List ℕ) (closed : AreClosed S P m entries)
