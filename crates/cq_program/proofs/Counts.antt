@@ -1,5 +1,5 @@
 -- How many parts the lists of a literal give.
-use Rattle.std.proofs.Common.{ℕ, List, ◌≡◌, ◌+◌, ◌<◌, ◌^◌, map, length, sym, ap, ◌∙◌, subst, arith}
+use Rattle.std.proofs.Common.{ℕ, List, ◌≡◌, ◌+◌, ◌<◌, ◌^◌, length, sym, ap, ◌∙◌, subst}
 use Rattle.std.specs.Prelude.{sum_by}
 use Rattle.std.specs.List.{flat_map}
 use Rattle.std.proofs.lemmas.List.{length-map}
@@ -9,9 +9,6 @@ use Rattle.cq_syntax.specs.declared.part.Spot.{Spot}
 use Rattle.cq_syntax.specs.declared.part.GroupSyn.{GroupSyn}
 use Rattle.cq_syntax.specs.declared.part.EdgeSyn.{EdgeSyn}
 use Rattle.cq_syntax.specs.declared.part.FunSyn.{FunSyn}
-use Rattle.cq_syntax.specs.declared.part.EqSyn.{EqSyn}
-use Rattle.cq_syntax.specs.declared.part.PathEqSyn.{PathEqSyn}
-use Rattle.cq_syntax.specs.declared.part.ObsSyn.{ObsSyn}
 use Rattle.cq_syntax.specs.declared.literal.TypesideLit.{TypesideLit}
 use Rattle.cq_syntax.specs.declared.literal.SchemaLit.{SchemaLit}
 use Rattle.cq_syntax.specs.declared.literal.InstanceLit.{InstanceLit}

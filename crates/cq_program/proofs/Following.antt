@@ -1,17 +1,16 @@
 -- One declaration more.
-use Rattle.std.proofs.Common.{ℕ, suc, List, [], ◌∷◌, ◌++◌, ◌+◌, ◌≡◌, ◌≤◌, ◌<◌, length, take, drop, get_or, refl, sym, ap, ◌∙◌, subst, arith, drop-cons}
+use Rattle.std.proofs.Common.{inl, inr, ℕ, suc, List, [], ◌∷◌, ◌++◌, ◌+◌, ◌≡◌, ◌<◌, length, take, drop, get_or, sym, ap, ◌∙◌, subst, arith, drop-cons}
 use Rattle.std.proofs.lemmas.List.{take-append-drop, take_more, length_push, length-map}
 use Rattle.std.specs.Prelude.{Result, Ok, Err, IfErr}
 use Rattle.cq_base.specs.declared.name.Name.{Name}
 use Rattle.cq_syntax.specs.declared.program.Decl.{Decl}
 use Rattle.cq_syntax.specs.declared.program.Program.{Program}
-use Rattle.cq_program.specs.declared.reason.Reason.{Reason}
 use Rattle.cq_program.specs.declared.reason.ProgramRefusal.{ProgramRefusal}
 use Rattle.cq_program.specs.declared.reason.ProgramRefusal.TheVariants as program_refusal
-use Rattle.cq_program.specs.Checks.{Environment, Meant, Posed, a_typeside, a_schema, a_presentation, posed_by}
+use Rattle.cq_program.specs.Checks.{Environment, Meant, Posed, posed_by}
 use Rattle.cq_program.specs.declared.environment.Entry.{Entry}
 use Rattle.cq_program.specs.Environment.{Refuses, environment_of, meant}
-use Rattle.cq_program.specs.Program.{Breach, by_rule, by_limit, Declares, Exceeds, Follow}
+use Rattle.cq_program.specs.Program.{by_rule, by_clash, by_limit, Follow}
 use Rattle.cq_program.specs.Posing.{AddsDecl, RefusesDecl, RefusesProgram, Withholds}
 
 pub Follow-more : (env : Environment) (ds : List Decl) (d : Decl) (mid after : Environment) → Follow env ds mid → AddsDecl mid d after → Follow env (ds ++ d ∷ []) after
@@ -32,20 +31,18 @@ refuses_posing depth env d (program_refusal.Broken place reason) refuses = by_ru
 refuses_posing depth env d (program_refusal.Read name cause) refuses = absurd refuses
 refuses_posing depth env d program_refusal.Memory refuses = tt
 
-deeper : (depth : ℕ) (posed : Posed) (reason : Reason) → Exceeds 0 posed reason → Exceeds depth posed reason
-deeper depth (a_typeside T) reason exceeds = absurd exceeds
-deeper depth (a_schema n S) reason exceeds = absurd exceeds
-deeper depth (a_presentation n S P) reason exceeds = let bound : exceeds.1 ≤ depth = omega (arith, exceeds.2) in (exceeds.0, exceeds.1, bound, exceeds.3)
-
 -- what is posed and gets no model is refused
 pub refuses_model : (depth : ℕ) (env : Environment) (d : Decl) (posed : Posed) (answer : ProgramRefusal)
-    → posed_by env d ≡ Ok posed → Withholds 0 d.place posed answer → RefusesDecl depth env d answer
-refuses_model depth env d posed (program_refusal.Broken place reason) is withholds = by_limit posed is withholds.0 (deeper depth posed reason withholds.1)
+    → posed_by env d ≡ Ok posed → Withholds depth d.place posed answer → RefusesDecl depth env d answer
+refuses_model depth env d posed (program_refusal.Broken place reason) is withholds = elim withholds.1 [
+  | inl clashes ↦ by_clash posed is withholds.0 clashes
+  | inr exceeds ↦ by_limit posed is withholds.0 exceeds
+]
 refuses_model depth env d posed (program_refusal.Read name cause) is withholds = absurd withholds
 refuses_model depth env d posed program_refusal.Memory is withholds = tt
 
 pub refuses_result : {X : Type 0} (depth : ℕ) (env : Environment) (d : Decl) (posed : Posed) (r : Result X ProgramRefusal)
-    → posed_by env d ≡ Ok posed → IfErr r (Withholds 0 d.place posed) → IfErr r (RefusesDecl depth env d)
+    → posed_by env d ≡ Ok posed → IfErr r (Withholds depth d.place posed) → IfErr r (RefusesDecl depth env d)
 refuses_result depth env d posed (Ok x) is withholds = tt
 refuses_result depth env d posed (Err answer) is withholds = refuses_model depth env d posed answer is withholds
 

@@ -1,5 +1,5 @@
 -- What the constructors answer is what the parts give.
-use Rattle.std.proofs.Common.{ℕ, List, ◌≡◌, ◌⊎◌, inl, inr, Option, Some, None, refl, sym, ap, ◌∙◌, subst}
+use Rattle.std.proofs.Common.{List, ◌≡◌, ◌⊎◌, inl, inr, Option, Some, None, sym, ap, ◌∙◌, subst}
 use Rattle.std.specs.Prelude.{option_and_then, Ok, Err}
 use Rattle.cq_base.specs.declared.place.Place.{Place}
 use Rattle.cq_theory.specs.declared.lookup.TheoryRefusal.{TheoryRefusal}

@@ -1,6 +1,5 @@
-pub mod Wide
+pub mod Constants
 pub mod Counts
-pub mod Freedom
 pub mod Listings
 pub mod Entries
 pub mod Given

@@ -1,7 +1,7 @@
 -- What names and parts are checked against: an environment without its models. Environments that come from the same declarations
 -- have one outline, so a program that has a meaning breaks no rule, and a program breaks one rule first.
-use Rattle.std.proofs.Common.{◌≡◌, ◌⊎◌, inl, inr, Bool, true, false, List, [], ◌∷◌, ◌++◌, Option, Some, None, refl, sym, ap, ◌∙◌, subst, append_assoc}
-use Rattle.std.specs.Prelude.{if◌then◌else◌, map, is_some, option_map, Ok, Err, ℕ, length}
+use Rattle.std.proofs.Common.{◌≡◌, ◌⊎◌, inl, inr, Bool, true, false, List, [], ◌∷◌, ◌++◌, Option, Some, None, refl, sym, ap, ◌∙◌, subst}
+use Rattle.std.specs.Prelude.{if◌then◌else◌, map, is_some, option_map, Ok, Err, ℕ}
 use Rattle.cq_base.specs.declared.name.Name.{Name}
 use Rattle.cq_base.specs.declared.place.Place.{Place}
 use Rattle.cq_base.specs.Names.{same_name}
@@ -15,9 +15,10 @@ use Rattle.cq_syntax.specs.declared.program.Program.{Program}
 use Rattle.cq_theory.specs.SchemaData.{SchemaData}
 use Rattle.cq_theory.specs.TypesideData.{TypesideData}
 use Rattle.cq_program.specs.declared.reason.Reason.{Reason}
-use Rattle.cq_program.specs.declared.reason.Reason.TheVariants.{NameTaken, NameUnknown, WrongKind, TooManyRows, NotBuilt}
-use Rattle.cq_program.specs.Checks.{Meant, typeside, schema, instance, Environment, Checked, and_then, meant_by, as_typeside, as_schema, typeside_used, schema_used, schema_given, presentation_given, if_free, Posed, a_typeside, a_schema, a_presentation, is_built, body_posed, posed_by}
-use Rattle.cq_program.specs.Program.{Stands, Exceeds, Declares, Breach, by_rule, by_limit, Follow, Listing, Means, Breaks}
+use Rattle.cq_program.specs.declared.reason.Reason.TheVariants.{NameTaken, NameUnknown, WrongKind, NotBuilt}
+use Rattle.cq_program.specs.Checks.{Meant, typeside, schema, instance, Environment, Checked, and_then, meant_by, as_typeside, as_schema, typeside_used, schema_used, schema_given, presentation_given, Posed, a_typeside, a_schema, a_presentation, is_built, body_posed, posed_by}
+use Rattle.cq_program.specs.Program.{Stands, Clashes, Exceeds, IsLimit, Declares, Breach, by_rule, by_clash, by_limit, Follow, Listing, Means, Breaks}
+use Rattle.cq_program.proofs.Constants.{one_clash}
 
 abbrev outline : Meant → Posed
 outline (typeside T) = a_typeside T
@@ -86,7 +87,7 @@ module _ (env env' : Environment) (same : outline_of env ≡ outline_of env') wh
   body_alike place name (bodies.Schema (schema_exp.Literal lit)) = ap (λ (c : Checked TypesideData). and_then c (λ T. and_then (schema_given place T lit) (λ S. Ok (a_schema name S)))) (typeside_alike lit.typeside)
   body_alike place name (bodies.Schema (schema_exp.GetSchema s)) = refl
   body_alike place name (bodies.Instance (instance_exp.Literal lit)) =
-      ap (λ (c : Checked (Name × SchemaData)). and_then c (λ over. and_then (presentation_given place over.1 lit) (λ P. if_free place over.0 over.1 P))) (schema_alike lit.schema)
+      ap (λ (c : Checked (Name × SchemaData)). and_then c (λ over. and_then (presentation_given place over.1 lit) (λ P. Ok (a_presentation over.0 over.1 P)))) (schema_alike lit.schema)
   body_alike place name (bodies.Instance (instance_exp.Delta f i)) = refl
   body_alike place name (bodies.Instance (instance_exp.Sigma f i)) = refl
   body_alike place name (bodies.Instance (instance_exp.Eval f i)) = refl
@@ -142,73 +143,105 @@ follows_to env (x ∷ before) d rest after follow =
     let to = follows_to (env ++ (x.name, follow.0) ∷ []) before d rest after follow.2 in
     record { mid = to.mid; m = to.m; follow = (follow.0, follow.1, to.follow); declares = to.declares }
 
-limit_only : (depth : ℕ) (posed : Posed) (reason : Reason) → Exceeds depth posed reason → reason ≡ TooManyRows
-limit_only depth (a_typeside T) reason exceeds = absurd exceeds
-limit_only depth (a_schema n S) reason exceeds = absurd exceeds
-limit_only depth (a_presentation n S P) reason exceeds = exceeds.0
+exceeds_limit : (depth : ℕ) (posed : Posed) (reason : Reason) → Exceeds depth posed reason → IsLimit reason
+exceeds_limit depth (a_typeside T) reason exceeds = absurd exceeds
+exceeds_limit depth (a_schema n S) reason exceeds = absurd exceeds
+exceeds_limit depth (a_presentation n S P) reason exceeds = elim exceeds [ inl deep ↦ inl deep.0 | inr wide ↦ inr wide.0 ]
+
+-- what stands for something makes no constants equal
+no_clash : (posed : Posed) (m : Meant) (reason : Reason) → Stands posed m → Clashes posed reason → ⊥
+no_clash (a_typeside T) m reason stands clashes = clashes
+no_clash (a_schema n S) m reason stands clashes = clashes
+no_clash (a_presentation n S P) m reason stands clashes = stands.2.consistent (clashes.least, clashes.greater, clashes.equal)
+
+same_clash : (posed : Posed) (reason other : Reason) → Clashes posed reason → Clashes posed other → reason ≡ other
+same_clash (a_typeside T) reason other clashes clashes' = absurd clashes
+same_clash (a_schema n S) reason other clashes clashes' = absurd clashes
+same_clash (a_presentation n S P) reason other clashes clashes' = one_clash S P reason other clashes clashes'
 
 no_rule : (check : Checked Posed) (posed : Posed) (at : Place × Reason) → check ≡ Ok posed → check ≡ Err at → ⊥
 no_rule check posed at is is' = cc
 
-by_limit_only : (depth : ℕ) (env : Environment) (d : Decl) (posed : Posed) (place : Place) (reason : Reason)
-    → posed_by env d ≡ Ok posed → Breach depth env d place reason → reason ≡ TooManyRows
-by_limit_only depth env d posed place reason is (by_rule broken) = absurd (no_rule (posed_by env d) posed (place, reason) is broken)
-by_limit_only depth env d posed place reason is (by_limit other is' at exceeds) = limit_only depth other reason exceeds
+-- the rule that a declaration breaks, by what its checks give
+data Fault (d : Decl) (check : Checked Posed) (place : Place) (reason : Reason) : Type 0 where
+  of_check : check ≡ Err (place, reason) → Fault d check place reason
+  of_constants : (posed : Posed) → check ≡ Ok posed → place ≡ d.place → Clashes posed reason → Fault d check place reason
 
--- a program that has a meaning breaks no rule; only the limit on rows may keep it from being made
+no_fault : (d : Decl) (check : Checked Posed) (posed : Posed) (m : Meant) (place : Place) (reason : Reason) → check ≡ Ok posed → Stands posed m → Fault d check place reason → ⊥
+no_fault d check posed m place reason is stands (of_check broken) = no_rule check posed (place, reason) is broken
+no_fault d check posed m place reason is stands (of_constants other is' at clashes) =
+    no_clash posed m reason stands (subst (λ (p : Posed). Clashes p reason) (one_posed other posed check is' is) clashes)
+
+same_place : (place place' : Place) (reason reason' : Reason) (check : Checked Posed) → check ≡ Err (place, reason) → check ≡ Err (place', reason') → (place ≡ place') × (reason ≡ reason')
+same_place place place' reason reason' check is is' =
+    let one : (place, reason) ≡ (place', reason') = cc in
+    (ap (λ (p : Place × Reason). p.0) one, ap (λ (p : Place × Reason). p.1) one)
+
+one_fault : (d : Decl) (check : Checked Posed) (place place' : Place) (reason reason' : Reason) → Fault d check place reason → Fault d check place' reason' → (place ≡ place') × (reason ≡ reason')
+one_fault d check place place' reason reason' (of_check broken) (of_check broken') = same_place place place' reason reason' check broken broken'
+one_fault d check place place' reason reason' (of_check broken) (of_constants posed is at clashes) = absurd (no_rule check posed (place, reason) is broken)
+one_fault d check place place' reason reason' (of_constants posed is at clashes) (of_check broken) = absurd (no_rule check posed (place', reason') is broken)
+one_fault d check place place' reason reason' (of_constants posed is at clashes) (of_constants posed' is' at' clashes') =
+    (at ∙ sym at', same_clash posed' reason reason' (subst (λ (p : Posed). Clashes p reason) (one_posed posed posed' check is is') clashes) clashes')
+
+-- a breach is the break of a rule, or a limit that is passed
+fault_or_limit : (depth : ℕ) (env : Environment) (d : Decl) (place : Place) (reason : Reason) → Breach depth env d place reason → Fault d (posed_by env d) place reason ⊎ IsLimit reason
+fault_or_limit depth env d place reason (by_rule broken) = inl (of_check broken)
+fault_or_limit depth env d place reason (by_clash posed is at clashes) = inl (of_constants posed is at clashes)
+fault_or_limit depth env d place reason (by_limit posed is at exceeds) = inr (exceeds_limit depth posed reason exceeds)
+
+-- a program that has a meaning breaks no rule; only a limit may keep it from being made
 pub means_unbroken : (depth : ℕ) (program : Program) (L : List Listing) (place : Place) (reason : Reason)
-    → Means program L → Breaks depth program place reason → reason ≡ TooManyRows
+    → Means program L → Breaks depth program place reason → IsLimit reason
 means_unbroken depth program L place reason means breaks =
     let to = follows_to [] breaks.before breaks.broken breaks.after means.env (subst (λ (ds : List Decl). Follow [] ds means.env) breaks.split means.follow) in
     let same : outline_of to.mid ≡ outline_of breaks.env = followed_alike breaks.before [] [] to.mid breaks.env refl to.follow breaks.follow in
-    by_limit_only depth breaks.env breaks.broken to.declares.posed place reason (sym (posed_alike to.mid breaks.env same breaks.broken) ∙ to.declares.checked) breaks.breach
+    let checked : posed_by breaks.env breaks.broken ≡ Ok to.declares.posed = sym (posed_alike to.mid breaks.env same breaks.broken) ∙ to.declares.checked in
+    elim (fault_or_limit depth breaks.env breaks.broken place reason breaks.breach) [
+      | inl fault ↦ absurd (no_fault breaks.broken (posed_by breaks.env breaks.broken) to.declares.posed to.m place reason checked to.declares.stands fault)
+      | inr limit ↦ limit
+    ]
 
-one_breach_at : (a b : Place × Reason) (check : Checked Posed) → check ≡ Err a → check ≡ Err b → a ≡ b
-one_breach_at a b check is is' = cc
-
--- two breaches by rules of one list of declarations are one
-module _ (rest rest' : List Decl) (d d' : Decl) (at at' : Place × Reason) where
-  one_breach_from : (before before' : List Decl) (env env' mid mid' : Environment) → outline_of env ≡ outline_of env' → before ++ d ∷ rest ≡ before' ++ d' ∷ rest'
-      → Follow env before mid → Follow env' before' mid' → posed_by mid d ≡ Err at → posed_by mid' d' ≡ Err at' → at ≡ at'
-  one_breach_from [] [] env env' mid mid' same split follow follow' broken broken' =
+-- two breaks of rules by one list of declarations are one
+module _ (rest rest' : List Decl) (d d' : Decl) (place place' : Place) (reason reason' : Reason) where
+  one_fault_from : (before before' : List Decl) (env env' mid mid' : Environment) → outline_of env ≡ outline_of env' → before ++ d ∷ rest ≡ before' ++ d' ∷ rest'
+      → Follow env before mid → Follow env' before' mid' → Fault d (posed_by mid d) place reason → Fault d' (posed_by mid' d') place' reason' → (place ≡ place') × (reason ≡ reason')
+  one_fault_from [] [] env env' mid mid' same split follow follow' broken broken' =
       let decl : d ≡ d' = cc in
-      let here : posed_by env d ≡ Err at = subst (λ (e : Environment). posed_by e d ≡ Err at) follow broken in
-      let there : posed_by env' d ≡ Err at' = subst (λ (e : Environment). posed_by e d ≡ Err at') follow' (subst (λ (x : Decl). posed_by mid' x ≡ Err at') (sym decl) broken') in
-      one_breach_at at at' (posed_by env' d) (sym (posed_alike env env' same d) ∙ here) there
-  one_breach_from [] (x ∷ before') env env' mid mid' same split follow follow' broken broken' =
+      let here : Fault d (posed_by env d) place reason = subst (λ (e : Environment). Fault d (posed_by e d) place reason) follow broken in
+      let there : Fault d (posed_by env' d) place' reason' =
+      subst (λ (e : Environment). Fault d (posed_by e d) place' reason') follow' (subst (λ (x : Decl). Fault x (posed_by mid' x) place' reason') (sym decl) broken') in
+      one_fault d (posed_by env' d) place place' reason reason' (subst (λ (c : Checked Posed). Fault d c place reason) (posed_alike env env' same d) here) there
+  one_fault_from [] (x ∷ before') env env' mid mid' same split follow follow' broken broken' =
       let decl : d ≡ x = cc in
-      let here : posed_by env d ≡ Err at = subst (λ (e : Environment). posed_by e d ≡ Err at) follow broken in
+      let here : Fault d (posed_by env d) place reason = subst (λ (e : Environment). Fault d (posed_by e d) place reason) follow broken in
       let there : posed_by env' d ≡ Ok follow'.1.posed = subst (λ (y : Decl). posed_by env' y ≡ Ok follow'.1.posed) (sym decl) follow'.1.checked in
-      absurd (no_rule (posed_by env' d) follow'.1.posed at there (sym (posed_alike env env' same d) ∙ here))
-  one_breach_from (x ∷ before) [] env env' mid mid' same split follow follow' broken broken' =
+      absurd (no_fault d (posed_by env' d) follow'.1.posed follow'.0 place reason there follow'.1.stands
+      (subst (λ (c : Checked Posed). Fault d c place reason) (posed_alike env env' same d) here))
+  one_fault_from (x ∷ before) [] env env' mid mid' same split follow follow' broken broken' =
       let decl : x ≡ d' = cc in
-      let there : posed_by env' d' ≡ Err at' = subst (λ (e : Environment). posed_by e d' ≡ Err at') follow' broken' in
+      let there : Fault d' (posed_by env' d') place' reason' = subst (λ (e : Environment). Fault d' (posed_by e d') place' reason') follow' broken' in
       let here : posed_by env d' ≡ Ok follow.1.posed = subst (λ (y : Decl). posed_by env y ≡ Ok follow.1.posed) decl follow.1.checked in
-      absurd (no_rule (posed_by env' d') follow.1.posed at' (sym (posed_alike env env' same d') ∙ here) there)
-  one_breach_from (x ∷ before) (x' ∷ before') env env' mid mid' same split follow follow' broken broken' =
+      absurd (no_fault d' (posed_by env d') follow.1.posed follow.0 place' reason' here follow.1.stands
+      (subst (λ (c : Checked Posed). Fault d' c place' reason') (sym (posed_alike env env' same d')) there))
+  one_fault_from (x ∷ before) (x' ∷ before') env env' mid mid' same split follow follow' broken broken' =
       let decl : x ≡ x' = cc in
       let tails : before ++ d ∷ rest ≡ before' ++ d' ∷ rest' = cc in
       let declares' : Declares env' x follow'.0 = subst (λ (y : Decl). Declares env' y follow'.0) (sym decl) follow'.1 in
       let more : outline_of (env ++ (x.name, follow.0) ∷ []) ≡ outline_of (env' ++ (x'.name, follow'.0) ∷ []) =
       declared_alike env env' same x follow.0 follow'.0 follow.1 declares' ∙ ap (λ (y : Decl). outline_of (env' ++ (y.name, follow'.0) ∷ [])) decl in
-      one_breach_from before before' (env ++ (x.name, follow.0) ∷ []) (env' ++ (x'.name, follow'.0) ∷ []) mid mid' more tails follow.2 follow'.2 broken broken'
+      one_fault_from before before' (env ++ (x.name, follow.0) ∷ []) (env' ++ (x'.name, follow'.0) ∷ []) mid mid' more tails follow.2 follow'.2 broken broken'
 
-by_rule_or_limit : (depth : ℕ) (env : Environment) (d : Decl) (place : Place) (reason : Reason) → Breach depth env d place reason → (posed_by env d ≡ Err (place, reason)) ⊎ (reason ≡ TooManyRows)
-by_rule_or_limit depth env d place reason (by_rule broken) = inl broken
-by_rule_or_limit depth env d place reason (by_limit posed is at exceeds) = inr (limit_only depth posed reason exceeds)
-
--- a program breaks one rule first, and else only the limit on rows
+-- a program breaks one rule first, and else only a limit is told
 pub one_refusal : (depth : ℕ) (program : Program) (place place' : Place) (reason reason' : Reason)
-    → Breaks depth program place reason → Breaks depth program place' reason' → (reason ≡ TooManyRows → ⊥) → (reason' ≡ TooManyRows → ⊥) → (place ≡ place') × (reason ≡ reason')
+    → Breaks depth program place reason → Breaks depth program place' reason' → (IsLimit reason → ⊥) → (IsLimit reason' → ⊥) → (place ≡ place') × (reason ≡ reason')
 one_refusal depth program place place' reason reason' breaks breaks' rule rule' =
-    elim (by_rule_or_limit depth breaks.env breaks.broken place reason breaks.breach) [
+    elim (fault_or_limit depth breaks.env breaks.broken place reason breaks.breach) [
       | inr limit ↦ absurd (rule limit)
-      | inl broken ↦ elim (by_rule_or_limit depth breaks'.env breaks'.broken place' reason' breaks'.breach) [
+      | inl broken ↦ elim (fault_or_limit depth breaks'.env breaks'.broken place' reason' breaks'.breach) [
         | inr limit ↦ absurd (rule' limit)
         | inl broken' ↦
-            let one : (place, reason) ≡ (place', reason') =
-            one_breach_from breaks.after breaks'.after breaks.broken breaks'.broken (place, reason) (place', reason') breaks.before breaks'.before [] [] breaks.env breaks'.env refl
-            (sym breaks.split ∙ breaks'.split) breaks.follow breaks'.follow broken broken' in
-            (ap (λ (p : Place × Reason). p.0) one, ap (λ (p : Place × Reason). p.1) one)
+            one_fault_from breaks.after breaks'.after breaks.broken breaks'.broken place place' reason reason' breaks.before breaks'.before [] [] breaks.env breaks'.env refl
+            (sym breaks.split ∙ breaks'.split) breaks.follow breaks'.follow broken broken'
       ]
     ]

@@ -1,9 +1,9 @@
 -- The first two checks of a declaration, and those of its body.
 use Rattle.std.proofs.Common.{◌≡◌, Bool, true, false, Option, Some, None, refl, ap, ◌∙◌, sym}
-use Rattle.std.specs.Prelude.{if◌then◌else◌, is_some, option_map, Ok, Err}
+use Rattle.std.specs.Prelude.{if◌then◌else◌, is_some, option_map, Err}
 use Rattle.cq_syntax.specs.declared.program.Decl.{Decl}
 use Rattle.cq_program.specs.declared.reason.Reason.TheVariants.{NameTaken, NotBuilt}
-use Rattle.cq_program.specs.Checks.{Environment, Meant, Checked, Posed, meant_by, is_built, body_posed, posed_by}
+use Rattle.cq_program.specs.Checks.{Environment, Checked, Posed, meant_by, is_built, body_posed, posed_by}
 
 -- a name that is found is declared
 found : {X Y : Type 0} (f : X → Y) (o : Option X) → is_some (option_map f o) ≡ is_some o

@@ -1,6 +1,5 @@
 -- What declared names stand for, and the rules of names and parts.
-use Rattle.std.specs.Prelude.{◌≡◌, ℕ, Bool, true, false, List, [], ◌∷◌, ◌&&◌, ◌==◌, Option, Some, None, Result, Ok, Err, if◌then◌else◌, length, is_some, slice_index_or, option_and_then}
-use Rattle.std.specs.List.{list_all}
+use Rattle.std.specs.Prelude.{ℕ, Bool, true, false, List, [], ◌∷◌, Option, Some, None, Result, Ok, Err, if◌then◌else◌, is_some, slice_index_or, option_and_then}
 use Rattle.cq_base.specs.declared.name.Name.{Name}
 use Rattle.cq_base.specs.declared.place.Place.{Place}
 use Rattle.cq_base.specs.Names.{same_name}
@@ -15,8 +14,6 @@ use Rattle.cq_syntax.specs.declared.program.Body.TheVariants.{Typeside, Schema, 
 use Rattle.cq_syntax.specs.declared.program.Decl.{Decl}
 use Rattle.cq_theory.specs.declared.lookup.TheoryRefusal.{TheoryRefusal}
 use Rattle.cq_theory.specs.declared.lookup.TheoryRefusal.TheVariants as refusal
-use Rattle.cq_theory.specs.declared.presentation.Sort.{Sort}
-use Rattle.cq_theory.specs.declared.presentation.Sort.TheVariants.{Plain, Entity}
 use Rattle.cq_theory.specs.declared.presentation.Presentation.{Presentation}
 use Rattle.cq_theory.specs.declared.parts.PresentationParts.{PresentationParts}
 use Rattle.cq_theory.specs.SchemaData.{SchemaData}
@@ -109,16 +106,6 @@ made_over S parts = presented S parts.generators parts.equations
 unfoldable pub presentation_given : Place → SchemaData → InstanceLit → Checked Presentation
 presentation_given place S lit = of_parts place (instance_places lit) (fault_over S (instance_parts lit)) (made_over S (instance_parts lit))
 
-abbrev pub is_entity : Sort → Bool
-is_entity (Plain type) = false
-is_entity (Entity entity) = true
-
--- Which instances are built today: a schema without foreign keys and equations, generators of entities alone, no equations.
-abbrev pub is_free : SchemaData → Presentation → Bool
-is_free S P =
-    (length S.keys == 0) && (length S.path_eqs == 0) && (length S.obs_eqs == 0)
-    && (length P.equations == 0) && list_all (λ g. is_entity g.1) P.generators
-
 -- What a declaration poses whose names and parts break no rule: a theory, or a presentation over the schema of a printed name,
 -- whose model is to be made.
 pub data Posed : Type 0 where
@@ -135,14 +122,11 @@ schema_posed env place name lit =
     and_then (schema_given place T lit) (λ S.
     Ok (a_schema name S)))
 
-abbrev pub if_free : Place → Name → SchemaData → Presentation → Checked Posed
-if_free place name S P = if is_free S P then Ok (a_presentation name S P) else Err (place, NotBuilt)
-
 abbrev pub instance_posed : Environment → Place → InstanceLit → Checked Posed
 instance_posed env place lit =
     and_then (schema_used env lit.schema) (λ over.
     and_then (presentation_given place over.1 lit) (λ P.
-    if_free place over.0 over.1 P))
+    Ok (a_presentation over.0 over.1 P)))
 
 -- the forms that are built
 abbrev pub is_built : Body → Bool

@@ -1,9 +1,7 @@
 -- The environment that the code keeps, as the definitions see it, and what its functions answer.
-use Rattle.std.specs.Prelude.{◌≡◌, ℕ, List, Option, Some, Result, Ok, Err, All, map}
+use Rattle.std.specs.Prelude.{◌≡◌, List, Option, Some, Result, Ok, Err, map}
 use Rattle.cq_base.specs.declared.name.Name.{Name}
 use Rattle.cq_base.specs.declared.place.Place.{Place}
-use Rattle.cq_theory.specs.Presentation.{IsPresentation}
-use Rattle.cq_model.specs.Free.{IsFree}
 use Rattle.cq_program.specs.declared.reason.Reason.{Reason}
 use Rattle.cq_program.specs.declared.reason.ProgramRefusal.{ProgramRefusal}
 use Rattle.cq_program.specs.declared.reason.ProgramRefusal.TheVariants as program_refusal

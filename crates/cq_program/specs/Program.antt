@@ -1,5 +1,5 @@
 -- What a program means, and the first rule that it breaks.
-use Rattle.std.specs.Prelude.{◌≡◌, ℕ, ◌<◌, ◌≤◌, ◌-◌, ◌^◌, List, [], ◌∷◌, ◌++◌, Option, Some, None, Ok, Err, All, length, map}
+use Rattle.std.specs.Prelude.{◌≡◌, ◌⊎◌, ℕ, ◌<◌, ◌≤◌, ◌-◌, ◌^◌, List, [], ◌∷◌, ◌++◌, Option, Some, None, Ok, Err, All, length}
 use Rattle.std.specs.List.{filter_map}
 use Rattle.cq_base.specs.declared.name.Name.{Name}
 use Rattle.cq_base.specs.declared.place.Place.{Place}
@@ -11,19 +11,22 @@ use Rattle.cq_syntax.specs.declared.program.Decl.{Decl}
 use Rattle.cq_syntax.specs.declared.program.Program.{Program}
 use Rattle.cq_theory.specs.declared.presentation.Presentation.{Presentation}
 use Rattle.cq_theory.specs.SchemaData.{SchemaData}
-use Rattle.cq_theory.specs.Closing.{IsWide}
+use Rattle.cq_theory.specs.Closing.{Closes, IsInconsistent, IsInconsistentAt, IsWide}
+use Rattle.cq_theory.specs.ValueText.{value_text}
+use Rattle.cq_theory.specs.declared.value.Value.TheVariants.{Const}
 use Rattle.cq_model.specs.InstanceData.{InstanceData}
 use Rattle.cq_model.specs.Listed.{IsListed}
 use Rattle.cq_program.specs.declared.reason.Reason.{Reason}
-use Rattle.cq_program.specs.declared.reason.Reason.TheVariants.{TooManyRows}
+use Rattle.cq_program.specs.declared.reason.Reason.TheVariants.{Depth, TooManyRows, Inconsistent}
 use Rattle.cq_program.specs.Parts.{typeside_count, schema_count, instance_count}
 use Rattle.cq_program.specs.Checks.{Meant, typeside, schema, instance, Environment, Posed, a_typeside, a_schema, a_presentation, posed_by}
 
--- the listed model of a presentation over a schema
+-- the listed model of a presentation over a schema, which makes no two constants equal
 pub record IsModelOf (S : SchemaData) (P : Presentation) (i : InstanceData) : Type 0 where
   pub over : i.schema ≡ S
   pub presents : i.presentation ≡ P
   pub listed : IsListed i
+  pub consistent : IsInconsistent S P → ⊥
 
 -- what is posed is this: a theory itself, a presentation by its listed model
 abbrev pub Stands : Posed → Meant → Type 0
@@ -31,12 +34,31 @@ Stands (a_typeside T) m = m ≡ typeside T
 Stands (a_schema n S) m = m ≡ schema n S
 Stands (a_presentation n S P) m = (i : InstanceData) × (m ≡ instance n i) × IsModelOf S P i
 
--- Why no model of what is posed is made within a depth. No rule is broken then; the limit on rows gives the leave:
--- at some depth up to the given one there are more classes than rows are allowed.
+-- A presentation makes two constants equal: the least that equals a greater one and the least such greater one, whose texts the reason tells.
+pub record TellsClash (S : SchemaData) (P : Presentation) (reason : Reason) : Type 0 where
+  pub least : ℕ
+  pub greater : ℕ
+  pub equal : IsInconsistentAt S P least greater
+  pub told : reason ≡ Inconsistent (value_text S.typeside (Const least)) (value_text S.typeside (Const greater))
+
+-- what is posed breaks the rule that no two constants are equal
+abbrev pub Clashes : Posed → Reason → Type 0
+Clashes (a_typeside T) reason = ⊥
+Clashes (a_schema n S) reason = ⊥
+Clashes (a_presentation n S P) reason = TellsClash S P reason
+
+-- the two limits of a model: its depth, and its number of rows
+abbrev pub IsLimit : Reason → Type 0
+IsLimit reason = (reason ≡ Depth) ⊎ (reason ≡ TooManyRows)
+
+-- Which limit keeps the model of what is posed from being made within a depth. No rule is broken then. The depth gives the leave where
+-- the presentation closes at no depth up to the given one; the limit on rows where at some depth up to it there are more classes than rows are allowed.
 abbrev pub Exceeds : ℕ → Posed → Reason → Type 0
 Exceeds depth (a_typeside T) reason = ⊥
 Exceeds depth (a_schema n S) reason = ⊥
-Exceeds depth (a_presentation n S P) reason = (reason ≡ TooManyRows) × (j : ℕ) × (j ≤ depth) × IsWide S P j
+Exceeds depth (a_presentation n S P) reason =
+    ((reason ≡ Depth) × ((j : ℕ) → j ≤ depth → Closes S P j → ⊥))
+    ⊎ ((reason ≡ TooManyRows) × (j : ℕ) × (j ≤ depth) × IsWide S P j)
 
 -- the declaration meets its rules, and its name stands for m
 pub record Declares (env : Environment) (d : Decl) (m : Meant) : Type 0 where
@@ -44,9 +66,10 @@ pub record Declares (env : Environment) (d : Decl) (m : Meant) : Type 0 where
   pub checked : posed_by env d ≡ Ok posed
   pub stands : Stands posed m
 
--- the first rule that the declaration breaks
+-- the first rule that the declaration breaks: one of names and parts, or that of constants; or the limit that it passes
 pub data Breach (depth : ℕ) (env : Environment) (d : Decl) (place : Place) (reason : Reason) : Type 0 where
   by_rule : posed_by env d ≡ Err (place, reason) → Breach depth env d place reason
+  by_clash : (posed : Posed) → posed_by env d ≡ Ok posed → place ≡ d.place → Clashes posed reason → Breach depth env d place reason
   by_limit : (posed : Posed) → posed_by env d ≡ Ok posed → place ≡ d.place → Exceeds depth posed reason → Breach depth env d place reason
 
 -- the declarations, in order, meet their rules, and lead from one environment to another

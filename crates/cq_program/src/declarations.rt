@@ -29,8 +29,11 @@ pub struct Named {
 ///
 /// The declarations are taken in order. Each is checked in this order: its form is built (`NotBuilt`), its name is new
 /// (`NameTaken`), each name that it uses is declared (`NameUnknown`) and of the right kind (`WrongKind`), its parts
-/// break no rule (`Duplicate` to `TooLarge`, at the first such part), its model is of a form that is built (`NotBuilt`)
-/// and small enough (`TooManyRows`). Want of memory may come at any time. No form that is built reads files.
+/// break no rule (`Duplicate` to `TooLarge`, at the first such part), and its model has at most 200,000 rows at each
+/// depth up to the given one (`TooManyRows`), closes within it (`Depth`) and makes no two constants equal
+/// (`Inconsistent`, with the texts of the least such pair). The first two of these three are limits and no rules: each
+/// is told only where the presentation gives leave for it. Want of memory may come at any time. No form that is built
+/// reads files.
 pub fn meaning<F: Folder>(
     alloc: Global,
     program: &Program,
@@ -49,7 +52,8 @@ pub fn meaning<F: Folder>(
 
 /// What all names stand for.
 fn declare_all(alloc: Global, program: &Program, depth: u32) -> Result<Environment, ProgramRefusal>
-    requires { HasFewParts program.now }
+    requires few { HasFewParts program.now }
+    requires depth { depth ≤ 64 }
     ensures follows { IfOk result (λ env. Follow [] program.now.decls (environment_of env.entries.items)) }
     ensures breaks { IfErr result (RefusesProgram depth program.now) }
 {
@@ -69,6 +73,7 @@ fn declare(
 ) -> Result<Environment, ProgramRefusal>
     requires few { part_count decl.now.body < 2 ^ 32 }
     requires room { length env.entries.items < 2 ^ 32 - 1 }
+    requires depth { depth ≤ 64 }
     ensures declares { IfOk result (λ after. AddsDecl (environment_of env.entries.items) decl.now (environment_of after.entries.items)) }
     ensures breaks { IfErr result (RefusesDecl depth (environment_of env.entries.items) decl.now) }
 {
@@ -84,12 +89,13 @@ fn judge(
     decl: &Decl,
     depth: u32,
 ) -> Result<Meaning, ProgramRefusal>
-    requires { part_count decl.now.body < 2 ^ 32 }
+    requires few { part_count decl.now.body < 2 ^ 32 }
+    requires depth { depth ≤ 64 }
     ensures declares { IfOk result (λ meaning. Declares (environment_of env.now.entries.items) decl.now (meant meaning)) }
     ensures breaks { IfErr result (RefusesDecl depth (environment_of env.now.entries.items) decl.now) }
 {
     let statement = pose(alloc, env, decl)?;
-    meaning_of(alloc, decl.place, statement)
+    meaning_of(alloc, decl.place, statement, depth)
 }
 
 /// The instances among the declared names.

@@ -2,19 +2,34 @@
 ghost use Rattle.std.specs.Prelude.{◌≡◌, ℕ, List};
 ghost use Rattle.cq_base.specs.declared.place.Place.{Place};
 ghost use Rattle.cq_syntax.specs.declared.program.Program.{Program};
+ghost use Rattle.cq_theory.specs.declared.presentation.Presentation.{Presentation};
+ghost use Rattle.cq_theory.specs.SchemaData.{SchemaData};
+ghost use Rattle.cq_theory.specs.Schema.{IsSchema};
+ghost use Rattle.cq_theory.specs.Closing.{IsInconsistent};
+ghost use Rattle.cq_theory.specs.Listed.{Lists};
+ghost use Rattle.cq_theory.specs.Tables.{Tables, Assignment};
 ghost use Rattle.cq_program.specs.declared.reason.Reason.{Reason};
-ghost use Rattle.cq_program.specs.declared.reason.Reason.TheVariants.{TooManyRows};
-ghost use Rattle.cq_program.specs.Program.{Breaks, Listing, Means};
+ghost use Rattle.cq_program.specs.Program.{Breaks, IsLimit, Listing, Means, TellsClash};
 
-/// A program that has a meaning breaks no rule; only the limit on rows can keep it from being made.
+/// A program that has a meaning breaks no rule; only the depth and the limit on rows can keep it from being made.
 pub fn means_unbroken()
     ensures { (depth : ℕ) (program : Program) (L : List Listing) (place : Place) (reason : Reason)
-        → Means program L → Breaks depth program place reason → reason ≡ TooManyRows }
+        → Means program L → Breaks depth program place reason → IsLimit reason }
 {}
 
-/// A program breaks one rule first, at one place, where it isn't the limit on rows that is told.
+/// A program breaks one rule first, at one place and with one reason, where it isn't a limit that is told.
 pub fn one_refusal()
     ensures { (depth : ℕ) (program : Program) (place other_place : Place) (reason other : Reason)
         → Breaks depth program place reason → Breaks depth program other_place other
-        → (reason ≡ TooManyRows → ⊥) → (other ≡ TooManyRows → ⊥) → (place ≡ other_place) × (reason ≡ other) }
+        → (IsLimit reason → ⊥) → (IsLimit other → ⊥) → (place ≡ other_place) × (reason ≡ other) }
+{}
+
+/// A presentation that makes constants equal tells one pair of them.
+pub fn one_clash()
+    ensures { (S : SchemaData) (P : Presentation) (reason other : Reason) → TellsClash S P reason → TellsClash S P other → reason ≡ other }
+{}
+
+/// A presentation that has a listed model makes no constants equal: equal constants would mean one value.
+pub fn listed_is_consistent()
+    ensures { (S : SchemaData) (P : Presentation) (M : Tables) (A : Assignment) → IsSchema S → Lists S P M A → IsInconsistent S P → ⊥ }
 {}

@@ -1,66 +1,114 @@
 //! What declarations stand for that pass the checks of names and parts.
-ghost use Rattle.std.specs.Prelude.{◌≡◌, ◌≤◌, IfOk, IfErr, length};
+ghost use Rattle.std.specs.Prelude.{◌≡◌, ◌<◌, ◌≤◌, IfOk, IfErr, length};
+ghost use Rattle.cq_theory.specs.Closing.{IsInconsistent};
 ghost use Rattle.cq_theory.specs.Presentation.{IsPresentation};
-ghost use Rattle.cq_model.specs.Free.{IsFree};
+ghost use Rattle.cq_theory.specs.ValueText.{value_text as text_of};
+ghost use Rattle.cq_theory.specs.declared.value.Value.TheVariants.{Const};
 ghost use Rattle.cq_model.specs.Listed.{IsListed};
 ghost use Rattle.cq_program.specs.Program.{Stands};
 ghost use Rattle.cq_program.specs.Environment.{meant};
-ghost use Rattle.cq_program.specs.Posing.{CanBeBuilt, Withholds, posed_as};
-ghost use Rattle.cq_program.specs.Checks.{a_presentation};
+ghost use Rattle.cq_program.specs.Posing.{IsPosed, TellsConstants, Withholds, posed_as};
+ghost use Rattle.cq_program.specs.Checks.{a_presentation, instance};
 
 use crate::environment::Meaning;
 use crate::posing::Statement;
 use crate::reason::{ProgramRefusal, Reason};
-use cq_base::{Name, Place};
-use cq_model::build_free;
-use cq_theory::{Presentation, Schema, Typeside};
+use cq_base::{Name, Place, Seq};
+use cq_model::{BuildRefusal, Instance, build};
+use cq_theory::value_text::value_text;
+use cq_theory::{Presentation, Schema, Typeside, Value};
 use std::alloc::{AllocError, Global};
 use std::rc::Rc;
-
-/// The most rows of a term model.
-const MOST_ROWS: usize = 200_000;
 
 /// What the declaration at a place stands for: a theory itself, a presentation by its listed model.
 pub fn meaning_of(
     alloc: Global,
     place: Place,
     statement: Statement,
+    depth: u32,
 ) -> Result<Meaning, ProgramRefusal>
-    requires { CanBeBuilt statement }
+    requires posed { IsPosed statement }
+    requires depth { depth ≤ 64 }
     ensures stands { IfOk result (λ meaning. Stands (posed_as statement) (meant meaning)) }
-    ensures withholds { IfErr result (Withholds 0 place (posed_as statement)) }
+    ensures withholds { IfErr result (Withholds depth place (posed_as statement)) }
 {
     match statement {
         Statement::Typeside(typeside) => Ok(Meaning::Typeside(shared_typeside(alloc, typeside)?)),
         Statement::Schema(name, schema) => Ok(Meaning::Schema(name, shared_schema(alloc, schema)?)),
         Statement::Presentation(name, schema, presentation) => {
-            model_of(alloc, place, name, schema, presentation)
+            model_of(alloc, place, name, schema, presentation, depth)
         }
     }
 }
 
-/// The listed model of a presentation, which has at most 200,000 rows.
+/// The listed model of a presentation, made of rows up to a depth.
 fn model_of(
     alloc: Global,
     place: Place,
     name: Name,
     schema: Rc<Schema>,
     presentation: Presentation,
+    depth: u32,
 ) -> Result<Meaning, ProgramRefusal>
-    requires free { IsFree schema.value presentation }
     requires presentation { IsPresentation schema.value presentation }
+    requires depth { depth ≤ 64 }
     ensures stands { IfOk result (λ meaning. Stands (a_presentation name schema.value presentation) (meant meaning)) }
-    ensures withholds { IfErr result (Withholds 0 place (a_presentation name schema.value presentation)) }
+    ensures withholds { IfErr result (Withholds depth place (a_presentation name schema.value presentation)) }
 {
     schema.is_well_sorted();
-    if presentation.generators.len() > MOST_ROWS {
-        return Err(ProgramRefusal::Broken(place, Reason::TooManyRows));
+    let over = schema.clone()?;
+    match build(alloc, schema, presentation, depth) {
+        Ok(model) => Ok(shared_instance(alloc, name, model)?),
+        Err(BuildRefusal::Depth) => Err(ProgramRefusal::Broken(place, Reason::Depth)),
+        Err(BuildRefusal::TooManyRows) => Err(ProgramRefusal::Broken(place, Reason::TooManyRows)),
+        Err(BuildRefusal::Inconsistent(least, greater)) => {
+            Err(clash(alloc, place, &over.typeside, least, greater))
+        }
+        Err(BuildRefusal::Memory) => Err(ProgramRefusal::Memory),
     }
-    let instance = build_free(alloc, schema, presentation)?;
-    match Rc::new(alloc, instance) {
-        Ok(instance) => Ok(Meaning::Instance(name, instance)),
-        Err(_) => Err(ProgramRefusal::Memory),
+}
+
+/// The refusal that two constants are equal.
+fn clash(
+    alloc: Global,
+    place: Place,
+    typeside: &Typeside,
+    least: u32,
+    greater: u32,
+) -> ProgramRefusal
+    requires least { least < length typeside.now.constants }
+    requires greater { greater < length typeside.now.constants }
+    ensures { TellsConstants place (text_of typeside.now (Const least)) (text_of typeside.now (Const greater)) result }
+{
+    match constant_texts(alloc, typeside, least, greater) {
+        Ok((first, second)) => ProgramRefusal::Broken(place, Reason::Inconsistent(first, second)),
+        Err(_) => ProgramRefusal::Memory,
     }
+}
+
+/// The texts of two constants.
+fn constant_texts(
+    alloc: Global,
+    typeside: &Typeside,
+    least: u32,
+    greater: u32,
+) -> Result<(Seq<u8>, Seq<u8>), AllocError>
+    requires least { least < length typeside.now.constants }
+    requires greater { greater < length typeside.now.constants }
+    ensures { IfOk result (λ texts. texts ≡ (text_of typeside.now (Const least), text_of typeside.now (Const greater))) }
+{
+    let first = constant_text(alloc, typeside, least)?;
+    let second = constant_text(alloc, typeside, greater)?;
+    Ok((first, second))
+}
+
+/// The text of a constant.
+fn constant_text(alloc: Global, typeside: &Typeside, constant: u32) -> Result<Seq<u8>, AllocError>
+    requires { constant < length typeside.now.constants }
+    ensures { IfOk result (λ text. text ≡ text_of typeside.now (Const constant)) }
+{
+    let text = value_text(alloc, typeside, &Value::Const(constant))?;
+    Ok(Seq::from_vec(text))
 }
 
 fn shared_typeside(alloc: Global, typeside: Typeside) -> Result<Rc<Typeside>, AllocError>
@@ -75,4 +123,11 @@ fn shared_schema(alloc: Global, schema: Schema) -> Result<Rc<Schema>, AllocError
 {
     let shared = Rc::new(alloc, schema)?;
     Ok(shared)
+}
+
+fn shared_instance(alloc: Global, name: Name, model: Instance) -> Result<Meaning, AllocError>
+    ensures { IfOk result (λ meaning. meant meaning ≡ instance name model) }
+{
+    let shared = Rc::new(alloc, model)?;
+    Ok(Meaning::Instance(name, shared))
 }

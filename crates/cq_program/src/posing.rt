@@ -1,12 +1,11 @@
 //! The checks of names and parts, and what a declaration poses that passes them.
 ghost use Rattle.std.specs.Prelude.{◌≡◌, ◌<◌, ◌^◌, IfOk, length};
-ghost use Rattle.std.specs.List.{list_all};
 ghost use Rattle.cq_theory.specs.Presentation.{IsPresentation};
 ghost use Rattle.cq_program.specs.Program.{part_count};
 ghost use Rattle.cq_program.specs.Parts.{typeside_count, schema_count, instance_count};
-ghost use Rattle.cq_program.specs.Checks.{body_posed, instance_posed, is_built, is_entity, is_free, part_breach, place_of, posed_by, presentation_given, schema_given, schema_posed, typeside_given, typeside_posed};
+ghost use Rattle.cq_program.specs.Checks.{body_posed, instance_posed, is_built, part_breach, place_of, posed_by, presentation_given, schema_given, schema_posed, typeside_given, typeside_posed};
 ghost use Rattle.cq_program.specs.Environment.{Answers, Tells, environment_of};
-ghost use Rattle.cq_program.specs.Posing.{CanBeBuilt, posed_as};
+ghost use Rattle.cq_program.specs.Posing.{IsPosed, posed_as};
 
 use crate::environment::Environment;
 use crate::parts::{instance_parts, schema_parts, typeside_parts};
@@ -14,7 +13,7 @@ use crate::places::{instance_places, schema_places, typeside_places};
 use crate::reason::{ProgramRefusal, Reason};
 use cq_base::{Name, Place};
 use cq_syntax::{Body, Decl, InstanceExp, InstanceLit, SchemaExp, SchemaLit, TypesideLit};
-use cq_theory::{Presentation, Schema, Sort, TheoryRefusal, Typeside};
+use cq_theory::{Presentation, Schema, TheoryRefusal, Typeside};
 use std::alloc::Global;
 use std::rc::Rc;
 
@@ -30,7 +29,7 @@ pub(crate) enum Statement {
 pub fn pose(alloc: Global, env: &Environment, decl: &Decl) -> Result<Statement, ProgramRefusal>
     requires { part_count decl.now.body < 2 ^ 32 }
     ensures posed { Answers posed_as result (posed_by (environment_of env.now.entries.items) decl.now) }
-    ensures built { IfOk result CanBeBuilt }
+    ensures well_sorted { IfOk result IsPosed }
 {
     if !is_built(&decl.body) {
         return Err(ProgramRefusal::Broken(decl.place, Reason::NotBuilt));
@@ -66,7 +65,7 @@ fn pose_body(
 ) -> Result<Statement, ProgramRefusal>
     requires { part_count body.now < 2 ^ 32 }
     ensures posed { Answers posed_as result (body_posed (environment_of env.now.entries.items) place name.now body.now) }
-    ensures built { IfOk result CanBeBuilt }
+    ensures well_sorted { IfOk result IsPosed }
 {
     match body {
         Body::Typeside(literal) => pose_typeside(alloc, place, literal),
@@ -83,7 +82,7 @@ fn pose_typeside(
 ) -> Result<Statement, ProgramRefusal>
     requires { typeside_count literal.now < 2 ^ 32 }
     ensures posed { Answers posed_as result (typeside_posed place literal.now) }
-    ensures built { IfOk result CanBeBuilt }
+    ensures well_sorted { IfOk result IsPosed }
 {
     match typeside_in(alloc, place, literal) {
         Ok(typeside) => Ok(Statement::Typeside(typeside)),
@@ -100,7 +99,7 @@ fn pose_schema(
 ) -> Result<Statement, ProgramRefusal>
     requires { schema_count literal.now < 2 ^ 32 }
     ensures posed { Answers posed_as result (schema_posed (environment_of env.now.entries.items) place name.now literal.now) }
-    ensures built { IfOk result CanBeBuilt }
+    ensures well_sorted { IfOk result IsPosed }
 {
     let typeside = env.typeside(&literal.typeside)?;
     let schema = schema_in(alloc, place, typeside, literal)?;
@@ -115,13 +114,10 @@ fn pose_instance(
 ) -> Result<Statement, ProgramRefusal>
     requires { instance_count literal.now < 2 ^ 32 }
     ensures posed { Answers posed_as result (instance_posed (environment_of env.now.entries.items) place literal.now) }
-    ensures built { IfOk result CanBeBuilt }
+    ensures well_sorted { IfOk result IsPosed }
 {
     let (name, schema) = env.schema(&literal.schema)?;
     let presentation = presentation_in(alloc, place, &schema, literal)?;
-    if !is_free(&schema, &presentation) {
-        return Err(ProgramRefusal::Broken(place, Reason::NotBuilt));
-    }
     Ok(Statement::Presentation(name, schema, presentation))
 }
 
@@ -224,32 +220,5 @@ fn place_of(place: Place, places: &[Place], part: u32) -> Place
     match places.get(part as usize) {
         Some(found) => *found,
         None => place,
-    }
-}
-
-/// Whether the model of a presentation can be made: no foreign keys, no equations, and generators of entities alone.
-fn is_free(schema: &Schema, presentation: &Presentation) -> bool
-    ensures { result ≡ is_free schema.now presentation.now }
-{
-    schema.keys.len() == 0
-        && schema.path_eqs.len() == 0
-        && schema.obs_eqs.len() == 0
-        && presentation.equations.len() == 0
-        && are_entities(presentation)
-}
-
-fn are_entities(presentation: &Presentation) -> bool
-    ensures { result ≡ list_all (λ g. is_entity g.1) presentation.now.generators }
-{
-    let generators = presentation.generators.as_slice();
-    generators.iter().all(|generator| is_entity(&generator.1))
-}
-
-fn is_entity(sort: &Sort) -> bool
-    ensures { result ≡ is_entity sort.now }
-{
-    match sort {
-        Sort::Plain(_) => false,
-        Sort::Entity(_) => true,
     }
 }

@@ -1,10 +1,35 @@
-use Rattle.std.proofs.Common.{◌<◌, length, refl, subst, arith}
+use Rattle.std.proofs.Common.{◌≡◌, ◌<◌, length, refl, sym, ap, subst, ◌∙◌, inl, inr}
+use Rattle.cq_theory.specs.Closing.{IsInconsistentAt}
 use Rattle.cq_theory.specs.Schema.{IsSchema}
-use Rattle.cq_program.proofs.Wide.{too_many}
+use Rattle.cq_theory.specs.SchemaData.{SchemaData}
+use Rattle.cq_theory.specs.TypesideData.{TypesideData}
+use Rattle.cq_program.proofs.Constants.{constants_within}
 use Rattle.cq_program.proofs.models.model_of.Goals as goal
 
-pub returns-then-len-gt-MOST_ROWS-clause-withholds : goal.returns-then-len-gt-MOST_ROWS-clause-withholds
-returns-then-len-gt-MOST_ROWS-clause-withholds c =
+pub returns-in-Err-Depth-clause-withholds : goal.returns-in-Err-Depth-clause-withholds
+returns-in-Err-Depth-clause-withholds c = (refl, inr (inl (refl, c.in-Err-Depth.ensures.open (cc))))
+
+pub returns-in-Err-TooManyRows-clause-withholds : goal.returns-in-Err-TooManyRows-clause-withholds
+returns-in-Err-TooManyRows-clause-withholds c =
+    let wide = c.in-Err-TooManyRows.ensures.many (cc) in
+    (refl, inr (inr (refl, wide.0, wide.1, wide.2)))
+
+pub clash-requires-clause-least : goal.clash-requires-clause-least
+clash-requires-clause-least c =
+    let clash : IsInconsistentAt c.args.schema.value c.args.presentation c.in-Err-Inconsistent.least c.in-Err-Inconsistent.greater =
+    c.in-Err-Inconsistent.ensures.inconsistent c.in-Err-Inconsistent.least c.in-Err-Inconsistent.greater (cc) in
     let schema : IsSchema c.args.schema.value = subst IsSchema c.deref.ensures c.is_well_sorted.ensures in
-    let many : 200000 < length c.args.presentation.generators = omega arith in
-    (refl, too_many c.args.name c.args.schema.value c.args.presentation schema c.requires.free c.requires.presentation many)
+    let typeside : c.deref-in-Err-Inconsistent-2.result.now ≡ c.args.schema.value.typeside =
+    c.deref-in-Err-Inconsistent-2.ensures ∙ ap (λ (S : SchemaData). S.typeside) (c.behind-over.view_is ∙ c.deref-in-Err-Inconsistent.ensures ∙ c.in_ok-over.ensures.cases) in
+    subst (λ (T : TypesideData). c.in-Err-Inconsistent.least < length T.constants) (sym typeside)
+    (constants_within c.args.schema.value c.args.presentation schema c.requires.presentation c.in-Err-Inconsistent.least c.in-Err-Inconsistent.greater clash).0
+
+pub clash-requires-clause-greater : goal.clash-requires-clause-greater
+clash-requires-clause-greater c =
+    let clash : IsInconsistentAt c.args.schema.value c.args.presentation c.in-Err-Inconsistent.least c.in-Err-Inconsistent.greater =
+    c.in-Err-Inconsistent.ensures.inconsistent c.in-Err-Inconsistent.least c.in-Err-Inconsistent.greater (cc) in
+    let schema : IsSchema c.args.schema.value = subst IsSchema c.deref.ensures c.is_well_sorted.ensures in
+    let typeside : c.deref-in-Err-Inconsistent-2.result.now ≡ c.args.schema.value.typeside =
+    c.deref-in-Err-Inconsistent-2.ensures ∙ ap (λ (S : SchemaData). S.typeside) (c.behind-over.view_is ∙ c.deref-in-Err-Inconsistent.ensures ∙ c.in_ok-over.ensures.cases) in
+    subst (λ (T : TypesideData). c.in-Err-Inconsistent.greater < length T.constants) (sym typeside)
+    (constants_within c.args.schema.value c.args.presentation schema c.requires.presentation c.in-Err-Inconsistent.least c.in-Err-Inconsistent.greater clash).1

@@ -1,7 +1,6 @@
-use Rattle.std.proofs.Common.{◌≡◌, Bool, true, false, sym, ◌∙◌, subst}
-use Rattle.std.specs.Prelude.{is_some}
-use Rattle.cq_program.specs.Checks.{meant_by, is_built, Checked, Posed}
-use Rattle.cq_program.specs.Environment.{Answers, environment_of, meant}
+use Rattle.std.proofs.Common.{true, false, sym, ◌∙◌, subst}
+use Rattle.cq_program.specs.Checks.{Checked, Posed}
+use Rattle.cq_program.specs.Environment.{Answers, environment_of}
 use Rattle.cq_program.specs.Posing.{posed_as}
 use Rattle.cq_program.proofs.Poses.{is_declared, not_built, name_taken, posed_on}
 use Rattle.cq_program.proofs.posing.pose.Goals as goal

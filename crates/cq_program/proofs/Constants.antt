@@ -1,0 +1,74 @@
+-- Constants that a presentation makes equal.
+use Rattle.std.proofs.Common.{ℕ, ◌≡◌, ◌≤◌, ◌<◌, Option, Some, None, length, sym, ap, ◌∙◌, subst, arith}
+use Rattle.std.specs.Prelude.{option_map, slice_get}
+use Rattle.std.proofs.lemmas.Option.{slice_get_within}
+use Rattle.cq_base.specs.declared.name.Name.{Name}
+use Rattle.cq_theory.specs.declared.presentation.Presentation.{Presentation}
+use Rattle.cq_theory.specs.declared.presentation.Sort.{Sort}
+use Rattle.cq_theory.specs.declared.presentation.Sort.TheVariants.{Plain}
+use Rattle.cq_theory.specs.declared.term.Term.TheVariants.{Typ}
+use Rattle.cq_theory.specs.declared.term.TypeTerm.TheVariants as term
+use Rattle.cq_theory.specs.declared.value.Value.{Value}
+use Rattle.cq_theory.specs.declared.value.Value.TheVariants.{Const}
+use Rattle.cq_theory.specs.SchemaData.{SchemaData}
+use Rattle.cq_theory.specs.Schema.{IsSchema}
+use Rattle.cq_theory.specs.Presentation.{IsPresentation}
+use Rattle.cq_theory.specs.Closing.{AreEqual, IsInconsistent, IsInconsistentAt}
+use Rattle.cq_theory.specs.Listed.{Lists}
+use Rattle.cq_theory.specs.Sorts.{sort_of, type_of, type_step}
+use Rattle.cq_theory.specs.Tables.{Tables, Assignment, meaning_of, value_in, value_step}
+use Rattle.cq_theory.specs.ValueText.{value_text}
+use Rattle.cq_theory.proofs.Sorted.{sort_of-derived}
+use Rattle.cq_theory.proofs.Sound.{meaning_of-derived}
+use Rattle.cq_theory.proofs.TypeTerms.{fold-Const}
+use Rattle.cq_program.specs.declared.reason.Reason.{Reason}
+use Rattle.cq_program.specs.declared.reason.Reason.TheVariants.{Inconsistent}
+use Rattle.cq_program.specs.Program.{TellsClash}
+
+-- what a map of an option gives was given
+mapped : {A B : Type 0} (f : A → B) (o : Option A) (b : B) → option_map f o ≡ Some b → (a : A) × (o ≡ Some a)
+mapped f None b h = absurd (cc h)
+mapped f (Some a) b h = (a, cc)
+
+-- a constant that has a sort is one of the typeside
+constant_within : (S : SchemaData) (P : Presentation) (c : ℕ) (sort : Sort) → sort_of S P.generators (Typ (term.Const c)) ≡ Some sort → c < length S.typeside.constants
+constant_within S P c sort is =
+    let type = mapped Plain (type_of S P.generators (term.Const c)) sort is in
+    let here = mapped (λ (constant : Name × ℕ). constant.1) (slice_get S.typeside.constants c) type.0 (sym (fold-Const (Option ℕ) (type_step S P.generators) c) ∙ type.1) in
+    slice_get_within S.typeside.constants c here.0 here.1
+
+pub constants_within : (S : SchemaData) (P : Presentation) → IsSchema S → IsPresentation S P → (c d : ℕ) → IsInconsistentAt S P c d
+    → (c < length S.typeside.constants) × (d < length S.typeside.constants)
+constants_within S P schema is c d clash =
+    let sorts = sort_of-derived S P schema is (Typ (term.Const c)) (Typ (term.Const d)) clash.equal in
+    (constant_within S P c sorts.0 sorts.1, constant_within S P d sorts.0 sorts.2)
+
+-- equal constants mean one value, and so a presentation that has a listed model makes no two equal
+pub consistent : (S : SchemaData) (P : Presentation) (M : Tables) (A : Assignment) → IsSchema S → Lists S P M A → IsInconsistent S P → ⊥
+consistent S P M A schema lists clash =
+    let means : meaning_of M A (Typ (term.Const clash.0)) ≡ meaning_of M A (Typ (term.Const clash.1)) =
+    meaning_of-derived S P M A schema lists.initial.holds (Typ (term.Const clash.0)) (Typ (term.Const clash.1)) clash.2.equal in
+    let values : Const clash.0 ≡ Const clash.1 =
+    sym (fold-Const Value (value_step M A) clash.0) ∙ ap value_in means ∙ fold-Const Value (value_step M A) clash.1 in
+    let same : clash.0 ≡ clash.1 = cc in
+    absurd (omega (arith, clash.2.greater, same))
+
+-- one pair is the least
+module _ (S : SchemaData) (P : Presentation) (c d c' d' : ℕ) (one : IsInconsistentAt S P c d) (other : IsInconsistentAt S P c' d') where
+  same_least : c ≡ c'
+  same_least =
+      let up : c ≤ c' = one.least c' d' other.greater other.equal in
+      let down : c' ≤ c = other.least c d one.greater one.equal in
+      omega arith
+
+  same_greater : d ≡ d'
+  same_greater =
+      let up : d ≤ d' = one.least_greater d' (subst (λ n. n < d') (sym same_least) other.greater) (subst (λ n. AreEqual S P n d') (sym same_least) other.equal) in
+      let down : d' ≤ d = other.least_greater d (subst (λ n. n < d) same_least one.greater) (subst (λ n. AreEqual S P n d) same_least one.equal) in
+      omega arith
+
+pub one_clash : (S : SchemaData) (P : Presentation) (reason other : Reason) → TellsClash S P reason → TellsClash S P other → reason ≡ other
+one_clash S P reason other tells tells' =
+    let least = same_least S P tells.least tells.greater tells'.least tells'.greater tells.equal tells'.equal in
+    let greater = same_greater S P tells.least tells.greater tells'.least tells'.greater tells.equal tells'.equal in
+    tells.told ∙ (λ i. Inconsistent (value_text S.typeside (Const (least i))) (value_text S.typeside (Const (greater i)))) ∙ sym tells'.told
