@@ -1,6 +1,6 @@
 -- From what each step of a run gives to what the run gives.
 use Rattle.std.proofs.Common.{◌≡◌, inl, inr, ℕ, List, Option, Some, sym, subst, ◌∙◌}
-use Rattle.cq_run.specs.Ask.{Ask}
+use Rattle.cq_run.specs.Ask.{Ask, depth_asked}
 use Rattle.cq_run.specs.Answer.{IsTranscriptOf, IsRefusalOf}
 use Rattle.cq_run.specs.Clause.{IsTextOf, HasToWrite, Writes, Tells, RunGives, IsUnreadLine}
 use Rattle.cq_run.specs.Meaning.{RefusesText}
@@ -30,11 +30,11 @@ transcript_gives asked ask before after out new_out result transcript told text 
 -- the text was refused
 pub refusal_gives : (asked : Option Ask) (ask : Ask) (before after : Shelf) (out new_out : Drain) (result : Status) (line told text : List ℕ)
     → Some ask ≡ asked → Tells status.Refused result out new_out told → told ≡ line
-    → IsTextOf ask before.files text → IsRefusalOf text line
+    → IsTextOf ask before.files text → IsRefusalOf (depth_asked ask) text line
     → RunGives asked before after out new_out result
 refusal_gives asked ask before after out new_out result line told text is tells told_is is_text refusal =
     told_gives asked (Some ask) before after out new_out status.Refused result told (sym is) tells
-    (record { text = text; is_text = is_text; refuses = subst (RefusesText text) (sym told_is) refusal.refuses }) (λ w. w)
+    (record { text = text; is_text = is_text; refuses = subst (RefusesText (depth_asked ask) text) (sym told_is) refusal.refuses }) (λ w. w)
 
 -- the file was not read
 pub unread_gives : (asked : Option Ask) (ask : Ask) (before after : Shelf) (out new_out : Drain) (result : Status) (line told : List ℕ)

@@ -8,7 +8,7 @@ use Rattle.cq_parse.specs.declared.refusal.ParseRefusal.TheVariants as grammatic
 use Rattle.cq_syntax.specs.declared.program.Program.{Program}
 use Rattle.cq_program.specs.Program as program
 use Rattle.cq_program.specs.Program.{Listing}
-use Rattle.cq_run.specs.Ask.{Ask}
+use Rattle.cq_run.specs.Ask.{Ask, depth_asked}
 use Rattle.cq_run.specs.Clause.{IsTextOf, IsUnreadLine}
 use Rattle.cq_run.specs.Lines.{read_line}
 use Rattle.cq_run.specs.Meaning.{Means, IsAcceptable, IsSound, IsTreeIn, BreaksRule, RefusesTokens, RefusesText, lex_line, parse_line, transcripts_of}
@@ -24,22 +24,22 @@ pub record PrintsProgram (tree : Program) (transcript : List ℕ) : Type 0 where
   pub transcript_is : transcript ≡ transcripts_of listings
 
 -- how a program is judged
-abbrev pub JudgesProgram : Program → Answer → Type 0
-JudgesProgram tree (answer.Accepted transcript) = PrintsProgram tree transcript.items
-JudgesProgram tree (answer.Refused line) = BreaksRule tree line.items
-JudgesProgram tree (answer.Unread line) = ⊥
-JudgesProgram tree answer.Memory = Unit {0}
+abbrev pub JudgesProgram : ℕ → Program → Answer → Type 0
+JudgesProgram depth tree (answer.Accepted transcript) = PrintsProgram tree transcript.items
+JudgesProgram depth tree (answer.Refused line) = BreaksRule depth tree line.items
+JudgesProgram depth tree (answer.Unread line) = ⊥
+JudgesProgram depth tree answer.Memory = Unit {0}
 
 -- the tokens of an acceptable text
-abbrev pub AreSound : List Token → Type 0
-AreSound tokens = (tree : Program) × IsTreeIn tokens tree × IsSound tree
+abbrev pub AreSound : ℕ → List Token → Type 0
+AreSound depth tokens = (tree : Program) × IsTreeIn tokens tree × IsSound depth tree
 
 -- how tokens are judged
-abbrev pub JudgesTokens : List Token → Answer → Type 0
-JudgesTokens tokens (answer.Accepted transcript) = (tree : Program) × IsTreeIn tokens tree × PrintsProgram tree transcript.items
-JudgesTokens tokens (answer.Refused line) = RefusesTokens tokens line.items × (AreSound tokens → ⊥)
-JudgesTokens tokens (answer.Unread line) = ⊥
-JudgesTokens tokens answer.Memory = Unit {0}
+abbrev pub JudgesTokens : ℕ → List Token → Answer → Type 0
+JudgesTokens depth tokens (answer.Accepted transcript) = (tree : Program) × IsTreeIn tokens tree × PrintsProgram tree transcript.items
+JudgesTokens depth tokens (answer.Refused line) = RefusesTokens depth tokens line.items × (AreSound depth tokens → ⊥)
+JudgesTokens depth tokens (answer.Unread line) = ⊥
+JudgesTokens depth tokens answer.Memory = Unit {0}
 
 -- the transcript is that of what the text means
 pub record IsTranscriptOf (text transcript : List ℕ) : Type 0 where
@@ -48,21 +48,21 @@ pub record IsTranscriptOf (text transcript : List ℕ) : Type 0 where
   pub transcript_is : transcript ≡ transcripts_of listings
 
 -- the text is refused, with this line
-pub record IsRefusalOf (text line : List ℕ) : Type 0 where
-  pub refuses : RefusesText text line
-  pub other : IsAcceptable text → ⊥
+pub record IsRefusalOf (depth : ℕ) (text line : List ℕ) : Type 0 where
+  pub refuses : RefusesText depth text line
+  pub other : IsAcceptable depth text → ⊥
 
 -- how a text is judged
-abbrev pub Judges : List ℕ → Answer → Type 0
-Judges text (answer.Accepted transcript) = IsTranscriptOf text transcript.items
-Judges text (answer.Refused line) = IsRefusalOf text line.items
-Judges text (answer.Unread line) = ⊥
-Judges text answer.Memory = Unit {0}
+abbrev pub Judges : ℕ → List ℕ → Answer → Type 0
+Judges depth text (answer.Accepted transcript) = IsTranscriptOf text transcript.items
+Judges depth text (answer.Refused line) = IsRefusalOf depth text line.items
+Judges depth text (answer.Unread line) = ⊥
+Judges depth text answer.Memory = Unit {0}
 
 pub record JudgesSome (ask : Ask) (before : Shelf) (answer : Answer) : Type 0 where
   pub text : List ℕ
   pub is_text : IsTextOf ask before.files text
-  pub judges : Judges text answer
+  pub judges : Judges (depth_asked ask) text answer
 
 -- what the answer to a request is
 abbrev pub Answers : Ask → Shelf → Shelf → Answer → Type 0

@@ -5,7 +5,7 @@ use Rattle.cq_io.specs.Content.{File, find_file}
 use Rattle.cq_io.specs.Counts.{Rose}
 use Rattle.cq_io.specs.Reads.{IsLonger}
 use Rattle.cq_io.specs.Writes.{Appends, AppendsSome, LacksRoom}
-use Rattle.cq_run.specs.Ask.{Ask, run}
+use Rattle.cq_run.specs.Ask.{Ask, depth_asked, run}
 use Rattle.cq_program.specs.Program.{Listing}
 use Rattle.cq_run.specs.Lines.{usage_line, read_line}
 use Rattle.cq_run.specs.Meaning.{Means, IsAcceptable, RefusesText, transcripts_of}
@@ -21,7 +21,7 @@ file_limit = 8388608
 
 -- the text of a run is that of its file, where the folder tells its files
 abbrev pub IsTextOf : Ask → Option (List File) → List ℕ → Type 0
-IsTextOf (run file) files text = IfSome files (λ told. find_file file told ≡ Some text)
+IsTextOf (run file depth) files text = IfSome files (λ told. find_file file told ≡ Some text)
 
 -- why a file was not read
 abbrev pub IsCauseOf : ReadCause → List ℕ → Shelf → Shelf → Type 0
@@ -41,7 +41,7 @@ pub record IsAccepted (ask : Ask) (files : Option (List File)) (line : List ℕ)
 pub record IsRefused (ask : Ask) (files : Option (List File)) (line : List ℕ) : Type 0 where
   pub text : List ℕ
   pub is_text : IsTextOf ask files text
-  pub refuses : RefusesText text line
+  pub refuses : RefusesText (depth_asked ask) text line
 
 -- the file was not read, for this cause, and the line says so
 pub record IsUnread (file : List ℕ) (before after : Shelf) (line : List ℕ) : Type 0 where
@@ -50,7 +50,7 @@ pub record IsUnread (file : List ℕ) (before after : Shelf) (line : List ℕ) :
   pub line_is : line ≡ read_line file cause
 
 abbrev pub IsUnreadLine : Ask → Shelf → Shelf → List ℕ → Type 0
-IsUnreadLine (run file) before after line = IsUnread file before after line
+IsUnreadLine (run file depth) before after line = IsUnread file before after line
 
 -- what a run has to write, and why, by the status that it has where the write succeeds
 abbrev pub HasToWrite : Option Ask → Shelf → Shelf → Status → List ℕ → Type 0
@@ -98,16 +98,16 @@ pub record IsToldWithin (file : List ℕ) (files : Option (List File)) (text : L
   pub short : length text ≤ file_limit
 
 abbrev pub HasText : Ask → Option (List File) → List ℕ → Type 0
-HasText (run file) files text = IsToldWithin file files text
+HasText (run file depth) files text = IsToldWithin file files text
 
--- the words are read, the text is there, has a meaning and breaks no rule, no device fails, and the sink has room for
+-- the words are read, the text is there, has a meaning, breaks no rule and passes no limit at their depth, no device fails, and the sink has room for
 -- the transcripts
 pub record CanSucceed (ask : Option Ask) (before : Shelf) (out : Drain) : Type 0 where
   pub wanted : Ask
   pub asked : ask ≡ Some wanted
   pub text : List ℕ
   pub there : HasText wanted before.files text
-  pub acceptable : IsAcceptable text
+  pub acceptable : IsAcceptable (depth_asked wanted) text
   pub folder : before.steady ≡ true
   pub room : ℕ
   pub spare : out.spare ≡ Some room

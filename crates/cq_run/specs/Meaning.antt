@@ -17,10 +17,6 @@ use Rattle.cq_program.specs.Program as program
 use Rattle.cq_program.specs.Program.{Breaks, Listing}
 use Rattle.cq_text.specs.Transcript as text
 
--- the depth to which models are made
-abbrev pub depth : ℕ
-depth = 16
-
 -- the tokens spell this program, which keeps the limits
 abbrev pub IsTreeIn : List Token → Program → Type 0
 IsTreeIn tokens tree = IsProgram tokens tree × FitsLimits tree
@@ -58,29 +54,29 @@ parse_line (grammatical.Unsupported place number) = line_of place 23 (codes "Uns
 parse_line (grammatical.BadOption place) = line_of place 24 (codes "BadOption") []
 parse_line grammatical.Memory = []
 
--- the program breaks a rule, and the line tells the first, at its place
-pub record BreaksRule (tree : Program) (line : List ℕ) : Type 0 where
+-- the program breaks a rule, or passes a limit at the depth to which models are made, and the line tells the first, at its place
+pub record BreaksRule (depth : ℕ) (tree : Program) (line : List ℕ) : Type 0 where
   pub place : Place
   pub reason : Reason
   pub breaks : Breaks depth tree place reason
   pub line_is : line ≡ reason_line place reason
 
 -- the tokens are no program within the limits, and the line tells the first that decides; or it breaks a rule
-pub data RefusesTokens (tokens : List Token) (line : List ℕ) : Type 0 where
-  no_tree : (refusal : ParseRefusal) → RefusedWith tokens refusal → line ≡ parse_line refusal → RefusesTokens tokens line
-  broken : (tree : Program) → IsTreeIn tokens tree → BreaksRule tree line → RefusesTokens tokens line
+pub data RefusesTokens (depth : ℕ) (tokens : List Token) (line : List ℕ) : Type 0 where
+  no_tree : (refusal : ParseRefusal) → RefusedWith tokens refusal → line ≡ parse_line refusal → RefusesTokens depth tokens line
+  broken : (tree : Program) → IsTreeIn tokens tree → BreaksRule depth tree line → RefusesTokens depth tokens line
 
 -- the text has no tokens, and the line tells the first fault; or the tokens are refused
-pub data RefusesText (bytes line : List ℕ) : Type 0 where
-  no_tokens : (refusal : LexRefusal) → lex.Refuses [] bytes refusal → line ≡ lex_line refusal → RefusesText bytes line
-  no_program : (tokens : List Token) → lex.Tokens bytes tokens → RefusesTokens tokens line → RefusesText bytes line
+pub data RefusesText (depth : ℕ) (bytes line : List ℕ) : Type 0 where
+  no_tokens : (refusal : LexRefusal) → lex.Refuses [] bytes refusal → line ≡ lex_line refusal → RefusesText depth bytes line
+  no_program : (tokens : List Token) → lex.Tokens bytes tokens → RefusesTokens depth tokens line → RefusesText depth bytes line
 
--- the program has a meaning, and breaks no rule
-pub record IsSound (tree : Program) : Type 0 where
+-- the program has a meaning, breaks no rule, and passes no limit at the depth
+pub record IsSound (depth : ℕ) (tree : Program) : Type 0 where
   pub listings : List Listing
   pub means : program.Means tree listings
   pub unbroken : (place : Place) (reason : Reason) → Breaks depth tree place reason → ⊥
 
 -- the same of a text
-unfoldable pub IsAcceptable : List ℕ → Type 0
-IsAcceptable bytes = (tree : Program) × IsTreeOf bytes tree × IsSound tree
+unfoldable pub IsAcceptable : ℕ → List ℕ → Type 0
+IsAcceptable depth bytes = (tree : Program) × IsTreeOf bytes tree × IsSound depth tree

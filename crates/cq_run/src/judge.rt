@@ -16,42 +16,42 @@ use cq_syntax::Program;
 use cq_text::transcript;
 use std::alloc::{AllocError, Global};
 
-/// The depth to which models are made.
-const DEPTH: u32 = 16;
-
-/// The transcripts of what the text means, or the line of its first fault.
-pub fn judge<F: Folder>(alloc: Global, text: &[u8], folder: &mut F) -> Answer
-    requires { length text.now ≤ 2 ^ 23 }
-    ensures judges { Judges text.now result }
+/// The transcripts of what the text means, with models made to a depth, or the line of its first fault.
+pub fn judge<F: Folder>(alloc: Global, text: &[u8], depth: u32, folder: &mut F) -> Answer
+    requires length { length text.now ≤ 2 ^ 23 }
+    requires depth { depth ≤ 64 }
+    ensures judges { Judges depth text.now result }
     ensures unread { folder.new ≡ folder.old }
 {
     match lex(alloc, text) {
-        Ok(tokens) => judge_tokens(alloc, tokens.as_slice(), folder),
+        Ok(tokens) => judge_tokens(alloc, tokens.as_slice(), depth, folder),
         Err(refusal) => lex_refusal(alloc, refusal),
     }
 }
 
 /// The same for the tokens of a text.
-fn judge_tokens<F: Folder>(alloc: Global, tokens: &[Token], folder: &mut F) -> Answer
-    requires { EndsOnce tokens.now }
-    ensures judges { JudgesTokens tokens.now result }
+fn judge_tokens<F: Folder>(alloc: Global, tokens: &[Token], depth: u32, folder: &mut F) -> Answer
+    requires end { EndsOnce tokens.now }
+    requires depth { depth ≤ 64 }
+    ensures judges { JudgesTokens depth tokens.now result }
     ensures unread { folder.new ≡ folder.old }
 {
     match parse(alloc, tokens) {
-        Ok(tree) => judge_program(alloc, &tree, folder),
+        Ok(tree) => judge_program(alloc, &tree, depth, folder),
         Err(refusal) => parse_refusal(alloc, refusal),
     }
 }
 
 /// The same for a program.
-fn judge_program<F: Folder>(alloc: Global, program: &Program, folder: &mut F) -> Answer
-    ensures judges { JudgesProgram program.now result }
+fn judge_program<F: Folder>(alloc: Global, program: &Program, depth: u32, folder: &mut F) -> Answer
+    requires { depth ≤ 64 }
+    ensures judges { JudgesProgram depth program.now result }
     ensures unread { folder.new ≡ folder.old }
 {
     if !has_few_parts(program) {
         return Answer::Memory;
     }
-    match meaning(alloc, program, folder, DEPTH) {
+    match meaning(alloc, program, folder, depth) {
         Ok(named) => match transcripts(alloc, named.as_slice()) {
             Ok(text) => Answer::Accepted(text),
             Err(_) => Answer::Memory,

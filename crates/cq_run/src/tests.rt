@@ -31,12 +31,52 @@ struct Case {
 
 const RUN: &[&str] = &["run", "p.cql"];
 
+const AT_ZERO: &[&str] = &["run", "p.cql", "--depth", "0"];
+
+const AT_ONE: &[&str] = &["run", "p.cql", "--depth", "1"];
+
+const AT_FOUR: &[&str] = &["run", "p.cql", "--depth", "4"];
+
+const AT_FIVE: &[&str] = &["run", "p.cql", "--depth", "05"];
+
+const AT_TEN: &[&str] = &["run", "p.cql", "--depth", "10"];
+
+const AT_MOST: &[&str] = &["run", "p.cql", "--depth", "64"];
+
 const FIRST: &str = "typeside T = literal { types s constants Al Bob : s }
 schema S = literal : T { entities E attributes x : E -> s }
 instance I = literal : S { generators a b : E }
 ";
 
-static CASES: [Case; 23] = [
+const USUAL: &str =
+    "typeside Ty = literal { types string nat constants Al Bob Bo Carl Math CS : string zero : nat functions plus : nat, nat -> nat }
+schema S = literal : Ty { entities Employee Department foreign_keys manager : Employee -> Employee worksIn : Employee -> Department secretary : Department -> Employee path_equations manager.worksIn = worksIn secretary.worksIn = Department attributes first last : Employee -> string age cummulative_age : Employee -> nat name : Department -> string observation_equations forall e. cummulative_age(e) = plus(age(e), age(manager(e))) }
+instance I = literal : S { generators a b c : Employee m s : Department equations first(a) = Al first(b) = Bob last(b) = Bo first(c) = Carl name(m) = Math name(s) = CS age(a) = age(c) age(c) = zero manager(a) = b manager(b) = b manager(c) = c worksIn(a) = m worksIn(b) = m worksIn(c) = s secretary(s) = c secretary(m) = b options prover = completion }
+";
+
+const USUAL_LISTED: &str = "instance I : S
+entity Employee 3
+1 a first=Al last=?0 age=zero cummulative_age=?1 manager=2 worksIn=1
+2 b first=Bob last=Bo age=?2 cummulative_age=?3 manager=2 worksIn=1
+3 c first=Carl last=?4 age=zero cummulative_age=?5 manager=3 worksIn=2
+entity Department 2
+1 m name=Math secretary=2
+2 s name=CS secretary=3
+nulls 6
+?0 string
+?1 nat
+?2 nat
+?3 nat
+?4 string
+?5 nat
+entries 3
+plus(zero, ?2) = ?1
+plus(?2, ?2) = ?3
+plus(zero, zero) = ?5
+end
+";
+
+static CASES: [Case; 46] = [
     Case {
         words: &["run"],
         text: FIRST,
@@ -54,6 +94,36 @@ static CASES: [Case; 23] = [
         text: FIRST,
         status: Status::Usage,
         written: USAGE,
+    },
+    Case {
+        words: &["run", "p.cql", "--depth"],
+        text: FIRST,
+        status: Status::Usage,
+        written: USAGE,
+    },
+    Case {
+        words: &["run", "p.cql", "--depth", "x"],
+        text: FIRST,
+        status: Status::Usage,
+        written: USAGE,
+    },
+    Case {
+        words: &["run", "p.cql", "--depth", "005"],
+        text: FIRST,
+        status: Status::Usage,
+        written: USAGE,
+    },
+    Case {
+        words: &["run", "--depth", "5", "p.cql"],
+        text: FIRST,
+        status: Status::Usage,
+        written: USAGE,
+    },
+    Case {
+        words: AT_FIVE,
+        text: FIRST,
+        status: Status::Ok,
+        written: "instance I : S\nentity E 2\n1 a x=?0\n2 b x=?1\nnulls 2\n?0 s\n?1 s\nentries 0\nend\n",
     },
     Case {
         words: &["example", "0"],
@@ -97,8 +167,8 @@ lines */ z : D -> n}instance I = literal : S { generators c : D a : E b : D }",
     Case {
         words: RUN,
         text: "typeside T = literal { types s } schema S = literal : T { entities E } instance I = literal : S { generators a : s }",
-        status: Status::Refused,
-        written: "refused 1:72 90 NotBuilt\n",
+        status: Status::Ok,
+        written: "instance I : S\nentity E 0\nnulls 1\n?0 s\nentries 0\nend\n",
     },
     Case {
         words: RUN,
@@ -174,6 +244,146 @@ lines */ z : D -> n}instance I = literal : S { generators c : D a : E b : D }",
     },
     Case {
         words: RUN,
+        text: USUAL,
+        status: Status::Ok,
+        written: USUAL_LISTED,
+    },
+    Case {
+        words: AT_ONE,
+        text: USUAL,
+        status: Status::Ok,
+        written: USUAL_LISTED,
+    },
+    Case {
+        words: RUN,
+        text: "typeside T = literal { types s n constants Al Bob Carl : s functions h : s -> s succ : n -> n }
+schema S = literal : T { entities Emp Dep foreign_keys worksIn : Emp -> Dep secretary : Dep -> Emp path_equations secretary.worksIn = Dep }
+instance I = literal : S { generators c : Emp m d : Dep equations secretary(m) = c secretary(d) = c }",
+        status: Status::Ok,
+        written: "instance I : S\nentity Emp 1\n1 c worksIn=1\nentity Dep 1\n1 m secretary=1\nnulls 0\nentries 0\nend\n",
+    },
+    Case {
+        words: RUN,
+        text: "typeside T = literal { types s n constants Al Bob Carl : s functions h : s -> s succ : n -> n }
+schema S = literal : T { entities E foreign_keys k : E -> E }
+instance I = literal : S { generators a : E }",
+        status: Status::Refused,
+        written: "refused 3:1 61 Depth\n",
+    },
+    Case {
+        words: AT_MOST,
+        text: "typeside T = literal { types s n constants Al Bob Carl : s functions h : s -> s succ : n -> n }
+schema S = literal : T { entities E foreign_keys k : E -> E }
+instance I = literal : S { generators a : E }",
+        status: Status::Refused,
+        written: "refused 3:1 61 Depth\n",
+    },
+    Case {
+        words: RUN,
+        text: "typeside T = literal { types s n constants Al Bob Carl : s functions h : s -> s succ : n -> n }
+schema S = literal : T { entities E foreign_keys k : E -> E path_equations k.k = k }
+instance I = literal : S { generators a : E }",
+        status: Status::Ok,
+        written: "instance I : S\nentity E 2\n1 a k=2\n2 a.k k=2\nnulls 0\nentries 0\nend\n",
+    },
+    Case {
+        words: AT_FIVE,
+        text: "typeside T = literal { types s n constants Al Bob Carl : s functions h : s -> s succ : n -> n }
+schema S = literal : T { entities E foreign_keys k : E -> E path_equations k.k.k.k.k = E }
+instance I = literal : S { generators a : E }",
+        status: Status::Ok,
+        written: "instance I : S\nentity E 5\n1 a k=2\n2 a.k k=3\n3 a.k.k k=4\n4 a.k.k.k k=5\n5 a.k.k.k.k k=1\nnulls 0\nentries 0\nend\n",
+    },
+    Case {
+        words: AT_FOUR,
+        text: "typeside T = literal { types s n constants Al Bob Carl : s functions h : s -> s succ : n -> n }
+schema S = literal : T { entities E foreign_keys k : E -> E path_equations k.k.k.k.k = E }
+instance I = literal : S { generators a : E }",
+        status: Status::Refused,
+        written: "refused 3:1 61 Depth\n",
+    },
+    Case {
+        words: AT_ZERO,
+        text: "typeside T = literal { types s n constants Al Bob Carl : s functions h : s -> s succ : n -> n }
+schema S = literal : T { entities E }
+instance I = literal : S { generators a : E }",
+        status: Status::Ok,
+        written: "instance I : S\nentity E 1\n1 a\nnulls 0\nentries 0\nend\n",
+    },
+    Case {
+        words: AT_ZERO,
+        text: "typeside T = literal { types s n constants Al Bob Carl : s functions h : s -> s succ : n -> n }
+schema S = literal : T { entities E foreign_keys k : E -> E }
+instance I = literal : S { generators a : E }",
+        status: Status::Refused,
+        written: "refused 3:1 61 Depth\n",
+    },
+    Case {
+        words: AT_ZERO,
+        text: "typeside T = literal { types s n constants Al Bob Carl : s functions h : s -> s succ : n -> n }
+schema S = literal : T { entities E foreign_keys k : E -> E }
+instance I = literal : S { }",
+        status: Status::Ok,
+        written: "instance I : S\nentity E 0\nnulls 0\nentries 0\nend\n",
+    },
+    Case {
+        words: RUN,
+        text: "typeside T = literal { types s n constants Al Bob Carl : s functions h : s -> s succ : n -> n }
+schema S = literal : T { entities E observation_equations forall e:E. Al = Bob }
+instance I = literal : S { }",
+        status: Status::Ok,
+        written: "instance I : S\nentity E 0\nnulls 0\nentries 0\nend\n",
+    },
+    Case {
+        words: RUN,
+        text: "typeside T = literal { types s n constants Al Bob Carl : s functions h : s -> s succ : n -> n }
+schema S = literal : T { entities E observation_equations forall e:E. Al = Bob }
+instance I = literal : S { generators a : E }",
+        status: Status::Refused,
+        written: "refused 3:1 63 Inconsistent Al Bob\n",
+    },
+    Case {
+        words: RUN,
+        text: "typeside T = literal { types s n constants Al Bob Carl : s functions h : s -> s succ : n -> n }
+schema S = literal : T { }
+instance I = literal : S { generators x : s equations h(Al) = Bob h(x) = Carl x = Al }",
+        status: Status::Refused,
+        written: "refused 3:1 63 Inconsistent Bob Carl\n",
+    },
+    Case {
+        words: RUN,
+        text: "typeside T = literal { types s n constants Al Bob Carl : s functions h : s -> s succ : n -> n }
+schema S = literal : T { }
+instance I = literal : S { equations h(Al) = h(Bob) }",
+        status: Status::Ok,
+        written: "instance I : S\nnulls 1\n?0 s\nentries 2\nh(Al) = ?0\nh(Bob) = ?0\nend\n",
+    },
+    Case {
+        words: RUN,
+        text: "typeside T = literal { types s n constants Al Bob Carl : s functions h : s -> s succ : n -> n }
+schema S = literal : T { }
+instance I = literal : S { generators u : n equations u = succ(u) }",
+        status: Status::Ok,
+        written: "instance I : S\nnulls 1\n?0 n\nentries 1\nsucc(?0) = ?0\nend\n",
+    },
+    Case {
+        words: RUN,
+        text: "typeside T = literal { types s n constants Al Bob Carl : s functions h : s -> s succ : n -> n }
+schema S = literal : T { entities E foreign_keys p q r : E -> E }
+instance I = literal : S { generators a : E }",
+        status: Status::Refused,
+        written: "refused 3:1 62 TooManyRows\n",
+    },
+    Case {
+        words: AT_TEN,
+        text: "typeside T = literal { types s n constants Al Bob Carl : s functions h : s -> s succ : n -> n }
+schema S = literal : T { entities E foreign_keys p q r : E -> E }
+instance I = literal : S { generators a : E }",
+        status: Status::Refused,
+        written: "refused 3:1 61 Depth\n",
+    },
+    Case {
+        words: RUN,
         text: "",
         status: Status::Ok,
         written: "",
@@ -244,17 +454,40 @@ instance I = literal : S {{ equations {term} = zero }}"
     )
 }
 
+/// The instance of the one at the limit: a null for each sum, and what `succ` gives at the last of them.
+const TALL_LISTED: &str = "instance I : S
+nulls 9
+?0 n
+?1 n
+?2 n
+?3 n
+?4 n
+?5 n
+?6 n
+?7 n
+?8 n
+entries 10
+plus(zero, zero) = ?0
+plus(?0, ?0) = ?1
+plus(?1, ?1) = ?2
+plus(?2, ?2) = ?3
+plus(?3, ?3) = ?4
+plus(?4, ?4) = ?5
+plus(?5, ?5) = ?6
+plus(?6, ?6) = ?7
+plus(?7, ?7) = ?8
+succ(?8) = zero
+end
+";
+
 #[test]
 fn a_term_at_the_limit_and_past_it(rt: HostRuntime) -> Result<(), Fail> {
     let alloc = rt.alloc();
     let words = words(alloc, RUN)?;
-    for (functions, written) in [
-        (1, "refused 3:1 90 NotBuilt\n"),
-        (2, "refused 3:38 46 TooLarge\n"),
-    ] {
+    for (functions, written) in [(1, TALL_LISTED), (2, "refused 3:38 46 TooLarge\n")] {
         let text = tall(alloc, functions)?;
         let mut folder = folder(alloc, text.as_str(), &[])?;
-        let mut out = MemSink::new(alloc, Vec::new(alloc), 100)?;
+        let mut out = MemSink::new(alloc, Vec::new(alloc), 1000)?;
         run(alloc, words.as_slice(), &mut folder, &mut out);
         assert!(rt; out.bytes() == written.as_bytes());
     }

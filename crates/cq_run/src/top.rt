@@ -5,7 +5,7 @@ ghost use Rattle.cq_run.specs.Clause.{RunGives, Succeeds, Tells};
 
 use crate::answer::{Answer, answer_to};
 use crate::status::Status;
-use crate::words::file_in;
+use crate::words::asked_in;
 use cq_io::{Folder, Sink};
 use std::alloc::Global;
 
@@ -13,8 +13,8 @@ const USAGE: &str = "usage: cqlrun run FILE [--depth K] [--only csv|cql]\n";
 
 /// Runs the words: reads the file that they name from `folder`, and writes the transcripts of its instances, or the
 /// line that says why there are none, to `out`, in one write. What each status says stands with the clause `gives`; a run
-/// over devices that don't fail, of a text that has a meaning and breaks no rule, ends with `Ok` or for want of
-/// memory (the clause `complete`).
+/// over devices that don't fail, of a text that has a meaning, breaks no rule and passes no limit at the depth of the
+/// words, ends with `Ok` or for want of memory (the clause `complete`).
 pub fn run<F: Folder, K: Sink>(
     alloc: Global,
     words: &[String],
@@ -33,10 +33,10 @@ pub fn run<F: Folder, K: Sink>(
         (record { held = K.held out.old; faults = K.faults out.old; spare = K.spare out.old })
         result }
 {
-    let Some(file) = file_in(words) else {
+    let Some((file, depth)) = asked_in(words) else {
         return tell(out, USAGE.as_bytes(), Status::Usage);
     };
-    match answer_to(alloc, file, folder) {
+    match answer_to(alloc, file, depth, folder) {
         Answer::Memory => Status::Memory,
         Answer::Accepted(transcript) => tell(out, transcript.as_slice(), Status::Ok),
         Answer::Refused(line) => tell(out, line.as_slice(), Status::Refused),
