@@ -1,5 +1,5 @@
 -- An equation of the presentation, as a loop reads it.
-use Rattle.std.proofs.Common.{refl, ◌≡◌, ◌<◌, ◌+◌, ℕ, List, length, get_or, Option, Some, ap, ⊎_elim, map, sym, ◌∙◌}
+use Rattle.std.proofs.Common.{refl, ◌≡◌, ◌<◌, ℕ, List, length, get_or, Option, Some, ap, map, sym, ◌∙◌}
 use Rattle.std.proofs.lemmas.Option.{same_Some, none-some}
 use Rattle.std.specs.Prelude.{slice_get, slice_index}
 use Rattle.cq_tables.specs.Content.{Content, keys_of}
@@ -7,8 +7,8 @@ use Rattle.cq_theory.specs.declared.presentation.Equation.{Equation}
 use Rattle.cq_theory.specs.declared.presentation.Equation.TheVariants.{Ent as EntEquation, Typ as TypEquation}
 use Rattle.cq_rows.specs.Theory.{Term, Theory, IsTheory}
 use Rattle.cq_rows.specs.Plain.{entity_sides}
-use Rattle.cq_rows.specs.Rows.{HaveRows, Agree}
-use Rattle.cq_rows.proofs.Cells.{read_mapped, below_or_at}
+use Rattle.cq_rows.specs.Rows.{HaveRows, Agree, GivenHolds}
+use Rattle.cq_rows.proofs.Cells.{read_mapped}
 use Rattle.cq_rows.proofs.Sorts.{IsSide, side_of}
 
 pub record IsRead (s : Theory) (m : Content) (rows : List ℕ) (i : ℕ) (t u : Term) : Type 0 where
@@ -48,18 +48,16 @@ sides_ent (EntEquation a b) t u h =
     rw (ap (λ (y : Term × Term). y.0) p, ap (λ (y : Term × Term). y.1) p) refl
 sides_ent (TypEquation a b) t u h = absurd (none-some (t, u) h)
 
--- one more equation holds
-pub one_more : (s : Theory) (m : Content) (rows : List ℕ) (i : ℕ) (t u : Term) → slice_get s.given i ≡ Some (Some (t, u))
-    → Agree m (slice_index rows t.generator) t.path (slice_index rows u.generator) u.path → HoldUnder s m rows i → HoldUnder s m rows (i + 1)
-one_more s m rows i t u found here before j a b h f x y tx ty =
-    ⊎_elim (λ l. before j a b l f x y tx ty)
-    (λ e. let q = same_sides t u a b (sym found ∙ (rw e at f)) in here x y (rw q.0 at tx) (rw q.1 at ty))
-    (below_or_at j i h)
+-- an equation that was read holds
+pub given_holds : (s : Theory) (m : Content) (rows : List ℕ) (i : ℕ) (t u : Term) → slice_get s.given i ≡ Some (Some (t, u))
+    → Agree m (slice_index rows t.generator) t.path (slice_index rows u.generator) u.path → GivenHolds s m rows i
+given_holds s m rows i t u found here a b f x y tx ty =
+    let q = same_sides t u a b (sym found ∙ f) in
+    here x y (rw q.0 at tx) (rw q.1 at ty)
 
 -- an equation between type terms says nothing of rows
-pub one_other : (s : Theory) (m : Content) (rows : List ℕ) (i : ℕ) → ((t u : Term) → slice_get s.given i ≡ Some (Some (t, u)) → ⊥) → HoldUnder s m rows i → HoldUnder s m rows (i + 1)
-one_other s m rows i none before j a b h f x y tx ty =
-    ⊎_elim (λ l. before j a b l f x y tx ty) (λ e. absurd (none a b (rw e at f))) (below_or_at j i h)
+pub given_holds_other : (s : Theory) (m : Content) (rows : List ℕ) (i : ℕ) → ((t u : Term) → slice_get s.given i ≡ Some (Some (t, u)) → ⊥) → GivenHolds s m rows i
+given_holds_other s m rows i none t u f x y tx ty = absurd (none t u f)
 
 -- what an equation that a loop reads is not
 pub no_sides : (s : Theory) (xs : List Equation) (i : ℕ) (x : Equation) → s.given ≡ map entity_sides xs → i < length xs → x ≡ get_or xs i x → ((t u : Term) → x ≡ EntEquation t u → ⊥)

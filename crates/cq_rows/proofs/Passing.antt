@@ -1,13 +1,14 @@
 -- Passes over the equations, which go on after a merge.
 use Rattle.std.proofs.Common.{◌≡◌, ℕ, ◌+◌, ◌<◌, ◌≤◌, Bool, true, false, List, length, get_or, Some, refl, sym, ◌∙◌, ap, arith, ⊎_elim, ◌⊎◌, inl, inr}
 use Rattle.std.proofs.lemmas.Bool.{cases_Bool, false≢true}
-use Rattle.std.specs.Prelude.{slice_get, slice_index, IsSome}
+use Rattle.std.specs.Prelude.{slice_get, IsSome}
 use Rattle.cq_tables.specs.Content.{Content, live_of, entity_of, end_of, IsWhole, keys_of}
 use Rattle.cq_rows.specs.Theory.{Term, Rule, Theory, IsTheory, Derives}
 use Rattle.cq_rows.specs.declared.entries.Entries.{Entries}
 use Rattle.cq_rows.specs.Entries.{rows_of, IsCurrent}
-use Rattle.cq_rows.specs.Rows.{IsSound, IsImage, IsSame, Passes, RuleJoins, GivenJoins, Agree, HoldIfLive, live_count}
+use Rattle.cq_rows.specs.Rows.{IsSound, IsImage, IsSame, Passes, Continues, RuleHolds, GivenHolds, RuleJoins, GivenJoins, Agree, HoldIfLive, live_count}
 use Rattle.cq_rows.proofs.Cells.{found_here, below_or_at}
+use Rattle.cq_rows.proofs.Equations.{HoldUnder}
 use Rattle.cq_rows.proofs.Settling.{IsSettling-start, IsSettling-merged, settling_then}
 
 pub Passes-start : (s : Theory) (m : Content) (e : Entries) (hold : Type 0) → IsWhole m → IsCurrent m e → hold → Passes s m m e e false hold
@@ -54,6 +55,35 @@ Passes-outer s old m m' e_old e e' merged inner hold next part is p q f =
     let o = q.still is in
     rw (o.0, o.1) (Passes-keep s old m e_old e merged hold next p (λ x _ h. f x h o.2))
 
+-- what a pass leaves, whether it merged or not
+pub Passes-continues : (s : Theory) (old m : Content) (e_old e : Entries) (merged : Bool) (hold : Type 0) → Passes s old m e_old e merged hold → Continues s old m e_old e
+Passes-continues s old m e_old e merged hold p = record { settling = p.settling; no_more = not_more s old m e_old e merged hold p }
+
+pub Continues-start : (s : Theory) (m : Content) (e : Entries) → IsWhole m → IsCurrent m e → Continues s m m e e
+Continues-start s m e w c = record { settling = IsSettling-start s m e w c; no_more = omega arith }
+
+pub Continues-then : (s : Theory) (a b c : Content) (e_a e_b e_c : Entries) → Continues s a b e_a e_b → Continues s b c e_b e_c → Continues s a c e_a e_c
+Continues-then s a b c e_a e_b e_c x y = record {
+  settling = settling_then s a b c e_a e_b e_c x.settling y.settling;
+  no_more = omega (arith, x.no_more, y.no_more);
+}
+
+-- further merging after a pass that merged
+pub Passes-further : (s : Theory) (old m m' : Content) (e_old e e' : Entries) (hold next : Type 0) → Passes s old m e_old e true hold → Continues s m m' e e' → Passes s old m' e_old e' true next
+Passes-further s old m m' e_old e e' hold next p c = record {
+  settling = settling_then s old m m' e_old e e' p.settling c.settling;
+  still = λ f. absurd (false≢true (sym f));
+  fewer = λ t. omega (arith, p.fewer t, c.no_more);
+}
+
+-- two rows that an equation joins were merged
+pub Passes-joined : (s : Theory) (m m' : Content) (e e' : Entries) (next : Type 0) (a b : ℕ) → IsTheory s → length (rows_of e) ≡ length s.generators → IsWhole m → IsCurrent m e
+    → RuleJoins s m a b ⊎ GivenJoins s m (rows_of e) a b → IsWhole m' → IsCurrent m' e' → (rep : ℕ → ℕ) × IsImage m m' (rows_of e) (rows_of e') rep IsSame
+    → ((t : Theory) (terms : ℕ → Term) → IsSound t m (rows_of e) terms → length t.generators ≡ length (rows_of e) → Derives t (terms a) (terms b) → IsSound t m' (rows_of e') terms)
+    → live_count m' < live_count m → Passes s m m' e e' true next
+Passes-joined s m m' e e' next a b th n w c j w' c' i snd less =
+    Passes-merged s m m m' e e e' false (Unit {0}) next a b th n (Passes-start s m e (Unit {0}) w c tt) j w' c' i snd less
+
 -- both sides of a path equation can be followed from a row of its entity
 pub rule_sides : (s : Theory) (m : Content) (row i : ℕ) (u : Rule) → IsTheory s → (keys_of m) ≡ s.keys → slice_get s.rules i ≡ Some u → u.entity ≡ entity_of m row
     → IsSome (end_of (keys_of m) (entity_of m row) u.left) × (end_of (keys_of m) (entity_of m row) u.right ≡ end_of (keys_of m) (entity_of m row) u.left)
@@ -68,17 +98,22 @@ rule_sides s m row i u th k f e =
 abbrev pub HoldBelow : List Rule → Content → ℕ → ℕ → Type 0
 HoldBelow rules m row i = live_of m row ≡ true → (j : ℕ) (u : Rule) → j < i → slice_get rules j ≡ Some u → entity_of m row ≡ u.entity → Agree m row u.left row u.right
 
-pub one_more_rule : (rules : List Rule) (m : Content) (row i : ℕ) (x : Rule) → i < length rules → x ≡ get_or rules i x → (live_of m row ≡ true → entity_of m row ≡ x.entity → Agree m row x.left row x.right) → HoldBelow rules m row i → HoldBelow rules m row (i + 1)
-one_more_rule rules m row i x within is here before l j u b f e a c ta tc =
-    ⊎_elim (λ p. before l j u p f e a c ta tc)
-    (λ q. let o = found_here rules i j x u within is q f in here l (e ∙ ap (λ (z : Rule). z.entity) o) a c (rw o at ta) (rw o at tc))
-    (below_or_at j i b)
+pub one_more_rule : (s : Theory) (m old : Content) (row i : ℕ) → m ≡ old → RuleHolds s m row i → HoldBelow s.rules old row i → HoldBelow s.rules old row (i + 1)
+one_more_rule s m old row i is here before l j u b f =
+    let h : RuleHolds s old row i = rw (← is) here in
+    ⊎_elim (λ p. before l j u p f) (λ q. h l u (rw q at f)) (below_or_at j i b)
 
-pub as_old : (m old : Content) (r o : ℕ) (p q : List ℕ) → m ≡ old → Agree m r p o q → Agree old r p o q
-as_old m old r o p q e h = rw (← e) h
+-- a path equation that was read holds at a row
+pub rule_holds : (s : Theory) (m : Content) (row i : ℕ) (x : Rule) → i < length s.rules → x ≡ get_or s.rules i x → (live_of m row ≡ true → entity_of m row ≡ x.entity → Agree m row x.left row x.right) → RuleHolds s m row i
+rule_holds s m row i x within is here l u f e a c ta tc =
+    let o = found_here s.rules i i x u within is refl f in
+    here l (e ∙ ap (λ (z : Rule). z.entity) o) a c (rw o at ta) (rw o at tc)
 
-pub as_old_rows : (m old : Content) (e e_old : Entries) (g h : ℕ) (p q : List ℕ) → m ≡ old → e ≡ e_old → Agree m (slice_index (rows_of e) g) p (slice_index (rows_of e) h) q → Agree old (slice_index (rows_of e_old) g) p (slice_index (rows_of e_old) h) q
-as_old_rows m old e e_old g h p q is f a = rw (← is, ← f) a
+-- one more equation of the presentation holds
+pub one_more_given : (s : Theory) (m old : Content) (e e_old : Entries) (i : ℕ) → m ≡ old → e ≡ e_old → GivenHolds s m (rows_of e) i → HoldUnder s old (rows_of e_old) i → HoldUnder s old (rows_of e_old) (i + 1)
+one_more_given s m old e e_old i is same here before j t u b f =
+    let h : GivenHolds s old (rows_of e_old) i = rw (← is, ← same) here in
+    ⊎_elim (λ p. before j t u p f) (λ q. h t u (rw q at f)) (below_or_at j i b)
 
 -- one more row at which the path equations hold
 pub one_more_row : (s : Theory) (old m : Content) (row : ℕ) → m ≡ old → ((r : ℕ) → r < row → HoldIfLive s old r) → HoldIfLive s m row → (r : ℕ) → r < row + 1 → HoldIfLive s old r

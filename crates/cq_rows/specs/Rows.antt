@@ -219,3 +219,15 @@ pub record Passes (s : Theory) (old m : Content) (e_old e : Entries) (merged : B
 
 abbrev pub HoldIfLive : Theory → Content → ℕ → Type 0
 HoldIfLive s m row = live_of m row ≡ true → RulesHoldAt s m row
+
+-- what further merging leaves
+pub record Continues (s : Theory) (old m : Content) (e_old e : Entries) : Type 0 where
+  pub settling : IsSettling s old m e_old e
+  pub no_more : live_count m ≤ live_count old
+
+-- one path equation at one row, and one equation of the presentation
+abbrev pub RuleHolds : Theory → Content → ℕ → ℕ → Type 0
+RuleHolds s m row i = live_of m row ≡ true → (u : Rule) → slice_get s.rules i ≡ Some u → entity_of m row ≡ u.entity → Agree m row u.left row u.right
+
+abbrev pub GivenHolds : Theory → Content → List ℕ → ℕ → Type 0
+GivenHolds s m rows i = (t u : Term) → slice_get s.given i ≡ Some (Some (t, u)) → Agree m (slice_index rows t.generator) t.path (slice_index rows u.generator) u.path

@@ -56,6 +56,13 @@ impl Entries {
         self.renamings.rename(from, to);
     }
 
+    /// How many rows are listed.
+    pub fn len(&self) -> u64
+        ensures { result ≡ length self.now.renamings }
+    {
+        self.renamings.len()
+    }
+
     /// Lists each of the rows that were made.
     pub fn cover(&mut self, made: u64) -> Result<(), AllocError>
         requires { length self.old.renamings ≤ made }

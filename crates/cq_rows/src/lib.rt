@@ -4,8 +4,10 @@
 mod entries;
 mod fill;
 mod grow;
+mod join;
 mod merge;
 mod renamings;
 mod settle;
+mod waiting;
 
 pub use grow::{MOST_ROWS, Partial, RowsRefusal, saturate};

@@ -6,6 +6,7 @@ ghost use Rattle.cq_rows.specs.Rows.{IsSound, IsImage, IsSame, live_count};
 ghost use Rattle.cq_rows.specs.Entries.{rows_of, IsCurrent};
 
 use crate::entries::Entries;
+use crate::waiting::Waiting;
 use cq_tables::Tables;
 use std::alloc::{AllocError, Global};
 
@@ -32,6 +33,7 @@ pub fn merge(
     alloc: Global,
     tables: &mut Tables,
     rows: &mut Entries,
+    waits: &mut Waiting,
     a: u64,
     b: u64,
 ) -> Result<(), AllocError>
@@ -59,6 +61,7 @@ pub fn merge(
         let (from, to) = direction(tables, one, other);
         let given = tables.rename(from, to)?;
         rows.rename(from, to);
+        waits.renamed(from, to);
         pending.extend_from_slice(&given)?;
     }
     Ok(())

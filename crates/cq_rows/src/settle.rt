@@ -1,36 +1,124 @@
 //! Merging, as long as some equation joins two rows.
-ghost use Rattle.std.specs.Prelude.{◌≡◌, ℕ, ◌<◌, length, IfOk, OnOk, IfSome, IfNone, IsSome, true};
-ghost use Rattle.cq_tables.specs.Content.{keys_of, made_of, live_of, entity_of, end_of, IsWhole};
+ghost use Rattle.std.specs.Prelude.{◌≡◌, ℕ, ◌<◌, length, IfOk, OnOk};
+ghost use Rattle.cq_tables.specs.Content.{keys_of, made_of, IsWhole};
 ghost use Rattle.cq_rows.specs.Theory.{Term, IsTheory};
 ghost use Rattle.cq_rows.specs.Plain.{theory_of};
 ghost use Rattle.cq_rows.specs.Entries.{rows_of, IsCurrent, IsBehind};
-ghost use Rattle.cq_rows.specs.Rows.{IsSound, IsImage, IsSame, IsApart, Agree, RulesHold, GivenHold, HaveRows, Passes, HoldIfLive};
+ghost use Rattle.cq_rows.specs.Rows.{IsSound, IsImage, IsSame, RulesHold, GivenHold, HaveRows, IsSettling, Passes, Continues, HoldIfLive};
 
 use crate::entries::Entries;
-use crate::merge::merge;
+use crate::join::{join_given, join_rule, path_equations};
+use crate::waiting::{Stopped, Waiting};
 use cq_tables::Tables;
-use cq_theory::{Equation, PathEq, Presentation, Schema};
+use cq_theory::{Presentation, Schema};
 use std::alloc::{AllocError, Global};
 
-// Where two paths lead, if it is to two rows that differ.
-fn apart(tables: &Tables, row: u64, left: &[u32], other: u64, right: &[u32]) -> Option<(u64, u64)>
-    requires row { live_of tables.now row ≡ true }
-    requires other { live_of tables.now other ≡ true }
-    requires left { IsSome (end_of (keys_of tables.now) (entity_of tables.now row) left.now) }
-    requires right { end_of (keys_of tables.now) (entity_of tables.now other) right.now ≡ end_of (keys_of tables.now) (entity_of tables.now row) left.now }
-    ensures apart { IfSome result (λ p. IsApart tables.now row left.now other right.now p.0 p.1) }
-    ensures agree { IfNone result (Agree tables.now row left.now other right.now) }
+// Looks again at an equation of the presentation.
+fn retry_given(
+    alloc: Global,
+    schema: &Schema,
+    presentation: &Presentation,
+    tables: &mut Tables,
+    rows: &mut Entries,
+    waits: &mut Waiting,
+    place: usize,
+) -> Result<(), AllocError>
+    requires theory { IsTheory (theory_of schema.now presentation.now) }
+    requires keys { keys_of tables.old ≡ (theory_of schema.now presentation.now).keys }
+    requires whole { IsWhole tables.old }
+    requires current { IsCurrent tables.old rows.old }
+    requires count { length (rows_of rows.old) ≡ length (theory_of schema.now presentation.now).generators }
+    requires rows { HaveRows (theory_of schema.now presentation.now) tables.old (rows_of rows.old) }
+    ensures { OnOk result (Continues (theory_of schema.now presentation.now) tables.old tables.new rows.old rows.new) }
 {
-    let a = tables.trace(row, left)?;
-    let b = tables.trace(other, right)?;
-    if a == b { None } else { Some((a, b)) }
+    if place >= presentation.equations.len() {
+        return Ok(());
+    }
+    join_given(alloc, schema, presentation, tables, rows, waits, place)?;
+    Ok(())
 }
 
-// The path equations of a schema.
-fn path_equations(schema: &Schema) -> &[PathEq]
-    ensures { result.now ≡ schema.now.path_eqs }
+// Looks again at a path equation, at the row to which a row was renamed.
+fn retry_rule(
+    alloc: Global,
+    schema: &Schema,
+    presentation: &Presentation,
+    tables: &mut Tables,
+    rows: &mut Entries,
+    waits: &mut Waiting,
+    row: u64,
+    place: usize,
+) -> Result<(), AllocError>
+    requires theory { IsTheory (theory_of schema.now presentation.now) }
+    requires keys { keys_of tables.old ≡ (theory_of schema.now presentation.now).keys }
+    requires whole { IsWhole tables.old }
+    requires current { IsCurrent tables.old rows.old }
+    requires count { length (rows_of rows.old) ≡ length (theory_of schema.now presentation.now).generators }
+    ensures { OnOk result (Continues (theory_of schema.now presentation.now) tables.old tables.new rows.old rows.new) }
 {
-    schema.path_eqs.as_slice()
+    let row = rows.get(row);
+    if row >= tables.made() {
+        return Ok(());
+    }
+    if place >= path_equations(schema).len() {
+        return Ok(());
+    }
+    join_rule(alloc, schema, presentation, tables, rows, waits, row, place)?;
+    Ok(())
+}
+
+// Looks again at an equation.
+fn retry(
+    alloc: Global,
+    schema: &Schema,
+    presentation: &Presentation,
+    tables: &mut Tables,
+    rows: &mut Entries,
+    waits: &mut Waiting,
+    stopped: Stopped,
+) -> Result<(), AllocError>
+    requires theory { IsTheory (theory_of schema.now presentation.now) }
+    requires keys { keys_of tables.old ≡ (theory_of schema.now presentation.now).keys }
+    requires whole { IsWhole tables.old }
+    requires current { IsCurrent tables.old rows.old }
+    requires count { length (rows_of rows.old) ≡ length (theory_of schema.now presentation.now).generators }
+    requires rows { HaveRows (theory_of schema.now presentation.now) tables.old (rows_of rows.old) }
+    ensures { OnOk result (Continues (theory_of schema.now presentation.now) tables.old tables.new rows.old rows.new) }
+{
+    match stopped {
+        Stopped::Given(place) => {
+            retry_given(alloc, schema, presentation, tables, rows, waits, place)
+        }
+        Stopped::Rule(row, place) => {
+            retry_rule(alloc, schema, presentation, tables, rows, waits, row, place)
+        }
+    }
+}
+
+// Looks again at the equations that may go on.
+fn go_on(
+    alloc: Global,
+    schema: &Schema,
+    presentation: &Presentation,
+    tables: &mut Tables,
+    rows: &mut Entries,
+    waits: &mut Waiting,
+) -> Result<(), AllocError>
+    requires theory { IsTheory (theory_of schema.now presentation.now) }
+    requires keys { keys_of tables.old ≡ (theory_of schema.now presentation.now).keys }
+    requires whole { IsWhole tables.old }
+    requires current { IsCurrent tables.old rows.old }
+    requires count { length (rows_of rows.old) ≡ length (theory_of schema.now presentation.now).generators }
+    requires rows { HaveRows (theory_of schema.now presentation.now) tables.old (rows_of rows.old) }
+    ensures { OnOk result (Continues (theory_of schema.now presentation.now) tables.old tables.new rows.old rows.new) }
+{
+    for _turn in 0..u64::MAX {
+        let Some(stopped) = waits.take() else {
+            return Ok(());
+        };
+        retry(alloc, schema, presentation, tables, rows, waits, stopped)?;
+    }
+    Ok(())
 }
 
 // Merges what the path equations join at a row, and says whether they did.
@@ -40,6 +128,7 @@ fn pass_row(
     presentation: &Presentation,
     tables: &mut Tables,
     rows: &mut Entries,
+    waits: &mut Waiting,
     row: u64,
 ) -> Result<bool, AllocError>
     requires theory { IsTheory (theory_of schema.now presentation.now) }
@@ -51,23 +140,11 @@ fn pass_row(
     ensures { IfOk result (λ merged. Passes (theory_of schema.now presentation.now) tables.old tables.new rows.old rows.new merged (HoldIfLive (theory_of schema.now presentation.now) tables.old row)) }
 {
     let mut merged = false;
-    for rule in path_equations(schema) {
-        if !tables.live(row) {
+    for place in 0..path_equations(schema).len() {
+        let one = join_rule(alloc, schema, presentation, tables, rows, waits, row, place)?;
+        if !one {
             continue;
         }
-        if rule.entity != tables.entity(row) {
-            continue;
-        }
-        let Some((a, b)) = apart(
-            tables,
-            row,
-            rule.left.as_slice(),
-            row,
-            rule.right.as_slice(),
-        ) else {
-            continue;
-        };
-        merge(alloc, tables, rows, a, b)?;
         merged = true;
     }
     Ok(merged)
@@ -80,20 +157,23 @@ fn pass_rules(
     presentation: &Presentation,
     tables: &mut Tables,
     rows: &mut Entries,
+    waits: &mut Waiting,
 ) -> Result<bool, AllocError>
     requires theory { IsTheory (theory_of schema.now presentation.now) }
     requires keys { keys_of tables.old ≡ (theory_of schema.now presentation.now).keys }
     requires whole { IsWhole tables.old }
     requires current { IsCurrent tables.old rows.old }
     requires count { length (rows_of rows.old) ≡ length (theory_of schema.now presentation.now).generators }
+    requires rows { HaveRows (theory_of schema.now presentation.now) tables.old (rows_of rows.old) }
     ensures { IfOk result (λ merged. Passes (theory_of schema.now presentation.now) tables.old tables.new rows.old rows.new merged (RulesHold (theory_of schema.now presentation.now) tables.old)) }
 {
     let mut merged = false;
     for row in 0..tables.made() {
-        let one = pass_row(alloc, schema, presentation, tables, rows, row)?;
+        let one = pass_row(alloc, schema, presentation, tables, rows, waits, row)?;
         if !one {
             continue;
         }
+        go_on(alloc, schema, presentation, tables, rows, waits)?;
         merged = true;
     }
     Ok(merged)
@@ -106,6 +186,7 @@ fn pass_given(
     presentation: &Presentation,
     tables: &mut Tables,
     rows: &mut Entries,
+    waits: &mut Waiting,
 ) -> Result<bool, AllocError>
     requires theory { IsTheory (theory_of schema.now presentation.now) }
     requires keys { keys_of tables.old ≡ (theory_of schema.now presentation.now).keys }
@@ -116,25 +197,70 @@ fn pass_given(
     ensures { IfOk result (λ merged. Passes (theory_of schema.now presentation.now) tables.old tables.new rows.old rows.new merged (GivenHold (theory_of schema.now presentation.now) tables.old (rows_of rows.old))) }
 {
     let mut merged = false;
-    for equation in presentation.equations.as_slice() {
-        let Equation::Ent(left, right) = equation else {
+    for place in 0..presentation.equations.len() {
+        let one = join_given(alloc, schema, presentation, tables, rows, waits, place)?;
+        if !one {
             continue;
-        };
-        let row = rows.row(left.generator);
-        let other = rows.row(right.generator);
-        let Some((a, b)) = apart(
-            tables,
-            row,
-            left.path.as_slice(),
-            other,
-            right.path.as_slice(),
-        ) else {
-            continue;
-        };
-        merge(alloc, tables, rows, a, b)?;
+        }
+        go_on(alloc, schema, presentation, tables, rows, waits)?;
         merged = true;
     }
     Ok(merged)
+}
+
+// The first pass, over the path equations and then over the equations of the presentation.
+fn first_pass(
+    alloc: Global,
+    schema: &Schema,
+    presentation: &Presentation,
+    tables: &mut Tables,
+    rows: &mut Entries,
+    waits: &mut Waiting,
+) -> Result<(), AllocError>
+    requires theory { IsTheory (theory_of schema.now presentation.now) }
+    requires keys { keys_of tables.old ≡ (theory_of schema.now presentation.now).keys }
+    requires whole { IsWhole tables.old }
+    requires current { IsCurrent tables.old rows.old }
+    requires count { length (rows_of rows.old) ≡ length (theory_of schema.now presentation.now).generators }
+    requires rows { HaveRows (theory_of schema.now presentation.now) tables.old (rows_of rows.old) }
+    ensures { OnOk result (Continues (theory_of schema.now presentation.now) tables.old tables.new rows.old rows.new) }
+{
+    pass_rules(alloc, schema, presentation, tables, rows, waits)?;
+    pass_given(alloc, schema, presentation, tables, rows, waits)?;
+    Ok(())
+}
+
+// Passes over all equations until none joins two rows. The first pass lists those that stop at an empty cell, and each merge
+// looks again at those that may go on, so that the later passes find little.
+fn merge_all(
+    alloc: Global,
+    schema: &Schema,
+    presentation: &Presentation,
+    tables: &mut Tables,
+    rows: &mut Entries,
+    waits: &mut Waiting,
+) -> Result<(), AllocError>
+    requires theory { IsTheory (theory_of schema.now presentation.now) }
+    requires keys { keys_of tables.old ≡ (theory_of schema.now presentation.now).keys }
+    requires whole { IsWhole tables.old }
+    requires current { IsCurrent tables.old rows.old }
+    requires count { length (rows_of rows.old) ≡ length (theory_of schema.now presentation.now).generators }
+    requires rows { HaveRows (theory_of schema.now presentation.now) tables.old (rows_of rows.old) }
+    ensures settling { OnOk result (IsSettling (theory_of schema.now presentation.now) tables.old tables.new rows.old rows.new) }
+    ensures rules { OnOk result (RulesHold (theory_of schema.now presentation.now) tables.new) }
+    ensures given { OnOk result (GivenHold (theory_of schema.now presentation.now) tables.new (rows_of rows.new)) }
+{
+    first_pass(alloc, schema, presentation, tables, rows, waits)?;
+    waits.close();
+    loop {
+        if pass_rules(alloc, schema, presentation, tables, rows, waits)? {
+            continue;
+        }
+        if pass_given(alloc, schema, presentation, tables, rows, waits)? {
+            continue;
+        }
+        return Ok(());
+    }
 }
 
 // Merges rows as long as some equation joins two.
@@ -159,14 +285,10 @@ pub fn settle(
     ensures rules { OnOk result (RulesHold (theory_of schema.now presentation.now) tables.new) }
     ensures given { OnOk result (GivenHold (theory_of schema.now presentation.now) tables.new (rows_of rows.new)) }
 {
-    rows.cover(tables.made())?;
-    loop {
-        if pass_rules(alloc, schema, presentation, tables, rows)? {
-            continue;
-        }
-        if pass_given(alloc, schema, presentation, tables, rows)? {
-            continue;
-        }
-        return Ok(());
-    }
+    let filled = rows.len();
+    let made = tables.made();
+    rows.cover(made)?;
+    let mut waits = Waiting::new(alloc, filled, made)?;
+    merge_all(alloc, schema, presentation, tables, rows, &mut waits)?;
+    Ok(())
 }

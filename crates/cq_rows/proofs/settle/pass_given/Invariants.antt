@@ -4,5 +4,5 @@ use Rattle.cq_rows.specs.Rows.{Passes}
 use Rattle.cq_rows.proofs.Equations.{HoldUnder}
 use Rattle.cq_rows.proofs.settle.pass_given.Given as goal
 
-abbrev pub invariant-loop-equation : goal.invariant-loop-equation
-invariant-loop-equation l = Passes (theory_of l.schema l.presentation) l.fn.tables l.tables l.fn.rows l.rows l.merged (HoldUnder (theory_of l.schema l.presentation) l.fn.tables (rows_of l.fn.rows) l.equation-index)
+abbrev pub invariant-loop-place : goal.invariant-loop-place
+invariant-loop-place l = Passes (theory_of l.schema l.presentation) l.fn.tables l.tables l.fn.rows l.rows l.merged (HoldUnder (theory_of l.schema l.presentation) l.fn.tables (rows_of l.fn.rows) l.place)

@@ -3,5 +3,5 @@ use Rattle.cq_rows.specs.Rows.{Passes}
 use Rattle.cq_rows.proofs.Passing.{HoldBelow}
 use Rattle.cq_rows.proofs.settle.pass_row.Given as goal
 
-abbrev pub invariant-loop-rule : goal.invariant-loop-rule
-invariant-loop-rule l = Passes (theory_of l.schema l.presentation) l.fn.tables l.tables l.fn.rows l.rows l.merged (HoldBelow l.schema.path_eqs l.fn.tables l.row l.rule-index)
+abbrev pub invariant-loop-place : goal.invariant-loop-place
+invariant-loop-place l = Passes (theory_of l.schema l.presentation) l.fn.tables l.tables l.fn.rows l.rows l.merged (HoldBelow l.schema.path_eqs l.fn.tables l.row l.place)
