@@ -11,3 +11,6 @@ mod settle;
 mod waiting;
 
 pub use grow::{MOST_ROWS, Partial, RowsRefusal, saturate};
+
+#[cfg(test)]
+mod tests;
