@@ -12,3 +12,6 @@ pub mod sigma;
 
 pub use duties::Duty;
 pub use mapping::Mapping;
+
+#[cfg(test)]
+mod tests;

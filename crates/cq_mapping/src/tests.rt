@@ -1,0 +1,4 @@
+//! Mappings between small schemas.
+mod given;
+mod images;
+mod refusals;
