@@ -238,7 +238,7 @@ fn made_image(alloc: Global, image: &Image) -> Result<ArrowImage, Fail> {
     }
 }
 
-fn made_arrow(alloc: Global, arrow: &Arrow) -> Result<ArrowPart, Fail> {
+pub fn made_arrow(alloc: Global, arrow: &Arrow) -> Result<ArrowPart, Fail> {
     Ok(ArrowPart {
         block: name(alloc, arrow.0)?,
         name: name(alloc, arrow.1)?,
@@ -267,6 +267,7 @@ pub fn mapping_parts(
 
 pub const ENTITIES: &[(&str, &str)] = &[("E", "G"), ("F", "H")];
 
+// Right images of the foreign keys and attributes of `SOURCE`.
 pub const J: Arrow = Arrow("E", "j", Image::Key(&["l"]));
 
 pub const K: Arrow = Arrow("E", "k", Image::Key(&["l", "m"]));

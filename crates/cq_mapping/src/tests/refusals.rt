@@ -1,7 +1,7 @@
 //! Parts of mappings from `SOURCE` to `TARGET`, and what becomes of them.
 use super::given::{
-    Arrow, ENTITIES, Image, J, K, SOURCE, TARGET, W, X, arrows, far_names, mapping_between,
-    mapping_parts, name, tall_image,
+    Arrow, ENTITIES, Image, J, K, SOURCE, TARGET, W, X, arrows, far_names, made_arrow,
+    mapping_between, mapping_parts, name, tall_image,
 };
 use crate::Mapping;
 use cq_theory::{ArrowImage, ArrowPart, ArrowRefusal};
@@ -33,7 +33,7 @@ static MADE: [Case; 3] = [
         arrows: &[X, W, K, J],
         wanted: "Ok",
     },
-    // No foreign key, no variable in a term, and no function that is not given.
+    // A path without foreign keys, and a term without its variable.
     Case {
         entities: ENTITIES,
         arrows: &[
@@ -46,8 +46,8 @@ static MADE: [Case; 3] = [
     },
 ];
 
+// An image is there already, a name is unknown, a type stands for an entity: in one part each comes before the next.
 static ENTITIES_ALONE: [Case; 8] = [
-    // Entities: an image is there already, a name is unknown, a type stands for an entity; each before the next, also in one part.
     Case {
         entities: &[("E", "G"), ("E", "Q")],
         arrows: &[],
@@ -416,40 +416,97 @@ fn the_first_fault_of_arrows(rt: HostRuntime) -> Result<(), Fail> {
     try_cases(&rt, rt.alloc(), &ARROWS_IN_ORDER)
 }
 
-/// The outcome of these images and one more.
+/// The outcome of an image between others.
 fn outcome_with(
     alloc: Global,
-    others: &[Arrow],
-    block: &str,
-    text: &str,
-    image: ArrowImage,
+    before: &[Arrow],
+    part: (&str, &str, ArrowImage),
+    after: &[Arrow],
 ) -> Result<String, Fail> {
-    let mut arrows = arrows(alloc, others)?;
+    let mut arrows = arrows(alloc, before)?;
+    let (block, text, image) = part;
     arrows.push(ArrowPart {
         block: name(alloc, block)?,
         name: name(alloc, text)?,
         image,
     })?;
+    for arrow in after {
+        arrows.push(made_arrow(alloc, arrow)?)?;
+    }
     outcome(alloc, ENTITIES, arrows)
 }
 
-// Each image is part 5.
+struct TallCase {
+    functions: usize,
+    before: &'static [Arrow],
+    block: &'static str,
+    after: &'static [Arrow],
+    wanted: &'static str,
+}
+
+static TALL: [TallCase; 7] = [
+    TallCase {
+        functions: 1022,
+        before: &[J, K],
+        block: "E",
+        after: &[X],
+        wanted: "Ok",
+    },
+    TallCase {
+        functions: 1023,
+        before: &[J, K],
+        block: "E",
+        after: &[X],
+        wanted: "TooLarge 4",
+    },
+    TallCase {
+        functions: 1023,
+        before: &[J, K],
+        block: "F",
+        after: &[X],
+        wanted: "WrongSort 4",
+    },
+    TallCase {
+        functions: 1023,
+        before: &[J, K],
+        block: "Q",
+        after: &[X],
+        wanted: "Unknown 4",
+    },
+    TallCase {
+        functions: 1023,
+        before: &[J],
+        block: "E",
+        after: &[J_OF_Q],
+        wanted: "TooLarge 3",
+    },
+    TallCase {
+        functions: 1023,
+        before: &[J_OF_Q],
+        block: "E",
+        after: &[],
+        wanted: "Unknown 2",
+    },
+    TallCase {
+        functions: 1023,
+        before: &[W],
+        block: "E",
+        after: &[],
+        wanted: "Duplicate 3",
+    },
+];
 
 #[test]
 fn a_term_at_the_limit_and_past_it(rt: HostRuntime) -> Result<(), Fail> {
     let alloc = rt.alloc();
-    for (functions, block, wanted) in [
-        (1022, "E", "Ok"),
-        (1023, "E", "TooLarge 5"),
-        (1023, "F", "WrongSort 5"),
-        (1023, "Q", "Unknown 5"),
-    ] {
-        let image = tall_image(alloc, functions)?;
-        let outcome = outcome_with(alloc, &[J, K, X], block, "w", image)?;
+    for case in &TALL {
+        let part = (case.block, "w", tall_image(alloc, case.functions)?);
+        let outcome = outcome_with(alloc, case.before, part, case.after)?;
         assert!(rt;
-            outcome.as_str() == wanted,
-            "{} for {wanted}",
-            outcome.as_str()
+            outcome.as_str() == case.wanted,
+            "{} for {}",
+            outcome.as_str(),
+            case.wanted
         );
     }
     Ok(())
@@ -460,11 +517,11 @@ fn a_path_of_a_foreign_key_at_the_limit_and_past_it(rt: HostRuntime) -> Result<(
     let alloc = rt.alloc();
     for (keys, block, wanted) in [
         (1022, "E", "Ok"),
-        (1023, "E", "TooLarge 5"),
-        (1023, "F", "WrongSort 5"),
+        (1023, "E", "TooLarge 3"),
+        (1023, "F", "WrongSort 3"),
     ] {
-        let image = ArrowImage::Key(far_names(alloc, keys, &["m"])?);
-        let outcome = outcome_with(alloc, &[J, W, X], block, "k", image)?;
+        let part = (block, "k", ArrowImage::Key(far_names(alloc, keys, &["m"])?));
+        let outcome = outcome_with(alloc, &[J], part, &[W, X])?;
         assert!(rt;
             outcome.as_str() == wanted,
             "{} for {wanted}",
@@ -477,9 +534,9 @@ fn a_path_of_a_foreign_key_at_the_limit_and_past_it(rt: HostRuntime) -> Result<(
 #[test]
 fn a_path_of_an_attribute_at_the_limit_and_past_it(rt: HostRuntime) -> Result<(), Fail> {
     let alloc = rt.alloc();
-    for (keys, wanted) in [(1022, "Ok"), (1023, "TooLarge 5")] {
-        let image = ArrowImage::Path(far_names(alloc, keys, &["v"])?);
-        let outcome = outcome_with(alloc, &[J, K, X], "E", "w", image)?;
+    for (keys, wanted) in [(1022, "Ok"), (1023, "TooLarge 4")] {
+        let part = ("E", "w", ArrowImage::Path(far_names(alloc, keys, &["v"])?));
+        let outcome = outcome_with(alloc, &[J, K], part, &[X])?;
         assert!(rt;
             outcome.as_str() == wanted,
             "{} for {wanted}",
