@@ -1,0 +1,12 @@
+use Rattle.std.proofs.Common.{subst}
+use Rattle.cq_program.specs.declared.reason.ProgramRefusal.{ProgramRefusal}
+use Rattle.cq_program.specs.Posing.{RefusesProgram}
+use Rattle.cq_run.proofs.judge.judge_program.Goals as goal
+
+pub returns-in-Ok-line-clause-judges : goal.returns-in-Ok-line-clause-judges
+returns-in-Ok-line-clause-judges g c = record {
+  place = c.in-Err-Broken.place;
+  reason = c.in-Err-Broken.reason;
+  breaks = subst (λ (refusal : ProgramRefusal). RefusesProgram c.args.depth c.args.program.now refusal) c.in-Err-Broken.field-0-is c.in-Err-Broken.ensures.breaks;
+  line_is = c.in-Ok-line.ensures;
+}
