@@ -1,10 +1,8 @@
 //! What declarations stand for that pass the checks of names and parts.
 ghost use Rattle.std.specs.Prelude.{◌≡◌, ◌<◌, ◌≤◌, IfOk, IfErr, length};
-ghost use Rattle.cq_theory.specs.Closing.{IsInconsistent};
 ghost use Rattle.cq_theory.specs.Presentation.{IsPresentation};
 ghost use Rattle.cq_theory.specs.ValueText.{value_text as text_of};
 ghost use Rattle.cq_theory.specs.declared.value.Value.TheVariants.{Const};
-ghost use Rattle.cq_model.specs.Listed.{IsListed};
 ghost use Rattle.cq_program.specs.Program.{Stands};
 ghost use Rattle.cq_program.specs.Environment.{meant};
 ghost use Rattle.cq_program.specs.Posing.{IsPosed, TellsConstants, Withholds, posed_as};
