@@ -2,3 +2,8 @@ pub mod Lists
 pub mod Answering
 pub mod Standing
 pub mod SortedDuties
+pub mod Scoping
+pub mod Grouping
+pub mod Parted
+pub mod MadeQueries
+pub mod NewQueries

@@ -23,15 +23,15 @@ use Rattle.cq_query.specs.Duties.{equal_terms, frozen, key_duties, path_duties, 
 use Rattle.cq_query.specs.IsQuery.{IsQuery}
 use Rattle.cq_query.proofs.Standing.{HasOneSort, Stand, generators_at, put_equation_sorted, assigned_stand, along_stand, translated_sorted, variables_stand}
 
-abbrev All_in : {X : Type 0} → (X → Type 0) → List X → Type 0
+abbrev pub All_in : {X : Type 0} → (X → Type 0) → List X → Type 0
 All_in {X} P xs = (n : ℕ) (x : X) → slice_get xs n ≡ Some x → P x
 
-all_append : {X : Type 0} (P : X → Type 0) (xs ys : List X) → All_in P xs → All_in P ys → All_in P (xs ++ ys)
+pub all_append : {X : Type 0} (P : X → Type 0) (xs ys : List X) → All_in P xs → All_in P ys → All_in P (xs ++ ys)
 all_append P [] ys left right n y h = right n y h
 all_append P (x ∷ xs) ys left right zero y h = left zero y h
 all_append P (x ∷ xs) ys left right (suc n) y h = all_append P xs ys (λ m z k. left (suc m) z k) right n y h
 
-all_flat_map : {X Y : Type 0} (P : Y → Type 0) (f : X → List Y) (xs : List X) → All_in (λ x. All_in P (f x)) xs → All_in P (flat_map f xs)
+pub all_flat_map : {X Y : Type 0} (P : Y → Type 0) (f : X → List Y) (xs : List X) → All_in (λ x. All_in P (f x)) xs → All_in P (flat_map f xs)
 all_flat_map P f [] h n y is = cc
 all_flat_map P f (x ∷ xs) h n y is = all_append P (f x) (flat_map f xs) (h zero x refl) (all_flat_map P f xs (λ m z k. h (suc m) z k)) n y is
 

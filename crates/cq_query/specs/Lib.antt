@@ -5,4 +5,5 @@ pub mod Translation
 pub mod Duties
 pub mod IsQuery
 pub mod Coeval
+pub mod QueryParts
 pub mod Answers

@@ -1,13 +1,20 @@
 //! Queries from a schema to a schema: what they keep, their frozen presentations and their duties.
 #![tactic(auto)]
 
+mod blocks;
+mod clauses;
 mod copies;
 mod duties;
 mod groups;
 pub mod laws;
+mod making;
+mod missing;
+mod owners;
 pub mod parts;
 mod puts;
 pub mod query;
+mod scopes;
+mod tables;
 mod translation;
 
 pub use parts::{Clause, QueryParts};

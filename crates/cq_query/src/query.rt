@@ -1,12 +1,18 @@
 //! Queries.
-ghost use Rattle.std.specs.Prelude.{◌≡◌, ◌<◌, ◌≤◌, length, slice_get, option_copied};
+ghost use Rattle.std.specs.Prelude.{◌≡◌, ◌+◌, ◌<◌, ◌≤◌, ◌^◌, ◌⊎◌, All, IfOk, IfErr, Some, None, length, slice_get, option_copied};
+ghost use Rattle.cq_query.specs.QueryParts.{query_fault, query_made};
 ghost use Rattle.cq_query.specs.Groups.{positions, places};
 ghost use Rattle.cq_query.specs.Translation.{variables_at, key_sources, attribute_sources, path_sources, observation_sources};
 ghost use Rattle.cq_query.specs.IsQuery.{IsQuery};
 
 use crate::groups::Groups;
+use crate::making::make_blocks;
+use crate::owners::make_entities;
+use crate::parts::QueryParts;
+use crate::tables::Tables;
 use cq_base::{Name, Seq};
-use cq_theory::{Edge, EntTerm, Equation, ObsEq, PathEq, Schema, TypeTerm};
+use cq_theory::{ArrowRefusal, Edge, EntTerm, Equation, ObsEq, PathEq, Schema, TypeTerm};
+use std::alloc::Global;
 use std::marker::Model;
 use std::rc::Rc;
 
@@ -68,6 +74,64 @@ impl Model for Query {
 }
 
 impl Query {
+    /// The query that the parts give between schemas of one typeside. The entities of the blocks are tried first, then whether each
+    /// entity has a block, then the variables, then the clauses in order, and then, entity by entity, whether each attribute and
+    /// each foreign key is given, and each foreign key's term for each variable. The answer is the first fault, of a part the least
+    /// rule that it breaks, or want of memory.
+    pub fn new(
+        alloc: Global,
+        source: Rc<Schema>,
+        target: Rc<Schema>,
+        parts: QueryParts,
+    ) -> Result<Query, ArrowRefusal>
+        requires typeside { source.value.typeside ≡ target.value.typeside }
+        requires parts { length parts.entities + length parts.vars + length parts.clauses < 2 ^ 32 }
+        // Each variable and each clause stands in a block.
+        requires vars { All (λ part. part.0 < length parts.entities) parts.vars }
+        requires clauses { All (λ part. part.0 < length parts.entities) parts.clauses }
+        ensures accepted { IfOk result (λ _. query_fault source.value target.value parts ≡ None) }
+        ensures made { IfOk result (λ made. made ≡ query_made source.value target.value parts) }
+        ensures refused { IfErr result (λ refusal. (refusal ≡ ArrowRefusal.Memory) ⊎ (query_fault source.value target.value parts ≡ Some refusal)) }
+    {
+        let QueryParts {
+            entities,
+            vars,
+            clauses,
+        } = parts;
+        source.is_well_sorted();
+        target.is_well_sorted();
+        let first = entities.len() as u32;
+        let blocks = make_entities(alloc, &target, entities.as_slice())?;
+        match make_blocks(
+            alloc,
+            &source,
+            &target,
+            blocks.as_slice(),
+            first,
+            vars.as_slice(),
+            clauses.as_slice(),
+        ) {
+            Ok((blocks, tables)) => {
+                let Tables {
+                    keys,
+                    attributes,
+                    path_eqs,
+                    obs_eqs,
+                } = tables;
+                Ok(Query {
+                    source,
+                    target,
+                    blocks: Seq::from_vec(blocks),
+                    keys,
+                    attributes,
+                    path_eqs,
+                    obs_eqs,
+                })
+            }
+            Err(refusal) => Err(refusal),
+        }
+    }
+
     /// Every query is well sorted. The call does nothing.
     pub fn is_well_sorted(&self)
         ensures { IsQuery self.now }

@@ -1,0 +1,21 @@
+use Rattle.std.proofs.Common.{ℕ, List, ◌≡◌, IfOk, subst}
+use Rattle.cq_query.specs.Groups.{positions}
+use Rattle.cq_query.specs.Translation.{edge_sources}
+use Rattle.cq_query.specs.QueryParts.{block_in}
+use Rattle.cq_query.proofs.Lists.{group_within, group_read}
+use Rattle.cq_query.proofs.blocks.make_block_at.Goals as goal
+
+pub of-attributes-requires : goal.of-attributes-requires
+of-attributes-requires c = group_within _ _ c.args.entity _ c.requires.attributes c.requires.entity
+
+pub of-keys-requires : goal.of-keys-requires
+of-keys-requires c = group_within _ _ c.args.entity _ c.requires.keys c.requires.entity
+
+pub returns : goal.returns
+returns c =
+    let attributes = group_read _ _ c.args.entity _ c.requires.attributes c.requires.entity _ c.of-attributes.ensures in
+    let keys = group_read _ _ c.args.entity _ c.requires.keys c.requires.entity _ c.of-keys.ensures in
+    let both : (c.of-attributes.result.now, c.of-keys.result.now) ≡ (positions (edge_sources c.args.target.now.attributes) c.args.entity, positions (edge_sources c.args.target.now.keys) c.args.entity)
+    = λ i. (attributes i, keys i) in
+    let Told : List ℕ × List ℕ → Type 0 = λ l. IfOk c.make_block.result (λ made. made ≡ block_in c.args.source.now c.args.target.now c.args.entities.now c.args.scopes.now c.args.clauses.now l.0 l.1 c.args.entity) in
+    subst Told both c.make_block.ensures

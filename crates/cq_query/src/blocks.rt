@@ -1,0 +1,400 @@
+//! The blocks that the parts of a query give.
+ghost use Rattle.std.specs.Prelude.{ℕ, List, ◌≡◌, ◌++◌, ◌<◌, IfOk, OnOk, Some, length, map, option_copied, slice_get};
+ghost use Rattle.std.specs.List.{flat_map};
+ghost use Rattle.cq_theory.specs.Canonical.{below};
+ghost use Rattle.cq_theory.specs.Parts.{equation_of};
+ghost use Rattle.cq_theory.specs.Resolved.{entity_term_in, resolved};
+ghost use Rattle.cq_query.specs.Groups.{positions, AreGroups};
+ghost use Rattle.cq_query.specs.Puts.{alone};
+ghost use Rattle.cq_query.specs.Translation.{edge_sources};
+ghost use Rattle.cq_query.specs.QueryParts.{names_of, sorts_of, type_made, entity_made, test_made, test_in, tests_made, scope_or_none, attribute_made, key_made, key_made_at, block_in, block_made, blocks_made, assigned_in};
+
+use crate::groups::Groups;
+use crate::missing::{find_assigned, find_attribute};
+use crate::owners::entity_at;
+use crate::parts::Clause;
+use crate::query::Block;
+use crate::scopes::Scope;
+use cq_base::{Name, Raw, Seq};
+use cq_theory::lookup::{build, type_term};
+use cq_theory::{Edge, EntTerm, Equation, Schema, Term, TypeTerm};
+use std::alloc::{AllocError, Global};
+
+/// An equation of two terms of one kind, which they are where the parts break no rule.
+fn make_equation(left: Term, right: Term) -> Equation
+    ensures { result ≡ equation_of left right }
+{
+    match (left, right) {
+        (Term::Ent(left), Term::Ent(right)) => Equation::Ent(left, right),
+        (Term::Typ(left), Term::Typ(right)) => Equation::Typ(left, right),
+        _ => Equation::Typ(TypeTerm::Const(0), TypeTerm::Const(0)),
+    }
+}
+
+/// The first variable alone, which stands only in parts that break a rule.
+fn first_variable(alloc: Global) -> EntTerm
+    ensures { result ≡ alone 0 }
+{
+    EntTerm {
+        generator: 0,
+        path: Seq::from_vec(Vec::new(alloc)),
+    }
+}
+
+/// The entity term, which is there where the whole term breaks no rule.
+fn entity_term(alloc: Global, term: Term) -> EntTerm
+    ensures { result ≡ entity_term_in term }
+{
+    match term {
+        Term::Ent(term) => term,
+        Term::Typ(_) => first_variable(alloc),
+    }
+}
+
+/// The term over the variables of a block.
+fn make_term(alloc: Global, source: &Schema, scope: &Scope, raw: &Raw) -> Result<Term, AllocError>
+    ensures { IfOk result (λ term. term ≡ resolved source.now (names_of scope.now) (sorts_of scope.now) raw.now) }
+{
+    build(alloc, source, scope.names(), scope.sorts(), raw)
+}
+
+fn make_type(
+    alloc: Global,
+    source: &Schema,
+    scope: Option<&Scope>,
+    raw: Option<&Raw>,
+) -> Result<TypeTerm, AllocError>
+    ensures { IfOk result (λ term. term ≡ type_made source.now (option_copied scope.entry) (option_copied raw.entry)) }
+{
+    let Some(scope) = scope else {
+        return Ok(TypeTerm::Const(0));
+    };
+    let Some(raw) = raw else {
+        return Ok(TypeTerm::Const(0));
+    };
+    let term = make_term(alloc, source, scope, raw)?;
+    Ok(type_term(term))
+}
+
+fn make_entity(
+    alloc: Global,
+    source: &Schema,
+    scope: Option<&Scope>,
+    raw: Option<&Raw>,
+) -> Result<EntTerm, AllocError>
+    ensures { IfOk result (λ term. term ≡ entity_made source.now (option_copied scope.entry) (option_copied raw.entry)) }
+{
+    let Some(scope) = scope else {
+        return Ok(first_variable(alloc));
+    };
+    let Some(raw) = raw else {
+        return Ok(first_variable(alloc));
+    };
+    let term = make_term(alloc, source, scope, raw)?;
+    Ok(entity_term(alloc, term))
+}
+
+/// Appends the equation of a clause, where it is one.
+fn push_test(
+    alloc: Global,
+    source: &Schema,
+    scope: &Scope,
+    part: &Clause,
+    made: &mut Vec<Equation>,
+) -> Result<(), AllocError>
+    ensures { OnOk result (made.new.items ≡ made.old.items ++ test_made source.now scope.now part.now) }
+{
+    match part {
+        Clause::Test(left, right) => {
+            let left = make_term(alloc, source, scope, left)?;
+            let right = make_term(alloc, source, scope, right)?;
+            made.push(make_equation(left, right))?;
+            Ok(())
+        }
+        Clause::Att(_, _) => Ok(()),
+        Clause::Key(_) => Ok(()),
+        Clause::Assign(_, _, _) => Ok(()),
+    }
+}
+
+/// The same, where the clause stands in the block of the entity.
+fn push_test_in(
+    alloc: Global,
+    source: &Schema,
+    entities: &[u32],
+    scope: &Scope,
+    entity: usize,
+    part: &(u32, Clause),
+    made: &mut Vec<Equation>,
+) -> Result<(), AllocError>
+    ensures { OnOk result (made.new.items ≡ made.old.items ++ test_in source.now entities.now scope.now entity part.now) }
+{
+    if entity_at(entities, part.0) as usize == entity {
+        push_test(alloc, source, scope, &part.1, made)
+    } else {
+        Ok(())
+    }
+}
+
+/// The where equations of an entity's block.
+fn build_tests(
+    alloc: Global,
+    source: &Schema,
+    entities: &[u32],
+    scope: &Scope,
+    clauses: &[(u32, Clause)],
+    entity: usize,
+) -> Result<Vec<Equation>, AllocError>
+    ensures { IfOk result (λ made. made.items ≡ flat_map (test_in source.now entities.now scope.now entity) clauses.now) }
+{
+    let mut made = Vec::new(alloc);
+    for part in clauses {
+        push_test_in(alloc, source, entities, scope, entity, part, &mut made)?;
+    }
+    Ok(made)
+}
+
+/// The term of an attribute.
+fn make_attribute(
+    alloc: Global,
+    source: &Schema,
+    target: &Schema,
+    scopes: &[Scope],
+    clauses: &[(u32, Clause)],
+    attribute: usize,
+) -> Result<TypeTerm, AllocError>
+    ensures { IfOk result (λ made. made ≡ attribute_made source.now target.now scopes.now clauses.now attribute) }
+{
+    let Some(edge) = target.attributes.as_slice().get(attribute) else {
+        return Ok(TypeTerm::Const(0));
+    };
+    let scope = scopes.get(edge.from as usize);
+    let raw = find_attribute(target, clauses, attribute);
+    let made = make_type(alloc, source, scope, raw)?;
+    Ok(made)
+}
+
+fn build_attributes(
+    alloc: Global,
+    source: &Schema,
+    target: &Schema,
+    scopes: &[Scope],
+    clauses: &[(u32, Clause)],
+    attributes: &[usize],
+) -> Result<Vec<TypeTerm>, AllocError>
+    ensures { IfOk result (λ made. made.items ≡ map (attribute_made source.now target.now scopes.now clauses.now) attributes.now) }
+{
+    let mut made = Vec::new(alloc);
+    for attribute in attributes {
+        made.push(make_attribute(alloc, source, target, scopes, clauses, *attribute)?)?;
+    }
+    Ok(made)
+}
+
+/// The terms that a foreign key assigns to the variables, over those of a block.
+fn build_assigned(
+    alloc: Global,
+    source: &Schema,
+    target: &Schema,
+    scope: Option<&Scope>,
+    clauses: &[(u32, Clause)],
+    key: usize,
+    vars: &[(Name, u32)],
+) -> Result<Vec<EntTerm>, AllocError>
+    ensures { IfOk result (λ made. made.items ≡ map (λ v. entity_made source.now (option_copied scope.entry) (assigned_in target.now clauses.now key v.0)) vars.now) }
+{
+    let mut made = Vec::new(alloc);
+    for var in vars {
+        let raw = find_assigned(target, clauses, key, &var.0);
+        made.push(make_entity(alloc, source, scope, raw)?)?;
+    }
+    Ok(made)
+}
+
+/// The same for the variables of a block, where there is one.
+fn build_assigned_to(
+    alloc: Global,
+    source: &Schema,
+    target: &Schema,
+    from: Option<&Scope>,
+    to: Option<&Scope>,
+    clauses: &[(u32, Clause)],
+    key: usize,
+) -> Result<Vec<EntTerm>, AllocError>
+    ensures { IfOk result (λ made. made.items ≡ map (λ v. entity_made source.now (option_copied from.entry) (assigned_in target.now clauses.now key v.0)) (scope_or_none (option_copied to.entry))) }
+{
+    match to {
+        Some(to) => build_assigned(alloc, source, target, from, clauses, key, to.vars()),
+        None => Ok(Vec::new(alloc)),
+    }
+}
+
+/// The block of an entity.
+fn scope_at(scopes: &[Scope], entity: u32) -> Option<&Scope>
+    ensures { option_copied result ≡ slice_get scopes.now entity }
+{
+    scopes.get(entity as usize)
+}
+
+/// The terms that a foreign key from block to block assigns.
+fn make_key_at(
+    alloc: Global,
+    source: &Schema,
+    target: &Schema,
+    scopes: &[Scope],
+    clauses: &[(u32, Clause)],
+    key: usize,
+    edge: &Edge,
+) -> Result<Vec<EntTerm>, AllocError>
+    ensures { IfOk result (λ made. made.items ≡ key_made_at source.now target.now scopes.now clauses.now key (Some edge.now)) }
+{
+    let from = scope_at(scopes, edge.from);
+    let to = scope_at(scopes, edge.to);
+    build_assigned_to(alloc, source, target, from, to, clauses, key)
+}
+
+fn key_at(target: &Schema, key: usize) -> Option<&Edge>
+    ensures { option_copied result ≡ slice_get target.now.keys key }
+{
+    target.keys.as_slice().get(key)
+}
+
+/// The terms that a foreign key assigns to the variables of the block to which it leads.
+fn make_key(
+    alloc: Global,
+    source: &Schema,
+    target: &Schema,
+    scopes: &[Scope],
+    clauses: &[(u32, Clause)],
+    key: usize,
+) -> Result<Vec<EntTerm>, AllocError>
+    ensures { IfOk result (λ made. made.items ≡ key_made source.now target.now scopes.now clauses.now key) }
+{
+    match key_at(target, key) {
+        Some(edge) => make_key_at(alloc, source, target, scopes, clauses, key, edge),
+        None => Ok(Vec::new(alloc)),
+    }
+}
+
+fn build_keys(
+    alloc: Global,
+    source: &Schema,
+    target: &Schema,
+    scopes: &[Scope],
+    clauses: &[(u32, Clause)],
+    keys: &[usize],
+) -> Result<Vec<Seq<EntTerm>>, AllocError>
+    ensures { IfOk result (λ made. made.items ≡ map (key_made source.now target.now scopes.now clauses.now) keys.now) }
+{
+    let mut made = Vec::new(alloc);
+    for key in keys {
+        let terms = make_key(alloc, source, target, scopes, clauses, *key)?;
+        made.push(Seq::from_vec(terms))?;
+    }
+    Ok(made)
+}
+
+fn copy_variables(alloc: Global, vars: &[(Name, u32)]) -> Result<Vec<(Name, u32)>, AllocError>
+    ensures { IfOk result (λ made. made.items ≡ vars.now) }
+{
+    let mut made = Vec::new(alloc);
+    for var in vars {
+        made.push((var.0.clone()?, var.1))?;
+    }
+    Ok(made)
+}
+
+/// The variables and the where equations of an entity's block.
+fn build_head(
+    alloc: Global,
+    source: &Schema,
+    entities: &[u32],
+    scopes: &[Scope],
+    clauses: &[(u32, Clause)],
+    entity: usize,
+) -> Result<(Vec<(Name, u32)>, Vec<Equation>), AllocError>
+    requires { entity < length scopes.now }
+    ensures { IfOk result (λ made. (made.0.items ≡ scope_or_none (slice_get scopes.now entity)) × (made.1.items ≡ tests_made source.now entities.now scopes.now clauses.now entity)) }
+{
+    let scope = &scopes[entity];
+    let vars = copy_variables(alloc, scope.vars())?;
+    let tests = build_tests(alloc, source, entities, scope, clauses, entity)?;
+    Ok((vars, tests))
+}
+
+/// The block of an entity, by the attributes and foreign keys from it.
+#[tactic(auto, unfolding(crate::specs::QueryParts::block_in))]
+fn make_block(
+    alloc: Global,
+    source: &Schema,
+    target: &Schema,
+    entities: &[u32],
+    scopes: &[Scope],
+    clauses: &[(u32, Clause)],
+    attributes: &[usize],
+    keys: &[usize],
+    entity: usize,
+) -> Result<Block, AllocError>
+    requires { entity < length scopes.now }
+    ensures { IfOk result (λ made. made ≡ block_in source.now target.now entities.now scopes.now clauses.now attributes.now keys.now entity) }
+{
+    let (vars, tests) = build_head(alloc, source, entities, scopes, clauses, entity)?;
+    let attributes = build_attributes(alloc, source, target, scopes, clauses, attributes)?;
+    let keys = build_keys(alloc, source, target, scopes, clauses, keys)?;
+    Ok(Block {
+        vars: Seq::from_vec(vars),
+        tests: Seq::from_vec(tests),
+        attributes: Seq::from_vec(attributes),
+        keys: Seq::from_vec(keys),
+    })
+}
+
+/// The block of an entity.
+fn make_block_at(
+    alloc: Global,
+    source: &Schema,
+    target: &Schema,
+    entities: &[u32],
+    scopes: &[Scope],
+    clauses: &[(u32, Clause)],
+    attributes: &Groups,
+    keys: &Groups,
+    entity: usize,
+) -> Result<Block, AllocError>
+    requires attributes { AreGroups (edge_sources target.now.attributes) (length target.now.entities) attributes.now }
+    requires keys { AreGroups (edge_sources target.now.keys) (length target.now.entities) keys.now }
+    requires scopes { length scopes.now ≡ length target.now.entities }
+    requires entity { entity < length target.now.entities }
+    ensures { IfOk result (λ made. made ≡ block_made source.now target.now entities.now scopes.now clauses.now entity) }
+{
+    let attributes = attributes.of(entity);
+    let keys = keys.of(entity);
+    make_block(
+        alloc, source, target, entities, scopes, clauses, attributes, keys, entity,
+    )
+}
+
+/// The blocks of the entities of the target.
+pub(crate) fn build_blocks(
+    alloc: Global,
+    source: &Schema,
+    target: &Schema,
+    entities: &[u32],
+    scopes: &[Scope],
+    clauses: &[(u32, Clause)],
+    attributes: &Groups,
+    keys: &Groups,
+) -> Result<Vec<Block>, AllocError>
+    requires attributes { AreGroups (edge_sources target.now.attributes) (length target.now.entities) attributes.now }
+    requires keys { AreGroups (edge_sources target.now.keys) (length target.now.entities) keys.now }
+    requires scopes { length scopes.now ≡ length target.now.entities }
+    ensures { IfOk result (λ made. made.items ≡ blocks_made source.now target.now entities.now scopes.now clauses.now) }
+{
+    let mut made = Vec::new(alloc);
+    for entity in 0..target.entities.len() {
+        made.push(make_block_at(
+            alloc, source, target, entities, scopes, clauses, attributes, keys, entity,
+        )?)?;
+    }
+    Ok(made)
+}

@@ -1,0 +1,331 @@
+//! The rules of the clauses.
+ghost use Rattle.std.specs.Prelude.{ℕ, List, ◌≡◌, ◌&&◌, ◌==◌, ◌+◌, ◌<◌, ◌^◌, ◌⊎◌, IfOk, IfErr, Some, None, length, map, option_map, option_copied, slice_get, is_none};
+ghost use Rattle.std.specs.List.{list_any};
+ghost use Rattle.cq_theory.specs.Resolve.{are_of_one_sort, has_unknown as unknown_in, in_part, raw_sort};
+ghost use Rattle.cq_theory.specs.SchemaData.{SchemaData};
+ghost use Rattle.cq_base.specs.declared.name.Name.{Name};
+ghost use Rattle.cq_query.specs.declared.parts.Clause.TheVariants as clause;
+ghost use Rattle.cq_query.specs.QueryParts.{of_query as refusal_of_query, least_rule as rule_least, is_from as from_entity, is_right_attribute as right_attribute, attribute_edge as edge_of_attribute, key_edge as edge_of_key, variable_sort as sort_of_variable, target_sort as sort_of_target, clause_rule, rule_over, rule_in, gives_symbol as symbol_given, gives_variable as variable_given, gives_same as same_given, clause_fault, clauses_fault, names_of, sorts_of};
+
+use crate::owners::{entity_at, of_query};
+use crate::parts::Clause;
+use crate::scopes::Scope;
+use cq_base::{Name, Raw};
+use cq_theory::lookup::{has_unknown, has_wrong_count, in_part_of, is_too_large, sort_of_raw};
+use cq_theory::{ArrowRefusal, Edge, Schema, Sort, Symbol, TermRefusal, TheoryRefusal};
+
+fn have_one_sort(left: Option<Sort>, right: Option<Sort>) -> bool
+    ensures { result ≡ are_of_one_sort left right }
+{
+    match (left, right) {
+        (Some(Sort::Plain(left)), Some(Sort::Plain(right))) => left == right,
+        (Some(Sort::Entity(left)), Some(Sort::Entity(right))) => left == right,
+        _ => false,
+    }
+}
+
+/// The least rule that is broken.
+fn least_rule(unknown: bool, count: bool, sort: bool, size: bool) -> Option<TermRefusal>
+    ensures { result ≡ rule_least unknown count sort size }
+{
+    if unknown {
+        Some(TermRefusal::Unknown)
+    } else if count {
+        Some(TermRefusal::WrongCount)
+    } else if sort {
+        Some(TermRefusal::WrongSort)
+    } else if size {
+        Some(TermRefusal::TooLarge)
+    } else {
+        None
+    }
+}
+
+/// Whether the edge is there and begins at the entity.
+fn is_from(entity: u32, edge: Option<&Edge>) -> bool
+    ensures { result ≡ from_entity entity (option_copied edge.entry) }
+{
+    match edge {
+        Some(edge) => edge.from == entity,
+        None => false,
+    }
+}
+
+/// Whether the attribute is there, begins at the entity, and has this sort.
+fn is_right_attribute(entity: u32, edge: Option<&Edge>, sort: Option<Sort>) -> bool
+    ensures { result ≡ right_attribute entity (option_copied edge.entry) sort }
+{
+    match edge {
+        Some(edge) => edge.from == entity && have_one_sort(sort, Some(Sort::Plain(edge.to))),
+        None => false,
+    }
+}
+
+fn attribute_edge(target: &Schema, symbol: Option<Symbol>) -> Option<&Edge>
+    ensures { option_copied result ≡ edge_of_attribute target.now symbol }
+{
+    match symbol {
+        Some(Symbol::Attribute(attribute)) => target.attributes.as_slice().get(attribute as usize),
+        Some(Symbol::Key(_)) => None,
+        Some(Symbol::Function(_)) => None,
+        None => None,
+    }
+}
+
+fn key_edge(target: &Schema, symbol: Option<Symbol>) -> Option<&Edge>
+    ensures { option_copied result ≡ edge_of_key target.now symbol }
+{
+    match symbol {
+        Some(Symbol::Key(key)) => target.keys.as_slice().get(key as usize),
+        Some(Symbol::Attribute(_)) => None,
+        Some(Symbol::Function(_)) => None,
+        None => None,
+    }
+}
+
+fn variable_sort(scope: &Scope, name: &Name) -> Option<Sort>
+    ensures { result ≡ sort_of_variable name.now scope.now }
+{
+    let number = scope.names().find(name)?;
+    scope.sorts().get(number as usize).copied()
+}
+
+/// The sort of a variable of the block to which a foreign key leads.
+fn target_sort(target: &Schema, scopes: &[Scope], key: &Name, variable: &Name) -> Option<Sort>
+    ensures { result ≡ sort_of_target target.now scopes.now key.now variable.now }
+{
+    let edge = key_edge(target, target.find_symbol(key))?;
+    let scope = scopes.get(edge.to as usize)?;
+    variable_sort(scope, variable)
+}
+
+fn is_unknown(source: &Schema, scope: &Scope, raw: &Raw) -> bool
+    ensures { result ≡ unknown_in source.now (names_of scope.now) raw.now }
+{
+    has_unknown(source, scope.names(), raw)
+}
+
+fn sort_in(source: &Schema, scope: &Scope, raw: &Raw) -> Option<Sort>
+    ensures { result ≡ raw_sort source.now (names_of scope.now) (sorts_of scope.now) raw.now }
+{
+    sort_of_raw(source, scope.names(), scope.sorts(), raw)
+}
+
+/// The least rule that a where equation breaks.
+fn test_rule(source: &Schema, scope: &Scope, left: &Raw, right: &Raw) -> Option<TermRefusal>
+    ensures { (T : SchemaData) (scopes : List (List (Name × ℕ))) (entity : ℕ) → result ≡ clause_rule source.now T scopes scope.now entity (clause.Test left.now right.now) }
+{
+    least_rule(
+        is_unknown(source, scope, left) || is_unknown(source, scope, right),
+        has_wrong_count(source, left) || has_wrong_count(source, right),
+        !have_one_sort(sort_in(source, scope, left), sort_in(source, scope, right)),
+        is_too_large(left) || is_too_large(right),
+    )
+}
+
+/// The least rule that the term of an attribute breaks.
+fn attribute_rule(
+    source: &Schema,
+    target: &Schema,
+    scope: &Scope,
+    entity: u32,
+    name: &Name,
+    raw: &Raw,
+) -> Option<TermRefusal>
+    ensures { (scopes : List (List (Name × ℕ))) → result ≡ clause_rule source.now target.now scopes scope.now entity (clause.Att name.now raw.now) }
+{
+    let symbol = target.find_symbol(name);
+    let sort = sort_in(source, scope, raw);
+    least_rule(
+        symbol.is_none() || is_unknown(source, scope, raw),
+        has_wrong_count(source, raw),
+        !is_right_attribute(entity, attribute_edge(target, symbol), sort),
+        is_too_large(raw),
+    )
+}
+
+/// The least rule that a foreign key's clause breaks.
+fn key_rule(target: &Schema, entity: u32, name: &Name) -> Option<TermRefusal>
+    ensures { (S : SchemaData) (scopes : List (List (Name × ℕ))) (scope : List (Name × ℕ)) → result ≡ clause_rule S target.now scopes scope entity (clause.Key name.now) }
+{
+    let symbol = target.find_symbol(name);
+    least_rule(
+        symbol.is_none(),
+        false,
+        !is_from(entity, key_edge(target, symbol)),
+        false,
+    )
+}
+
+/// The least rule that an assigned term breaks.
+fn assign_rule(
+    source: &Schema,
+    target: &Schema,
+    scopes: &[Scope],
+    scope: &Scope,
+    entity: u32,
+    key: &Name,
+    variable: &Name,
+    raw: &Raw,
+) -> Option<TermRefusal>
+    ensures { result ≡ clause_rule source.now target.now scopes.now scope.now entity (clause.Assign key.now variable.now raw.now) }
+{
+    let wanted = target_sort(target, scopes, key, variable);
+    let sort = sort_in(source, scope, raw);
+    let symbol = target.find_symbol(key);
+    least_rule(
+        wanted.is_none() || is_unknown(source, scope, raw),
+        has_wrong_count(source, raw),
+        !(is_from(entity, key_edge(target, symbol)) && have_one_sort(sort, wanted)),
+        is_too_large(raw),
+    )
+}
+
+/// The least rule that a clause breaks, with these variables.
+fn rule_with(
+    source: &Schema,
+    target: &Schema,
+    scopes: &[Scope],
+    scope: &Scope,
+    entity: u32,
+    part: &Clause,
+) -> Option<TermRefusal>
+    ensures { result ≡ clause_rule source.now target.now scopes.now scope.now entity part.now }
+{
+    match part {
+        Clause::Test(left, right) => test_rule(source, scope, left, right),
+        Clause::Att(name, raw) => attribute_rule(source, target, scope, entity, name, raw),
+        Clause::Key(name) => key_rule(target, entity, name),
+        Clause::Assign(key, variable, raw) => {
+            assign_rule(source, target, scopes, scope, entity, key, variable, raw)
+        }
+    }
+}
+
+/// The least rule that a clause in the block of an entity breaks.
+#[tactic(auto, unfolding(crate::specs::QueryParts::rule_in))]
+fn rule_of(
+    source: &Schema,
+    target: &Schema,
+    scopes: &[Scope],
+    entity: u32,
+    part: &Clause,
+) -> Option<TermRefusal>
+    ensures { result ≡ rule_in source.now target.now scopes.now entity part.now }
+{
+    match scopes.get(entity as usize) {
+        Some(scope) => rule_with(source, target, scopes, scope, entity, part),
+        None => Some(TermRefusal::Unknown),
+    }
+}
+
+fn gives_symbol(name: &Name, part: &Clause) -> bool
+    ensures { result ≡ symbol_given name.now part.now }
+{
+    match part {
+        Clause::Test(_, _) => false,
+        Clause::Att(other, _) => *name == *other,
+        Clause::Key(other) => *name == *other,
+        Clause::Assign(_, _, _) => false,
+    }
+}
+
+fn gives_variable(key: &Name, variable: &Name, part: &Clause) -> bool
+    ensures { result ≡ variable_given key.now variable.now part.now }
+{
+    match part {
+        Clause::Test(_, _) => false,
+        Clause::Att(_, _) => false,
+        Clause::Key(_) => false,
+        Clause::Assign(other, name, _) => *key == *other && *variable == *name,
+    }
+}
+
+/// Whether the second clause gives what the first one gives.
+fn gives_same(part: &Clause, other: &Clause) -> bool
+    ensures { result ≡ same_given part.now other.now }
+{
+    match part {
+        Clause::Test(_, _) => false,
+        Clause::Att(name, _) => gives_symbol(name, other),
+        Clause::Key(name) => gives_symbol(name, other),
+        Clause::Assign(key, variable, _) => gives_variable(key, variable, other),
+    }
+}
+
+/// Whether one of the clauses gives what this one gives.
+fn is_given(earlier: &[(u32, Clause)], part: &Clause) -> bool
+    ensures { result ≡ list_any (λ c. same_given part.now c.1) earlier.now }
+{
+    for other in earlier {
+        if gives_same(part, &other.1) {
+            return true;
+        }
+    }
+    false
+}
+
+/// The fault of clause `number`, after the earlier ones.
+fn fault_of_clause(
+    source: &Schema,
+    target: &Schema,
+    entities: &[u32],
+    scopes: &[Scope],
+    earlier: &[(u32, Clause)],
+    number: u32,
+    part: &(u32, Clause),
+) -> Option<TheoryRefusal>
+    ensures { result ≡ clause_fault source.now target.now entities.now scopes.now earlier.now number part.now }
+{
+    if is_given(earlier, &part.1) {
+        return Some(TheoryRefusal::Duplicate(number));
+    }
+    let entity = entity_at(entities, part.0);
+    match rule_of(source, target, scopes, entity, &part.1) {
+        Some(rule) => Some(in_part_of(number, rule)),
+        None => None,
+    }
+}
+
+/// The first fault of the clauses, of which the first is part `first`.
+fn first_clause_fault(
+    source: &Schema,
+    target: &Schema,
+    entities: &[u32],
+    scopes: &[Scope],
+    first: u32,
+    parts: &[(u32, Clause)],
+) -> Option<TheoryRefusal>
+    requires { first + length parts.now < 2 ^ 32 }
+    ensures { result ≡ clauses_fault source.now target.now entities.now scopes.now first parts.now }
+{
+    let mut number = first;
+    for (place, part) in parts.iter().enumerate() {
+        let earlier = &parts[..place];
+        let fault = fault_of_clause(source, target, entities, scopes, earlier, number, part);
+        if fault.is_some() {
+            return fault;
+        }
+        number += 1;
+    }
+    None
+}
+
+/// Tests the clauses, of which the first is part `first`.
+pub(crate) fn check_clauses(
+    source: &Schema,
+    target: &Schema,
+    entities: &[u32],
+    scopes: &[Scope],
+    first: u32,
+    parts: &[(u32, Clause)],
+) -> Result<(), ArrowRefusal>
+    requires { first + length parts.now < 2 ^ 32 }
+    ensures accepted { IfOk result (λ _. clauses_fault source.now target.now entities.now scopes.now first parts.now ≡ None) }
+    ensures refused { IfErr result (λ refusal. option_map refusal_of_query (clauses_fault source.now target.now entities.now scopes.now first parts.now) ≡ Some refusal) }
+{
+    match first_clause_fault(source, target, entities, scopes, first, parts) {
+        Some(refusal) => Err(of_query(refusal)),
+        None => Ok(()),
+    }
+}

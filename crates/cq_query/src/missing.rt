@@ -1,0 +1,302 @@
+//! What no clause gives.
+ghost use Rattle.std.specs.Prelude.{ℕ, List, ◌≡◌, ◌<◌, ◌⊎◌, IfOk, IfErr, Some, None, length, map, option_copied, slice_get};
+ghost use Rattle.std.specs.List.{list_any};
+ghost use Rattle.cq_theory.specs.Canonical.{below};
+ghost use Rattle.cq_theory.specs.Resolve.{or_else};
+ghost use Rattle.cq_query.specs.Groups.{positions, AreGroups};
+ghost use Rattle.cq_query.specs.Translation.{edge_sources};
+ghost use Rattle.cq_query.specs.QueryParts.{is_attribute as is_the_attribute, is_key as is_the_key, attribute_given as given_attribute, key_given as given_key, assigned_given as given_assigned, attribute_in, has_key as key_there, assigned_in, first_of, missing_attribute, missing_key, missing_variable, missing_variables, missing_attributes, missing_keys, missing_assigned, missing_in, missing_at, missing_part};
+
+use crate::groups::Groups;
+use crate::owners::missing;
+use crate::parts::Clause;
+use crate::scopes::Scope;
+use cq_base::{Name, Raw};
+use cq_theory::{ArrowRefusal, Schema, Symbol};
+
+fn is_attribute(attribute: usize, symbol: Option<Symbol>) -> bool
+    ensures { result ≡ is_the_attribute attribute symbol }
+{
+    match symbol {
+        Some(Symbol::Attribute(number)) => number as usize == attribute,
+        Some(Symbol::Key(_)) => false,
+        Some(Symbol::Function(_)) => false,
+        None => false,
+    }
+}
+
+fn is_key(key: usize, symbol: Option<Symbol>) -> bool
+    ensures { result ≡ is_the_key key symbol }
+{
+    match symbol {
+        Some(Symbol::Key(number)) => number as usize == key,
+        Some(Symbol::Attribute(_)) => false,
+        Some(Symbol::Function(_)) => false,
+        None => false,
+    }
+}
+
+/// The term that a clause gives to the attribute.
+fn attribute_given<'a>(target: &Schema, attribute: usize, part: &'a Clause) -> Option<&'a Raw>
+    ensures { option_copied result ≡ given_attribute target.now attribute part.now }
+{
+    match part {
+        Clause::Test(_, _) => None,
+        Clause::Att(name, raw) => {
+            if is_attribute(attribute, target.find_symbol(name)) {
+                Some(raw)
+            } else {
+                None
+            }
+        }
+        Clause::Key(_) => None,
+        Clause::Assign(_, _, _) => None,
+    }
+}
+
+/// Whether a clause is that of the foreign key.
+fn key_given(target: &Schema, key: usize, part: &Clause) -> bool
+    ensures { result ≡ given_key target.now key part.now }
+{
+    match part {
+        Clause::Test(_, _) => false,
+        Clause::Att(_, _) => false,
+        Clause::Key(name) => is_key(key, target.find_symbol(name)),
+        Clause::Assign(_, _, _) => false,
+    }
+}
+
+/// The term that a clause assigns to the variable for the foreign key.
+fn assigned_given<'a>(
+    target: &Schema,
+    key: usize,
+    variable: &Name,
+    part: &'a Clause,
+) -> Option<&'a Raw>
+    ensures { option_copied result ≡ given_assigned target.now key variable.now part.now }
+{
+    match part {
+        Clause::Test(_, _) => None,
+        Clause::Att(_, _) => None,
+        Clause::Key(_) => None,
+        Clause::Assign(name, other, raw) => {
+            if is_key(key, target.find_symbol(name)) && *variable == *other {
+                Some(raw)
+            } else {
+                None
+            }
+        }
+    }
+}
+
+/// The term of an attribute.
+pub(crate) fn find_attribute<'a>(
+    target: &Schema,
+    clauses: &'a [(u32, Clause)],
+    attribute: usize,
+) -> Option<&'a Raw>
+    ensures { option_copied result ≡ attribute_in target.now clauses.now attribute }
+{
+    for part in clauses {
+        let found = attribute_given(target, attribute, &part.1);
+        if found.is_some() {
+            return found;
+        }
+    }
+    None
+}
+
+fn has_key(target: &Schema, clauses: &[(u32, Clause)], key: usize) -> bool
+    ensures { result ≡ key_there target.now clauses.now key }
+{
+    for part in clauses {
+        if key_given(target, key, &part.1) {
+            return true;
+        }
+    }
+    false
+}
+
+/// The term that a foreign key assigns to a variable.
+pub(crate) fn find_assigned<'a>(
+    target: &Schema,
+    clauses: &'a [(u32, Clause)],
+    key: usize,
+    variable: &Name,
+) -> Option<&'a Raw>
+    ensures { option_copied result ≡ assigned_in target.now clauses.now key variable.now }
+{
+    for part in clauses {
+        let found = assigned_given(target, key, variable, &part.1);
+        if found.is_some() {
+            return found;
+        }
+    }
+    None
+}
+
+fn check_attribute(
+    target: &Schema,
+    clauses: &[(u32, Clause)],
+    attribute: usize,
+) -> Result<(), ArrowRefusal>
+    ensures accepted { IfOk result (λ _. missing_attribute target.now clauses.now attribute (slice_get target.now.attributes attribute) ≡ None) }
+    ensures refused { IfErr result (λ refusal. (refusal ≡ ArrowRefusal.Memory) ⊎ (missing_attribute target.now clauses.now attribute (slice_get target.now.attributes attribute) ≡ Some refusal)) }
+{
+    let Some(edge) = target.attributes.as_slice().get(attribute) else {
+        return Ok(());
+    };
+    if find_attribute(target, clauses, attribute).is_none() {
+        return Err(missing(&edge.name));
+    }
+    Ok(())
+}
+
+fn check_key(target: &Schema, clauses: &[(u32, Clause)], key: usize) -> Result<(), ArrowRefusal>
+    ensures accepted { IfOk result (λ _. missing_key target.now clauses.now key (slice_get target.now.keys key) ≡ None) }
+    ensures refused { IfErr result (λ refusal. (refusal ≡ ArrowRefusal.Memory) ⊎ (missing_key target.now clauses.now key (slice_get target.now.keys key) ≡ Some refusal)) }
+{
+    let Some(edge) = target.keys.as_slice().get(key) else {
+        return Ok(());
+    };
+    if !has_key(target, clauses, key) {
+        return Err(missing(&edge.name));
+    }
+    Ok(())
+}
+
+/// Whether the foreign key assigns a term to each of the variables.
+fn check_variables(
+    target: &Schema,
+    clauses: &[(u32, Clause)],
+    key: usize,
+    vars: &[(Name, u32)],
+) -> Result<(), ArrowRefusal>
+    ensures accepted { IfOk result (λ _. first_of (missing_variable target.now clauses.now key) vars.now ≡ None) }
+    ensures refused { IfErr result (λ refusal. (refusal ≡ ArrowRefusal.Memory) ⊎ (first_of (missing_variable target.now clauses.now key) vars.now ≡ Some refusal)) }
+{
+    for var in vars {
+        if find_assigned(target, clauses, key, &var.0).is_none() {
+            return Err(missing(&var.0));
+        }
+    }
+    Ok(())
+}
+
+fn check_assigned(
+    target: &Schema,
+    scopes: &[Scope],
+    clauses: &[(u32, Clause)],
+    key: usize,
+) -> Result<(), ArrowRefusal>
+    ensures accepted { IfOk result (λ _. missing_variables target.now scopes.now clauses.now key (slice_get target.now.keys key) ≡ None) }
+    ensures refused { IfErr result (λ refusal. (refusal ≡ ArrowRefusal.Memory) ⊎ (missing_variables target.now scopes.now clauses.now key (slice_get target.now.keys key) ≡ Some refusal)) }
+{
+    let Some(edge) = target.keys.as_slice().get(key) else {
+        return Ok(());
+    };
+    match scopes.get(edge.to as usize) {
+        Some(scope) => check_variables(target, clauses, key, scope.vars()),
+        None => Ok(()),
+    }
+}
+
+fn check_attributes(
+    target: &Schema,
+    clauses: &[(u32, Clause)],
+    attributes: &[usize],
+) -> Result<(), ArrowRefusal>
+    ensures accepted { IfOk result (λ _. missing_attributes target.now clauses.now attributes.now ≡ None) }
+    ensures refused { IfErr result (λ refusal. (refusal ≡ ArrowRefusal.Memory) ⊎ (missing_attributes target.now clauses.now attributes.now ≡ Some refusal)) }
+{
+    for attribute in attributes {
+        check_attribute(target, clauses, *attribute)?;
+    }
+    Ok(())
+}
+
+fn check_keys(
+    target: &Schema,
+    clauses: &[(u32, Clause)],
+    keys: &[usize],
+) -> Result<(), ArrowRefusal>
+    ensures accepted { IfOk result (λ _. missing_keys target.now clauses.now keys.now ≡ None) }
+    ensures refused { IfErr result (λ refusal. (refusal ≡ ArrowRefusal.Memory) ⊎ (missing_keys target.now clauses.now keys.now ≡ Some refusal)) }
+{
+    for key in keys {
+        check_key(target, clauses, *key)?;
+    }
+    Ok(())
+}
+
+/// Whether the foreign keys assign a term to each variable of the blocks to which they lead.
+fn check_all_assigned(
+    target: &Schema,
+    scopes: &[Scope],
+    clauses: &[(u32, Clause)],
+    keys: &[usize],
+) -> Result<(), ArrowRefusal>
+    ensures accepted { IfOk result (λ _. missing_assigned target.now scopes.now clauses.now keys.now ≡ None) }
+    ensures refused { IfErr result (λ refusal. (refusal ≡ ArrowRefusal.Memory) ⊎ (missing_assigned target.now scopes.now clauses.now keys.now ≡ Some refusal)) }
+{
+    for key in keys {
+        check_assigned(target, scopes, clauses, *key)?;
+    }
+    Ok(())
+}
+
+/// Whether the attributes and foreign keys of an entity are given whole.
+fn check_entity(
+    target: &Schema,
+    scopes: &[Scope],
+    clauses: &[(u32, Clause)],
+    attributes: &Groups,
+    keys: &Groups,
+    entity: usize,
+) -> Result<(), ArrowRefusal>
+    requires attributes { AreGroups (edge_sources target.now.attributes) (length target.now.entities) attributes.now }
+    requires keys { AreGroups (edge_sources target.now.keys) (length target.now.entities) keys.now }
+    requires entity { entity < length target.now.entities }
+    ensures accepted { IfOk result (λ _. missing_at target.now scopes.now clauses.now entity ≡ None) }
+    ensures refused { IfErr result (λ refusal. (refusal ≡ ArrowRefusal.Memory) ⊎ (missing_at target.now scopes.now clauses.now entity ≡ Some refusal)) }
+{
+    let attributes = attributes.of(entity);
+    let keys = keys.of(entity);
+    check_lists(target, scopes, clauses, attributes, keys)
+}
+
+/// Whether these attributes and foreign keys are given whole.
+#[tactic(auto, unfolding(crate::specs::QueryParts::missing_in))]
+fn check_lists(
+    target: &Schema,
+    scopes: &[Scope],
+    clauses: &[(u32, Clause)],
+    attributes: &[usize],
+    keys: &[usize],
+) -> Result<(), ArrowRefusal>
+    ensures accepted { IfOk result (λ _. missing_in target.now scopes.now clauses.now attributes.now keys.now ≡ None) }
+    ensures refused { IfErr result (λ refusal. (refusal ≡ ArrowRefusal.Memory) ⊎ (missing_in target.now scopes.now clauses.now attributes.now keys.now ≡ Some refusal)) }
+{
+    check_attributes(target, clauses, attributes)?;
+    check_keys(target, clauses, keys)?;
+    check_all_assigned(target, scopes, clauses, keys)
+}
+
+/// Whether the attributes and foreign keys of each entity are given whole.
+pub(crate) fn check_missing(
+    target: &Schema,
+    scopes: &[Scope],
+    clauses: &[(u32, Clause)],
+    attributes: &Groups,
+    keys: &Groups,
+) -> Result<(), ArrowRefusal>
+    requires attributes { AreGroups (edge_sources target.now.attributes) (length target.now.entities) attributes.now }
+    requires keys { AreGroups (edge_sources target.now.keys) (length target.now.entities) keys.now }
+    ensures accepted { IfOk result (λ _. missing_part target.now scopes.now clauses.now ≡ None) }
+    ensures refused { IfErr result (λ refusal. (refusal ≡ ArrowRefusal.Memory) ⊎ (missing_part target.now scopes.now clauses.now ≡ Some refusal)) }
+{
+    for entity in 0..target.entities.len() {
+        check_entity(target, scopes, clauses, attributes, keys, entity)?;
+    }
+    Ok(())
+}

@@ -1,0 +1,159 @@
+//! The entities of the blocks.
+ghost use Rattle.std.specs.Prelude.{◌≡◌, ◌-◌, ◌<◌, ◌^◌, ◌⊎◌, ◌++◌, ◌∷◌, [], IfOk, IfErr, Some, None, length, map, option_map, slice_index};
+ghost use Rattle.cq_theory.specs.Resolve.{or_else};
+ghost use Rattle.cq_query.specs.QueryParts.{of_query as refusal_of_query, first_missing, entity_fault as fault_of_entity, entity_named as number_named, block_fault, blocks_fault, block_entities};
+
+use cq_base::{Name, Names};
+use cq_theory::lookup::{declare, entity_of_sort};
+use cq_theory::{ArrowRefusal, Schema, TheoryRefusal};
+use std::alloc::{AllocError, Global};
+
+/// The same refusal, of a query.
+pub(crate) fn of_query(refusal: TheoryRefusal) -> ArrowRefusal
+    ensures { result ≡ refusal_of_query refusal }
+{
+    match refusal {
+        TheoryRefusal::Duplicate(part) => ArrowRefusal::Duplicate(part),
+        TheoryRefusal::Unknown(part) => ArrowRefusal::Unknown(part),
+        TheoryRefusal::WrongCount(part) => ArrowRefusal::WrongCount(part),
+        TheoryRefusal::WrongSort(part) => ArrowRefusal::WrongSort(part),
+        TheoryRefusal::Reserved(part) => ArrowRefusal::Reserved(part),
+        TheoryRefusal::TooLarge(part) => ArrowRefusal::TooLarge(part),
+        TheoryRefusal::Memory => ArrowRefusal::Memory,
+    }
+}
+
+/// That this name has no part, or want of memory.
+pub(crate) fn missing(name: &Name) -> ArrowRefusal
+    ensures { (result ≡ ArrowRefusal.Memory) ⊎ (result ≡ ArrowRefusal.Missing name.now) }
+{
+    match name.clone() {
+        Ok(name) => ArrowRefusal::Missing(name),
+        Err(_) => ArrowRefusal::Memory,
+    }
+}
+
+/// Whether each name is given. Otherwise the first one that isn't.
+fn check_given(given: &Names, names: &[Name]) -> Result<(), ArrowRefusal>
+    ensures accepted { IfOk result (λ _. first_missing given.now names.now ≡ None) }
+    ensures refused { IfErr result (λ refusal. (refusal ≡ ArrowRefusal.Memory) ⊎ (first_missing given.now names.now ≡ Some refusal)) }
+{
+    for name in names {
+        if given.find(name).is_none() {
+            return Err(missing(name));
+        }
+    }
+    Ok(())
+}
+
+/// The fault of a part with a name that is none of an entity.
+pub(crate) fn entity_fault(schema: &Schema, part: u32, name: &Name) -> Option<TheoryRefusal>
+    ensures { result ≡ fault_of_entity schema.now part name.now }
+{
+    let sort = schema.find_sort(name);
+    if sort.is_none() {
+        return Some(TheoryRefusal::Unknown(part));
+    }
+    if entity_of_sort(sort).is_none() {
+        return Some(TheoryRefusal::WrongSort(part));
+    }
+    None
+}
+
+/// The entity of a name, where there is one.
+pub(crate) fn entity_named(schema: &Schema, name: &Name) -> u32
+    ensures { result ≡ number_named schema.now name.now }
+{
+    match entity_of_sort(schema.find_sort(name)) {
+        Some(entity) => entity,
+        None => 0,
+    }
+}
+
+/// The entity of a block.
+pub(crate) fn entity_at(entities: &[u32], block: u32) -> u32
+    ensures { result ≡ slice_index entities.now block }
+{
+    match entities.get(block as usize) {
+        Some(entity) => *entity,
+        None => 0,
+    }
+}
+
+/// Adds the entity of a block to the table of those that have one.
+fn add_block(
+    target: &Schema,
+    table: &mut Names,
+    part: u32,
+    name: &Name,
+) -> Result<(), TheoryRefusal>
+    requires { length table.old < 2 ^ 32 - 1 }
+    ensures ok { IfOk result (λ _. (block_fault target.now table.old part name.now ≡ None) × (table.new ≡ table.old ++ name.now ∷ [])) }
+    ensures refused { IfErr result (λ refusal. (refusal ≡ TheoryRefusal.Memory) ⊎ (block_fault target.now table.old part name.now ≡ Some refusal)) }
+{
+    declare(table, part, name)?;
+    match entity_fault(target, part, name) {
+        Some(refusal) => Err(refusal),
+        None => Ok(()),
+    }
+}
+
+/// The table of the entities that have a block.
+fn add_blocks(alloc: Global, target: &Schema, names: &[Name]) -> Result<Names, TheoryRefusal>
+    requires { length names.now < 2 ^ 32 }
+    ensures accepted { IfOk result (λ _. blocks_fault target.now names.now ≡ None) }
+    ensures made { IfOk result (λ table. table ≡ names.now) }
+    ensures refused { IfErr result (λ refusal. (refusal ≡ TheoryRefusal.Memory) ⊎ (blocks_fault target.now names.now ≡ Some refusal)) }
+{
+    let mut table = Names::new(alloc);
+    let mut part = 0;
+    for name in names {
+        add_block(target, &mut table, part, name)?;
+        part += 1;
+    }
+    Ok(table)
+}
+
+fn build_entities(alloc: Global, target: &Schema, names: &[Name]) -> Result<Vec<u32>, AllocError>
+    ensures { IfOk result (λ entities. entities.items ≡ block_entities target.now names.now) }
+{
+    let mut entities = Vec::new(alloc);
+    for name in names {
+        entities.push(entity_named(target, name))?;
+    }
+    Ok(entities)
+}
+
+/// The entity of each block, by the names of these entities.
+pub(crate) fn make_entities(
+    alloc: Global,
+    target: &Schema,
+    names: &[Name],
+) -> Result<Vec<u32>, ArrowRefusal>
+    requires { length names.now < 2 ^ 32 }
+    ensures accepted { IfOk result (λ _. (blocks_fault target.now names.now ≡ None) × (first_missing names.now target.now.entities ≡ None)) }
+    ensures made { IfOk result (λ entities. entities.items ≡ block_entities target.now names.now) }
+    ensures refused { IfErr result (λ refusal. (refusal ≡ ArrowRefusal.Memory) ⊎ (or_else (option_map refusal_of_query (blocks_fault target.now names.now)) (first_missing names.now target.now.entities) ≡ Some refusal)) }
+{
+    match add_blocks(alloc, target, names) {
+        Ok(given) => finish_entities(alloc, target, &given, names),
+        Err(refusal) => Err(of_query(refusal)),
+    }
+}
+
+fn finish_entities(
+    alloc: Global,
+    target: &Schema,
+    given: &Names,
+    names: &[Name],
+) -> Result<Vec<u32>, ArrowRefusal>
+    ensures accepted { IfOk result (λ _. first_missing given.now target.now.entities ≡ None) }
+    ensures made { IfOk result (λ entities. entities.items ≡ block_entities target.now names.now) }
+    ensures refused { IfErr result (λ refusal. (refusal ≡ ArrowRefusal.Memory) ⊎ (first_missing given.now target.now.entities ≡ Some refusal)) }
+{
+    check_given(given, target.entities.as_slice())?;
+    match build_entities(alloc, target, names) {
+        Ok(entities) => Ok(entities),
+        Err(_) => Err(ArrowRefusal::Memory),
+    }
+}
