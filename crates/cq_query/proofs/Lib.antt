@@ -7,3 +7,4 @@ pub mod Grouping
 pub mod Parted
 pub mod MadeQueries
 pub mod NewQueries
+pub mod Copying

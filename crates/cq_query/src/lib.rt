@@ -3,6 +3,7 @@
 
 mod blocks;
 mod clauses;
+mod coeval;
 mod copies;
 mod duties;
 mod groups;
@@ -13,9 +14,12 @@ mod owners;
 pub mod parts;
 mod puts;
 pub mod query;
+mod rows;
 mod scopes;
+mod sorts;
 mod tables;
 mod translation;
+mod values;
 
 pub use parts::{Clause, QueryParts};
 pub use query::{Block, Query};

@@ -1,0 +1,14 @@
+use Rattle.std.proofs.Common.{◌+◌, ◌<◌, ◌≤◌, inr, length, refl, arith}
+use Rattle.cq_query.specs.Coeval.{null_start}
+use Rattle.cq_query.proofs.Copying.{many_generators, checked}
+use Rattle.cq_query.proofs.coeval.coeval_from.Goals as goal
+
+pub returns-then-nulls-first-clause-refused : goal.returns-then-nulls-first-clause-refused
+returns-then-nulls-first-clause-refused c =
+    let many : 16000000 < null_start c.args.query.now c.args.sheet.now.counts + length c.args.algebra.now.nulls = omega (arith, c.if-nulls-first.true, c.len-nulls.ensures, c.requires.first, c.requires.small) in
+    inr (refl, many_generators c.args.query.now (record { sheet = c.args.sheet.now; algebra = c.args.algebra.now }) many)
+
+pub returns-in-Ok-clause-accepted : goal.returns-in-Ok-clause-accepted
+returns-in-Ok-clause-accepted c =
+    let few : null_start c.args.query.now c.args.sheet.now.counts + length c.args.algebra.now.nulls ≤ 16000000 = omega (arith, c.if-nulls-first.false, c.len-nulls.ensures, c.requires.first, c.requires.small) in
+    checked c.args.query.now (record { sheet = c.args.sheet.now; algebra = c.args.algebra.now }) c.check_size.result c.in-Ok.made c.in-Ok.ensures few c.check_size.ensures.ok

@@ -1,0 +1,8 @@
+use Rattle.std.proofs.Common.{◌≡◌, ◌++◌, map, take}
+use Rattle.cq_query.specs.Groups.{positions}
+use Rattle.cq_query.specs.Translation.{attribute_sources}
+use Rattle.cq_query.specs.Coeval.{cell_equation}
+use Rattle.cq_query.proofs.rows.push_row_cells.Given as goal
+
+abbrev pub invariant-loop-attribute : goal.invariant-loop-attribute
+invariant-loop-attribute l = l.made.items ≡ l.initial.made.items ++ map (cell_equation l.query l.sheet l.nulls l.entity l.row) (take l.attribute-index (positions (attribute_sources l.query) l.entity))

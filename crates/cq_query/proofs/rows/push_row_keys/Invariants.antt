@@ -1,0 +1,10 @@
+use Rattle.std.proofs.Common.{◌≡◌, ◌++◌, take}
+use Rattle.std.specs.List.{flat_map}
+use Rattle.cq_theory.specs.Canonical.{below}
+use Rattle.cq_query.specs.Groups.{positions}
+use Rattle.cq_query.specs.Translation.{key_sources}
+use Rattle.cq_query.specs.Coeval.{key_equations}
+use Rattle.cq_query.proofs.rows.push_row_keys.Given as goal
+
+abbrev pub invariant-loop-key : goal.invariant-loop-key
+invariant-loop-key l = l.made.items ≡ l.initial.made.items ++ flat_map (key_equations l.query l.sheet l.entity l.row) (take l.key-index (positions (key_sources l.query) l.entity))

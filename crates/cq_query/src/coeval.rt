@@ -1,0 +1,212 @@
+//! The presentation of coeval.
+ghost use Rattle.std.specs.Prelude.{ℕ, ◌≡◌, ◌+◌, ◌*◌, ◌++◌, ◌∷◌, ◌<◌, ◌≤◌, ◌^◌, ◌⊎◌, ◌||◌, [], true, false, IfOk, IfErr, OnOk, MatchOption, length, map, sum, nat_lt};
+ghost use Rattle.std.specs.List.{list_any};
+ghost use Rattle.cq_theory.specs.EntTerm as ent;
+ghost use Rattle.cq_theory.specs.TypeTerm.{symbols_of};
+ghost use Rattle.cq_theory.specs.Tables.{Tables, IsWellFormed};
+ghost use Rattle.cq_query.specs.Coeval.{start_of, size_of, starts as starts_of, null_start, is_large as large, is_oversized, coeval_of};
+
+use crate::query::Query;
+use crate::rows::push_rows;
+use crate::sorts::{build_generators, count_at};
+use crate::values::push_entries;
+use cq_base::Seq;
+use cq_theory::{Algebra, EntTerm, Equation, Presentation, Sheet, SizeRefusal, TypeTerm};
+use std::alloc::{AllocError, Global};
+
+/// The most generators of a presentation.
+const MOST_GENERATORS: u32 = 16_000_000;
+
+impl Query {
+    /// The presentation of coeval, over tables of the target: a generator for each row and each variable of its block, and then
+    /// one for each null; the where equations on each row's generators, and what the foreign keys and the attributes of the row
+    /// say of them; then the entries. `TooLarge` is answered exactly where a term would have over 1,024 symbols or there would
+    /// be over 16,000,000 generators, and `Memory` for want of memory.
+    pub fn coeval_presentation(
+        &self,
+        alloc: Global,
+        sheet: &Sheet,
+        algebra: &Algebra,
+    ) -> Result<Presentation, SizeRefusal>
+        requires { IsWellFormed self.now.target (record { sheet = sheet.now; algebra = algebra.now }) }
+        ensures accepted { IfOk result (λ _. is_oversized (coeval_of self.now (record { sheet = sheet.now; algebra = algebra.now })) ≡ false) }
+        ensures made { IfOk result (λ made. made ≡ coeval_of self.now (record { sheet = sheet.now; algebra = algebra.now })) }
+        ensures refused { IfErr result (λ refusal. (refusal ≡ SizeRefusal.Memory) ⊎ ((refusal ≡ SizeRefusal.TooLarge) × (is_oversized (coeval_of self.now (record { sheet = sheet.now; algebra = algebra.now })) ≡ true))) }
+    {
+        match find_starts(alloc, self, sheet.counts.as_slice()) {
+            Ok((starts, first)) => {
+                coeval_from(alloc, self, sheet, algebra, starts.as_slice(), first)
+            }
+            Err(refusal) => Err(refusal),
+        }
+    }
+}
+
+/// The end of the generators of an entity's rows, where those of all rows up to there are not too many.
+fn end_of(start: u32, count: u32, width: u32) -> Option<u32>
+    requires { start ≤ 16000000 }
+    ensures { MatchOption result (16000000 < start + count * width) (λ end. (end ≡ start + count * width) × (end ≤ 16000000)) }
+{
+    let size = count as u64 * width as u64;
+    if size > (MOST_GENERATORS - start) as u64 {
+        None
+    } else {
+        Some(start + size as u32)
+    }
+}
+
+fn push_start(starts: &mut Vec<u32>, start: u32) -> Result<(), SizeRefusal>
+    ensures ok { OnOk result (starts.new.items ≡ starts.old.items ++ start ∷ []) }
+    ensures memory { IfErr result (λ refusal. refusal ≡ SizeRefusal.Memory) }
+{
+    match starts.push(start) {
+        Ok(()) => Ok(()),
+        Err(_) => Err(SizeRefusal::Memory),
+    }
+}
+
+/// The first generator of each entity's rows, and that of the nulls.
+fn find_starts(alloc: Global, query: &Query, counts: &[u32]) -> Result<(Vec<u32>, u32), SizeRefusal>
+    ensures small { IfOk result (λ _. null_start query.now counts.now ≤ 16000000) }
+    ensures made { IfOk result (λ made. (made.0.items ≡ starts_of query.now counts.now) × (made.1 ≡ null_start query.now counts.now)) }
+    ensures refused { IfErr result (λ refusal. (refusal ≡ SizeRefusal.Memory) ⊎ ((refusal ≡ SizeRefusal.TooLarge) × (16000000 < null_start query.now counts.now))) }
+{
+    let mut starts = Vec::new(alloc);
+    let mut total = 0;
+    for entity in 0..query.target.entities.len() {
+        push_start(&mut starts, total)?;
+        let count = count_at(counts, entity);
+        let Some(end) = end_of(total, count, query.variable_count(entity)) else {
+            return Err(SizeRefusal::TooLarge);
+        };
+        total = end;
+    }
+    Ok((starts, total))
+}
+
+/// The presentation, where the generators of the rows are not too many.
+fn coeval_from(
+    alloc: Global,
+    query: &Query,
+    sheet: &Sheet,
+    algebra: &Algebra,
+    starts: &[u32],
+    first: u32,
+) -> Result<Presentation, SizeRefusal>
+    requires starts { starts.now ≡ starts_of query.now sheet.now.counts }
+    requires first { first ≡ null_start query.now sheet.now.counts }
+    requires small { first ≤ 16000000 }
+    ensures accepted { IfOk result (λ _. is_oversized (coeval_of query.now (record { sheet = sheet.now; algebra = algebra.now })) ≡ false) }
+    ensures made { IfOk result (λ made. made ≡ coeval_of query.now (record { sheet = sheet.now; algebra = algebra.now })) }
+    ensures refused { IfErr result (λ refusal. (refusal ≡ SizeRefusal.Memory) ⊎ ((refusal ≡ SizeRefusal.TooLarge) × (is_oversized (coeval_of query.now (record { sheet = sheet.now; algebra = algebra.now })) ≡ true))) }
+{
+    let nulls = algebra.nulls.len();
+    if nulls > (MOST_GENERATORS - first) as usize {
+        return Err(SizeRefusal::TooLarge);
+    }
+    match build_coeval(alloc, query, sheet, algebra, starts, first, nulls as u32) {
+        Ok(made) => check_size(made),
+        Err(_) => Err(SizeRefusal::Memory),
+    }
+}
+
+fn build_coeval(
+    alloc: Global,
+    query: &Query,
+    sheet: &Sheet,
+    algebra: &Algebra,
+    starts: &[u32],
+    first: u32,
+    nulls: u32,
+) -> Result<Presentation, AllocError>
+    requires starts { starts.now ≡ starts_of query.now sheet.now.counts }
+    requires first { first ≡ null_start query.now sheet.now.counts }
+    requires nulls { nulls ≡ length algebra.now.nulls }
+    requires small { first + nulls ≤ 16000000 }
+    ensures { IfOk result (λ made. made ≡ coeval_of query.now (record { sheet = sheet.now; algebra = algebra.now })) }
+{
+    let generators = build_generators(
+        alloc,
+        query,
+        sheet.counts.as_slice(),
+        algebra.nulls.as_slice(),
+    )?;
+    let mut equations = Vec::new(alloc);
+    push_rows(alloc, query, sheet, starts, first, nulls, &mut equations)?;
+    push_entries(
+        alloc,
+        first,
+        nulls,
+        algebra.entries.as_slice(),
+        &mut equations,
+    )?;
+    Ok(Presentation {
+        generators: Seq::from_vec(generators),
+        equations: Seq::from_vec(equations),
+    })
+}
+
+/// The presentation, where its terms are not too large.
+fn check_size(made: Presentation) -> Result<Presentation, SizeRefusal>
+    ensures ok { IfOk result (λ same. (same ≡ made) × (list_any large made.equations ≡ false)) }
+    ensures refused { IfErr result (λ refusal. (refusal ≡ SizeRefusal.TooLarge) × (list_any large made.equations ≡ true)) }
+{
+    if has_large(made.equations.as_slice()) {
+        Err(SizeRefusal::TooLarge)
+    } else {
+        Ok(made)
+    }
+}
+
+/// The room that is left after the symbols of the term, if there is room for them.
+fn room_left(term: &TypeTerm, room: u64) -> Option<u64>
+    ensures { MatchOption result (room < symbols_of term.now) (λ left. symbols_of term.now + left ≡ room) }
+{
+    match term {
+        TypeTerm::Gen(_) => room.checked_sub(1),
+        TypeTerm::Const(_) => room.checked_sub(1),
+        TypeTerm::Att(_, at) => {
+            let left = room.checked_sub(2)?;
+            left.checked_sub(at.path.len() as u64)
+        }
+        TypeTerm::Fun(_, args) => {
+            let mut left = room.checked_sub(1)?;
+            for arg in args.as_slice() {
+                left = room_left(arg, left)?;
+            }
+            Some(left)
+        }
+    }
+}
+
+fn is_long_type(term: &TypeTerm) -> bool
+    ensures { result ≡ nat_lt 1024 (symbols_of term.now) }
+{
+    room_left(term, 1024).is_none()
+}
+
+fn is_long_entity(term: &EntTerm) -> bool
+    ensures { result ≡ nat_lt 1024 (ent.symbols_of term.now) }
+{
+    term.path.len() > 1023
+}
+
+fn is_large(equation: &Equation) -> bool
+    ensures { result ≡ large equation.now }
+{
+    match equation {
+        Equation::Ent(left, right) => is_long_entity(left) || is_long_entity(right),
+        Equation::Typ(left, right) => is_long_type(left) || is_long_type(right),
+    }
+}
+
+fn has_large(equations: &[Equation]) -> bool
+    ensures { result ≡ list_any large equations.now }
+{
+    for equation in equations {
+        if is_large(equation) {
+            return true;
+        }
+    }
+    false
+}

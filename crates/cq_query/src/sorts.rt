@@ -1,0 +1,136 @@
+//! The generators of the coeval presentation.
+ghost use Rattle.std.specs.Prelude.{ℕ, ◌≡◌, ◌+◌, ◌++◌, ◌∷◌, ◌<◌, ◌^◌, [], IfOk, OnOk, length, map, codes, decimal, slice_index};
+ghost use Rattle.std.specs.List.{flat_map};
+ghost use Rattle.cq_theory.specs.declared.presentation.Sort.TheVariants.{Plain, Entity};
+ghost use Rattle.cq_theory.specs.Canonical.{below, named};
+ghost use Rattle.cq_query.specs.Coeval.{row_sorts};
+
+use crate::query::Query;
+use cq_base::Name;
+use cq_theory::Sort;
+use itoa::Buffer;
+use std::alloc::{AllocError, Global};
+
+/// Appends the sorts of the generators of a row.
+fn push_row_sorts(vars: &[(Name, u32)], made: &mut Vec<Sort>) -> Result<(), AllocError>
+    ensures { OnOk result (made.new.items ≡ made.old.items ++ map (λ v. Entity v.1) vars.now) }
+{
+    for var in vars {
+        made.push(Sort::Entity(var.1))?;
+    }
+    Ok(())
+}
+
+/// Appends the sorts of the generators of that many rows.
+fn push_rows_sorts(vars: &[(Name, u32)], count: u32, made: &mut Vec<Sort>) -> Result<(), AllocError>
+    ensures { OnOk result (made.new.items ≡ made.old.items ++ flat_map (λ row. map (λ v. Entity v.1) vars.now) (below count)) }
+{
+    for _row in 0..count {
+        push_row_sorts(vars, made)?;
+    }
+    Ok(())
+}
+
+/// Appends the sorts of the generators of an entity's rows.
+fn push_entity_sorts(
+    query: &Query,
+    counts: &[u32],
+    entity: usize,
+    made: &mut Vec<Sort>,
+) -> Result<(), AllocError>
+    ensures { OnOk result (made.new.items ≡ made.old.items ++ row_sorts query.now counts.now entity) }
+{
+    let count = count_at(counts, entity);
+    match query.block(entity) {
+        Some(block) => push_rows_sorts(block.vars.as_slice(), count, made),
+        None => push_rows_sorts(&[], count, made),
+    }
+}
+
+/// How many rows an entity has.
+pub(crate) fn count_at(counts: &[u32], entity: usize) -> u32
+    ensures { result ≡ slice_index counts.now entity }
+{
+    match counts.get(entity) {
+        Some(count) => *count,
+        None => 0,
+    }
+}
+
+/// The sorts of the generators of all rows.
+fn push_all_sorts(query: &Query, counts: &[u32], made: &mut Vec<Sort>) -> Result<(), AllocError>
+    ensures { OnOk result (made.new.items ≡ made.old.items ++ flat_map (row_sorts query.now counts.now) (below (length query.now.target.entities))) }
+{
+    for entity in 0..query.target.entities.len() {
+        push_entity_sorts(query, counts, entity, made)?;
+    }
+    Ok(())
+}
+
+/// Appends the sorts of the nulls.
+fn push_null_sorts(nulls: &[u32], made: &mut Vec<Sort>) -> Result<(), AllocError>
+    ensures { OnOk result (made.new.items ≡ made.old.items ++ map Plain nulls.now) }
+{
+    for null in nulls {
+        made.push(Sort::Plain(*null))?;
+    }
+    Ok(())
+}
+
+/// The name of a generator with a number.
+fn generator_name(alloc: Global, number: u64) -> Result<Name, AllocError>
+    ensures { IfOk result (λ name. name ≡ codes "g" ++ decimal number) }
+{
+    let mut buffer = Buffer::new();
+    let mut text = String::from_str(alloc, "g")?;
+    text.push_str(buffer.format(number))?;
+    match Name::new(alloc, text.as_str()) {
+        Ok(name) => Ok(name),
+        Err(_) => Err(AllocError),
+    }
+}
+
+/// Appends the generator with a number.
+fn push_generator(
+    alloc: Global,
+    number: u64,
+    sort: Sort,
+    made: &mut Vec<(Name, Sort)>,
+) -> Result<(), AllocError>
+    ensures { OnOk result (made.new.items ≡ made.old.items ++ (codes "g" ++ decimal number, sort) ∷ []) }
+{
+    let name = generator_name(alloc, number)?;
+    made.push((name, sort))?;
+    Ok(())
+}
+
+/// The generators of these sorts, named `g1`, `g2` and so on.
+fn name_generators(alloc: Global, sorts: &[Sort]) -> Result<Vec<(Name, Sort)>, AllocError>
+    requires { length sorts.now < 2 ^ 32 }
+    ensures { IfOk result (λ made. made.items ≡ named sorts.now) }
+{
+    let mut made = Vec::new(alloc);
+    let mut number = 1;
+    for sort in sorts {
+        push_generator(alloc, number, *sort, &mut made)?;
+        number += 1;
+    }
+    Ok(made)
+}
+
+/// The generators of the rows and the nulls.
+pub(crate) fn build_generators(
+    alloc: Global,
+    query: &Query,
+    counts: &[u32],
+    nulls: &[u32],
+) -> Result<Vec<(Name, Sort)>, AllocError>
+    requires { length (flat_map (row_sorts query.now counts.now) (below (length query.now.target.entities)) ++ map Plain nulls.now) < 2 ^ 32 }
+    ensures { IfOk result (λ made. made.items ≡ named (flat_map (row_sorts query.now counts.now) (below (length query.now.target.entities)) ++ map Plain nulls.now)) }
+{
+    let mut sorts = Vec::new(alloc);
+    push_all_sorts(query, counts, &mut sorts)?;
+    push_null_sorts(nulls, &mut sorts)?;
+    let made = name_generators(alloc, sorts.as_slice())?;
+    Ok(made)
+}
