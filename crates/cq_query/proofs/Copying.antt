@@ -1,6 +1,6 @@
 -- The generators and the equations of the coeval presentation, one step at a time.
-use Rattle.std.proofs.Common.{ℕ, zero, suc, Bool, true, false, List, [], ◌∷◌, ◌++◌, Option, Some, None, ◌≡◌, ◌<◌, ◌≤◌, ◌+◌, ◌-◌, ◌*◌, ◌||◌, ◌⊎◌, inl, inr, Result, Ok, Err, IfOk, if◌then◌else◌, map, take, length, get_or, refl, sym, ap, subst, ◌∙◌, append_assoc, arith}
-use Rattle.std.specs.Prelude.{slice_get, slice_index, nat_lt, sum, codes, decimal}
+use Rattle.std.proofs.Common.{ℕ, zero, suc, true, false, List, [], ◌∷◌, ◌++◌, Some, ◌≡◌, ◌<◌, ◌≤◌, ◌+◌, ◌-◌, ◌*◌, ◌||◌, ◌⊎◌, inl, inr, Result, Ok, Err, IfOk, map, take, length, get_or, sym, ap, subst, ◌∙◌, append_assoc, arith}
+use Rattle.std.specs.Prelude.{slice_get, slice_index, nat_lt, codes, decimal}
 use Rattle.std.specs.List.{sum_by, list_any}
 use Rattle.std.proofs.lemmas.List.{length-append, length-map}
 use Rattle.std.proofs.lemmas.List.Concat.{length-flat_map}
@@ -96,12 +96,12 @@ row_fits start row count width within small =
     let whole : suc row * width ≤ count * width = mul-le-mul_right width (let next : suc row ≤ count = omega arith in next) in
     omega (arith, whole, suc-mul row width)
 
-const_sum : (w s c : ℕ) → sum_by (λ (_ : ℕ). w) (range_with_len s c) ≡ c * w
+pub const_sum : (w s c : ℕ) → sum_by (λ (_ : ℕ). w) (range_with_len s c) ≡ c * w
 const_sum w s zero = omega (arith, zero-mul w)
 const_sum w s (suc c) = omega (arith, sum_by-cons (λ (_ : ℕ). w) s (range_with_len (s + 1) c), const_sum w (s + 1) c, suc-mul c w)
 
 module _ (Q : Query) (M : Tables) where
-  rows_size : (e : ℕ) → length (row_sorts Q M.sheet.counts e) ≡ size_of Q M.sheet.counts e
+  pub rows_size : (e : ℕ) → length (row_sorts Q M.sheet.counts e) ≡ size_of Q M.sheet.counts e
   rows_size e =
       length-flat_map (λ (row : ℕ). map (λ (v : Name × ℕ). Entity v.1) (variables_at Q e)) (below (slice_index M.sheet.counts e))
       ∙ ap (λ w. sum_by (λ (_ : ℕ). w) (below (slice_index M.sheet.counts e))) (length-map (variables_at Q e) (λ (v : Name × ℕ). Entity v.1))
@@ -110,13 +110,16 @@ module _ (Q : Query) (M : Tables) where
   abbrev sorts : List Sort
   sorts = flat_map (row_sorts Q M.sheet.counts) (below (length Q.target.entities)) ++ map Plain M.algebra.nulls
 
+  -- how many generators the rows have
+  pub rows_count : length (flat_map (row_sorts Q M.sheet.counts) (below (length Q.target.entities))) ≡ null_start Q M.sheet.counts
+  rows_count =
+      length-flat_map (row_sorts Q M.sheet.counts) (below (length Q.target.entities)) ∙ (λ i. sum_by (λ e. rows_size e i) (below (length Q.target.entities)))
+      ∙ sym (sum-map (size_of Q M.sheet.counts) (below (length Q.target.entities)))
+
   -- how many generators there are
   pub sorts_count : length sorts ≡ null_start Q M.sheet.counts + length M.algebra.nulls
   sorts_count =
-      let n : ℕ = length Q.target.entities in
-      let rows : length (flat_map (row_sorts Q M.sheet.counts) (below n)) ≡ null_start Q M.sheet.counts =
-      length-flat_map (row_sorts Q M.sheet.counts) (below n) ∙ (λ i. sum_by (λ e. rows_size e i) (below n)) ∙ sym (sum-map (size_of Q M.sheet.counts) (below n)) in
-      omega (arith, rows, length-append (flat_map (row_sorts Q M.sheet.counts) (below n)) (map Plain M.algebra.nulls), length-map M.algebra.nulls Plain)
+      omega (arith, rows_count, length-append (flat_map (row_sorts Q M.sheet.counts) (below (length Q.target.entities))) (map Plain M.algebra.nulls), length-map M.algebra.nulls Plain)
 
   generators_count : length (coeval_of Q M).generators ≡ null_start Q M.sheet.counts + length M.algebra.nulls
   generators_count = length-map (enumerate_from 1 sorts) generator_at ∙ length-enumerate_from 1 sorts ∙ sorts_count

@@ -1,6 +1,6 @@
 -- What begins at each entity of a schema begins at an entity of the schema.
-use Rattle.std.proofs.Common.{ℕ, List, Some, ◌≡◌, ◌<◌, map, length, get_or, sym, ap, subst, ◌∙◌}
-use Rattle.std.specs.Prelude.{All, slice_get}
+use Rattle.std.proofs.Common.{ℕ, List, ◌≡◌, ◌<◌, length, get_or, sym, ap, subst}
+use Rattle.std.specs.Prelude.{All}
 use Rattle.std.proofs.lemmas.List.Elements.{All-map}
 use Rattle.std.proofs.lemmas.Option.{slice_get-get_or}
 use Rattle.cq_theory.specs.declared.schema.Edge.{Edge}

@@ -8,3 +8,4 @@ pub mod Parted
 pub mod MadeQueries
 pub mod NewQueries
 pub mod Copying
+pub mod CopiedPresentations

@@ -1,7 +1,7 @@
 -- Parts without faults give a query.
-use Rattle.std.proofs.Common.{ℕ, zero, suc, Bool, true, false, not, List, [], ◌∷◌, ◌++◌, Option, Some, None, ◌≡◌, ◌<◌, ◌≤◌, ◌+◌, ◌==◌, ◌&&◌, ◌||◌, ◌⊎◌, inl, inr, if◌then◌else◌, map, length, refl, sym, ap, subst, ◌∙◌, arith, eq-eqb}
-use Rattle.std.specs.Prelude.{All, slice_get, slice_index, is_none, cond, option_map, option_and_then}
-use Rattle.std.specs.List.{flat_map, list_any, IsDistinct}
+use Rattle.std.proofs.Common.{ℕ, zero, suc, Bool, true, false, List, [], Option, Some, None, ◌≡◌, ◌<◌, ◌≤◌, ◌==◌, ◌&&◌, inl, inr, if◌then◌else◌, map, length, refl, sym, ap, subst, ◌∙◌, arith, eq-eqb}
+use Rattle.std.specs.Prelude.{slice_get, slice_index, is_none, cond, option_map, option_and_then}
+use Rattle.std.specs.List.{list_any, IsDistinct}
 use Rattle.std.specs.Cmp.Lexicographic.{same_text}
 use Rattle.std.proofs.lemmas.Bool.{cases_eq, ne_eqb, and_parts, eqb-true}
 use Rattle.std.proofs.lemmas.List.{length-map}
@@ -15,10 +15,8 @@ use Rattle.cq_theory.specs.declared.lookup.Symbol.{Symbol}
 use Rattle.cq_theory.specs.declared.lookup.Symbol.TheVariants as symbol
 use Rattle.cq_theory.specs.declared.lookup.TermRefusal.{TermRefusal}
 use Rattle.cq_theory.specs.declared.lookup.TermRefusal.TheVariants.{Unknown, WrongCount, WrongSort, TooLarge}
-use Rattle.cq_theory.specs.declared.lookup.TheoryRefusal.{TheoryRefusal}
 use Rattle.cq_theory.specs.declared.lookup.TheoryRefusal.TheVariants as theory_refusal
-use Rattle.cq_theory.specs.declared.lookup.ArrowRefusal.{ArrowRefusal}
-use Rattle.cq_theory.specs.declared.lookup.ArrowRefusal.TheVariants.{Missing, Memory}
+use Rattle.cq_theory.specs.declared.lookup.ArrowRefusal.TheVariants.{Missing}
 use Rattle.cq_theory.specs.declared.presentation.Equation.{Equation}
 use Rattle.cq_theory.specs.declared.presentation.Presentation.{Presentation}
 use Rattle.cq_theory.specs.declared.presentation.Sort.{Sort}
@@ -29,7 +27,6 @@ use Rattle.cq_theory.specs.declared.term.TypeTerm.{TypeTerm}
 use Rattle.cq_theory.specs.declared.term.Term.{Term}
 use Rattle.cq_theory.specs.declared.term.Term.TheVariants.{Ent, Typ}
 use Rattle.cq_theory.specs.EntTerm as ent
-use Rattle.cq_theory.specs.TypeTerm as typ
 use Rattle.cq_theory.specs.SchemaData.{SchemaData as Schema}
 use Rattle.cq_theory.specs.Schema.{IsSchema}
 use Rattle.cq_theory.specs.Sorts.{entity_of, type_of, sort_of}
@@ -52,7 +49,7 @@ use Rattle.cq_query.specs.Groups.{positions, place_of, places}
 use Rattle.cq_query.specs.Translation.{edge_sources, variables_at, tests_at, found_term, found_terms, variables_in as variables_of, tests_in as tests_of}
 use Rattle.cq_query.specs.Duties.{frozen}
 use Rattle.cq_query.specs.IsQuery.{IsQuery, IsAttributeTerm, AreKeyTerms}
-use Rattle.cq_query.specs.QueryParts.{first_of, first_fault_after, variables_in, scopes_of, variables_fault, names_of, sorts_of, is_from, is_right_attribute, is_attribute, is_key, attribute_edge, key_edge, variable_sort, target_sort, is_unknown, sort_in, clause_rule, rule_over, rule_in, gives_same, clause_fault, clauses_fault, attribute_given, assigned_given, attribute_in, assigned_in, missing_attribute, missing_variable, missing_variables, missing_attributes, missing_keys, missing_assigned, missing_in, missing_at, missing_part, scope_or_none, type_made, entity_made, test_made, test_in, tests_made, attribute_made, attribute_made_at, key_made, key_made_at, block_in, block_made, blocks_made}
+use Rattle.cq_query.specs.QueryParts.{first_of, variables_in, scopes_of, variables_fault, names_of, sorts_of, is_from, is_right_attribute, is_attribute, is_key, attribute_edge, key_edge, variable_sort, target_sort, clause_rule, rule_over, rule_in, gives_same, clause_fault, clauses_fault, attribute_given, assigned_given, attribute_in, assigned_in, missing_attribute, missing_variable, missing_variables, missing_attributes, missing_keys, missing_assigned, missing_in, missing_at, missing_part, scope_or_none, type_made, entity_made, test_made, test_in, tests_made, attribute_made, attribute_made_at, key_made, key_made_at, block_in, block_made, blocks_made}
 use Rattle.cq_query.proofs.Lists.{made_at}
 use Rattle.cq_query.proofs.SortedDuties.{All_in, all_flat_map}
 use Rattle.cq_query.proofs.Parted.{none_each, some_one, fault_each, variables_whole, variables_sorted, below_at, place_read, number_of-at}

@@ -1,5 +1,5 @@
 -- The constructor of queries, over plain variables: the schemas and the parts are read several times.
-use Rattle.std.proofs.Common.{ℕ, List, [], Option, Some, None, ◌≡◌, ◌<◌, ◌+◌, ◌⊎◌, inl, inr, map, length, refl, sym, ap, subst, ◌∙◌}
+use Rattle.std.proofs.Common.{ℕ, List, [], Option, Some, None, ◌≡◌, ◌<◌, ◌+◌, ◌⊎◌, inl, inr, length, refl, sym, ap, subst, ◌∙◌}
 use Rattle.std.specs.Prelude.{All, option_map}
 use Rattle.std.proofs.lemmas.List.{length-map}
 use Rattle.std.proofs.lemmas.List.Elements.{All-map}
@@ -16,7 +16,6 @@ use Rattle.cq_query.specs.declared.parts.Clause.{Clause}
 use Rattle.cq_query.specs.declared.query.Block.{Block}
 use Rattle.cq_query.specs.declared.groups.Groups.{Groups}
 use Rattle.cq_query.specs.Groups.{AreGroups}
-use Rattle.cq_query.specs.QueryData.{QueryData as Query}
 use Rattle.cq_query.specs.Translation.{edge_sources, path_eq_sources, obs_eq_sources}
 use Rattle.cq_query.specs.IsQuery.{IsQuery}
 use Rattle.cq_query.specs.QueryParts.{of_query, block_fault, blocks_fault, block_entities, entity_named, first_missing, scopes_of, variables_fault, clauses_fault, missing_part, blocks_made, clauses_and_rest_fault, variables_and_rest_fault, query_fault, query_made}

@@ -1,8 +1,8 @@
 -- What parts without faults say: of each part, and of the names of each block. Places of what begins at an entity.
-use Rattle.std.proofs.Common.{ℕ, zero, suc, Bool, true, false, List, [], ◌∷◌, ◌++◌, Option, Some, None, ◌≡◌, ◌<◌, ◌≤◌, ◌+◌, ◌==◌, if◌then◌else◌, inl, inr, map, take, length, refl, sym, ap, subst, ◌∙◌, append_assoc, arith, eq-eqb}
+use Rattle.std.proofs.Common.{ℕ, zero, suc, Bool, true, false, List, [], ◌∷◌, ◌++◌, Option, Some, None, ◌≡◌, ◌<◌, ◌≤◌, ◌+◌, ◌==◌, if◌then◌else◌, inl, inr, take, length, refl, sym, ap, subst, ◌∙◌, append_assoc, arith, eq-eqb}
 use Rattle.std.specs.Prelude.{slice_get, slice_index, is_none, nat_le, cond, option_map, position}
-use Rattle.std.specs.List.{flat_map, range_with_len, IsDistinct, AllByRecursion}
-use Rattle.std.specs.Cmp.Lexicographic.{nat_list_eq_equiv, same_text}
+use Rattle.std.specs.List.{range_with_len, IsDistinct, AllByRecursion}
+use Rattle.std.specs.Cmp.Lexicographic.{nat_list_eq_equiv}
 use Rattle.std.proofs.lemmas.Bool.{cases_eq, ne_eqb}
 use Rattle.std.proofs.lemmas.Bool.Decides.{nat_tests}
 use Rattle.std.proofs.lemmas.List.{append-nil, length-append, map-append}
@@ -20,7 +20,7 @@ use Rattle.cq_theory.specs.Resolve.{or_else, sort_named, entity_in}
 use Rattle.cq_theory.specs.Declaring.{number_or_zero}
 use Rattle.cq_theory.proofs.DeclaredParts.{or_else_none, new_name}
 use Rattle.cq_theory.proofs.MadeObservations.{stated_within}
-use Rattle.cq_query.specs.Groups.{positions_from, positions, place_of, places}
+use Rattle.cq_query.specs.Groups.{positions_from, positions, place_of}
 use Rattle.cq_query.specs.QueryParts.{first_of, first_fault_after, entity_fault, entity_named, name_in, names_in, variable_in, variables_in, variable_fault, names_of}
 use Rattle.cq_query.proofs.SortedDuties.{All_in, all_flat_map}
 

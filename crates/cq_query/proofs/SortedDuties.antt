@@ -1,5 +1,5 @@
 -- The duties of a query are well-sorted equations over frozen presentations.
-use Rattle.std.proofs.Common.{ℕ, zero, suc, true, false, List, [], ◌∷◌, ◌++◌, Option, Some, None, ◌≡◌, ◌<◌, ◌+◌, ◌==◌, if◌then◌else◌, inl, inr, map, length, refl, sym, ap, subst, ◌∙◌, arith, eq-eqb}
+use Rattle.std.proofs.Common.{ℕ, zero, suc, List, [], ◌∷◌, ◌++◌, Option, Some, ◌≡◌, ◌<◌, ◌+◌, if◌then◌else◌, inl, inr, map, length, refl, sym, ap, subst, ◌∙◌, arith, eq-eqb}
 use Rattle.std.specs.Prelude.{slice_get, option_map}
 use Rattle.std.specs.List.{flat_map}
 use Rattle.std.proofs.lemmas.Bool.{cases_eq, ne_eqb}
@@ -7,7 +7,6 @@ use Rattle.std.proofs.lemmas.Option.{get_or_from_slice_get, slice_get_within}
 use Rattle.cq_base.specs.declared.name.Name.{Name}
 use Rattle.cq_theory.specs.declared.presentation.Equation.{Equation}
 use Rattle.cq_theory.specs.declared.presentation.Equation.TheVariants.{Ent as EntEquation, Typ as TypEquation}
-use Rattle.cq_theory.specs.declared.presentation.Sort.{Sort}
 use Rattle.cq_theory.specs.declared.presentation.Sort.TheVariants.{Plain, Entity}
 use Rattle.cq_theory.specs.declared.schema.Edge.{Edge}
 use Rattle.cq_theory.specs.declared.schema.PathEq.{PathEq}
@@ -19,7 +18,7 @@ use Rattle.cq_query.specs.QueryData.{QueryData as Query}
 use Rattle.cq_query.specs.Groups.{positions_from, positions}
 use Rattle.cq_query.specs.Puts.{put_equation}
 use Rattle.cq_query.specs.Translation.{key_sources, path_sources, observation_sources, variables_at, tests_at, variable_terms, assigned, along, translated}
-use Rattle.cq_query.specs.Duties.{equal_terms, frozen, key_duties, path_duties, observation_duties, duties}
+use Rattle.cq_query.specs.Duties.{equal_terms, key_duties, path_duties, observation_duties, duties}
 use Rattle.cq_query.specs.IsQuery.{IsQuery}
 use Rattle.cq_query.proofs.Standing.{HasOneSort, Stand, generators_at, put_equation_sorted, assigned_stand, along_stand, translated_sorted, variables_stand}
 
@@ -56,7 +55,7 @@ position_of s (x ∷ xs) e r n h = elim (cases_eq x e) [
 ]
 
 -- the member at a position of e in a list of sources begins at e
-from_position : {X : Type 0} (source : X → ℕ) (xs : List X) (e r n : ℕ) → slice_get (positions (map source xs) e) r ≡ Some n → (x : X) × (slice_get xs n ≡ Some x) × (source x ≡ e)
+pub from_position : {X : Type 0} (source : X → ℕ) (xs : List X) (e r n : ℕ) → slice_get (positions (map source xs) e) r ≡ Some n → (x : X) × (slice_get xs n ≡ Some x) × (source x ≡ e)
 from_position source xs e r n h =
     let p = position_of 0 (map source xs) e r n h in
     let number : p.0 ≡ n = omega (arith, p.1) in
@@ -66,7 +65,7 @@ from_position source xs e r n h =
 
 module _ (Q : Query) (query : IsQuery Q) where
   -- terms that stand for one row, place by place
-  all_equal : (H : Generators) (entity : ℕ) (ts us : List EntTerm) → Stand Q H ts entity → Stand Q H us entity → All_in (HasOneSort Q H) (equal_terms ts us)
+  pub all_equal : (H : Generators) (entity : ℕ) (ts us : List EntTerm) → Stand Q H ts entity → Stand Q H us entity → All_in (HasOneSort Q H) (equal_terms ts us)
   all_equal H entity ts us left right = go ts us (variables_at Q entity) left.count left.each right.each
     where
       go : (xs ys : List EntTerm) (vs : List (Name × ℕ)) → length xs ≡ length vs

@@ -1,10 +1,10 @@
 -- Terms that stand for a row of a target entity, and the sorts of what a query makes of its target.
-use Rattle.std.proofs.Common.{ℕ, zero, suc, Bool, true, List, [], ◌∷◌, ◌++◌, Option, Some, None, ◌≡◌, ◌<◌, ◌≤◌, ◌+◌, ◌==◌, ◌&&◌, if◌then◌else◌, map, length, refl, sym, ap, subst, ◌∙◌, arith}
+use Rattle.std.proofs.Common.{ℕ, zero, suc, Bool, true, List, [], ◌∷◌, Option, Some, None, ◌≡◌, ◌+◌, ◌&&◌, if◌then◌else◌, map, length, refl, sym, ap, subst, ◌∙◌, arith}
 use Rattle.std.specs.Prelude.{slice_get, option_and_then, option_map}
 use Rattle.std.specs.List.{range_with_len}
 use Rattle.std.proofs.lemmas.List.{length-map}
 use Rattle.std.proofs.lemmas.List.FromFn.{length-range_with_len}
-use Rattle.std.proofs.lemmas.Option.{option_and_then_some, slice_get_within}
+use Rattle.std.proofs.lemmas.Option.{option_and_then_some}
 use Rattle.cq_base.specs.declared.name.Name.{Name}
 use Rattle.cq_theory.specs.declared.presentation.Equation.{Equation}
 use Rattle.cq_theory.specs.declared.presentation.Equation.TheVariants.{Ent as EntEquation, Typ as TypEquation}
@@ -13,10 +13,7 @@ use Rattle.cq_theory.specs.declared.presentation.Sort.TheVariants.{Plain, Entity
 use Rattle.cq_theory.specs.declared.schema.Edge.{Edge}
 use Rattle.cq_theory.specs.declared.term.EntTerm.{EntTerm}
 use Rattle.cq_theory.specs.declared.term.TypeTerm.{TypeTerm}
-use Rattle.cq_theory.specs.declared.term.TypeTerm.TheVariants.{Att}
 use Rattle.cq_theory.specs.declared.term.TypeTerm.TheOpen as layer
-use Rattle.cq_theory.specs.declared.term.Term.{Term}
-use Rattle.cq_theory.specs.declared.term.Term.TheVariants.{Ent, Typ}
 use Rattle.cq_theory.specs.EntTerm.{extended}
 use Rattle.cq_theory.specs.Schema.{one_of}
 use Rattle.cq_theory.specs.Sorts.{Generators, followed, target_of, entity_at, type_at, entity_of, is_type, have_types, applied_type, type_of, type_step, sort_of}
@@ -27,10 +24,10 @@ use Rattle.cq_theory.proofs.Closings.{entity_of-extended}
 use Rattle.cq_theory.proofs.Faults.{made_of}
 use Rattle.cq_theory.proofs.ResolvedSorts.{map_some}
 use Rattle.cq_query.specs.QueryData.{QueryData as Query}
-use Rattle.cq_query.specs.Puts.{alone, generators_from, term_or_first, put, put_type, put_type_step, put_equation}
-use Rattle.cq_query.specs.Translation.{variables_at, variable_terms, found_terms, found_term, assigned, attribute_term, terms_or_none, term_or_constant, along, translated, translated_step}
+use Rattle.cq_query.specs.Puts.{alone, term_or_first, put, put_type, put_type_step, put_equation}
+use Rattle.cq_query.specs.Translation.{variables_at, variable_terms, assigned, terms_or_none, term_or_constant, along, translated, translated_step}
 use Rattle.cq_query.specs.Duties.{frozen}
-use Rattle.cq_query.specs.IsQuery.{IsQuery, IsAttributeTerm, AreKeyTerms}
+use Rattle.cq_query.specs.IsQuery.{IsQuery}
 
 -- both sides have one sort over the generators
 abbrev pub HasOneSort : Query → Generators → Equation → Type 0
@@ -214,7 +211,7 @@ module _ (Q : Query) where
             ∙ ap (λ o. applied_type o (map (type_of Q.source H) (map (translated Q terms) ts))) f'.1
             ∙ ap (λ (b : Bool). if b then Some f'.0.result else None) kept ∙ ap (λ n. Some n) f'.3)
 
-  alone_at : (s n k : ℕ) (t : EntTerm) → slice_get (map alone (range_with_len s n)) k ≡ Some t → alone (s + k) ≡ t
+  pub alone_at : (s n k : ℕ) (t : EntTerm) → slice_get (map alone (range_with_len s n)) k ≡ Some t → alone (s + k) ≡ t
   alone_at s zero k t h = cc
   alone_at s (suc n) zero t h = let here : s ≡ s + 0 = omega arith in sym (ap alone here) ∙ (let same : alone s ≡ t = cc in same)
   alone_at s (suc n) (suc k) t h = let there : s + 1 + k ≡ s + suc k = omega arith in sym (ap alone there) ∙ alone_at (s + 1) n k t h

@@ -1,5 +1,5 @@
 -- Answers of a query, and the tables of eval.
-use Rattle.std.specs.Prelude.{ℕ, List, [], ◌∷◌, ◌≡◌, ◌<◌, ◌↔◌, Some, map, length, slice_get, slice_index, slice_index_or}
+use Rattle.std.specs.Prelude.{ℕ, List, [], ◌∷◌, ◌≡◌, ◌<◌, Some, map, length, slice_get, slice_index_or}
 use Rattle.std.specs.List.{flat_map}
 use Rattle.cq_theory.specs.declared.presentation.Equation.{Equation}
 use Rattle.cq_theory.specs.declared.schema.Edge.{Edge}

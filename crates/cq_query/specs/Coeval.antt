@@ -1,7 +1,6 @@
 -- The presentation of coeval: a generator for each row and variable, and the equations that the query makes of the tables.
 use Rattle.std.specs.Prelude.{ℕ, Bool, List, [], ◌++◌, ◌+◌, ◌*◌, ◌||◌, if◌then◌else◌, map, length, sum, Option, Some, None, nat_lt, slice_get, slice_index, slice_index_or}
 use Rattle.std.specs.List.{flat_map, list_any, range_with_len}
-use Rattle.cq_base.specs.declared.name.Name.{Name}
 use Rattle.cq_theory.specs.declared.presentation.Equation.{Equation}
 use Rattle.cq_theory.specs.declared.presentation.Equation.TheVariants.{Ent as EntEquation, Typ as TypEquation}
 use Rattle.cq_theory.specs.declared.presentation.Presentation.{Presentation}

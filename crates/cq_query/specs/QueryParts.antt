@@ -1,5 +1,5 @@
 -- The first fault of the parts of a query, and the query that they give.
-use Rattle.std.specs.Prelude.{ℕ, Bool, true, false, not, List, [], ◌∷◌, ◌++◌, ◌+◌, ◌==◌, ◌&&◌, ◌||◌, if◌then◌else◌, map, length, slice_get, slice_index, Option, Some, None, is_none, is_some, nat_le, option_map, option_and_then}
+use Rattle.std.specs.Prelude.{ℕ, Bool, false, not, List, [], ◌∷◌, ◌++◌, ◌+◌, ◌==◌, ◌&&◌, ◌||◌, if◌then◌else◌, map, length, slice_get, slice_index, Option, Some, None, is_none, nat_le, option_map, option_and_then}
 use Rattle.std.specs.List.{flat_map, list_any}
 use Rattle.cq_base.specs.declared.name.Name.{Name}
 use Rattle.cq_base.specs.declared.raw.Raw.{Raw}

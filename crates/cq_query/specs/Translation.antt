@@ -12,7 +12,7 @@ use Rattle.cq_theory.specs.declared.term.TypeTerm.TheOpen.{TypeTerm-F, Gen, Cons
 use Rattle.cq_theory.specs.declared.term.TypeTerm.TheFolds.{fold-TypeTerm}
 use Rattle.cq_query.specs.declared.query.Block.{Block}
 use Rattle.cq_query.specs.QueryData.{QueryData as Query}
-use Rattle.cq_query.specs.Groups.{positions, places}
+use Rattle.cq_query.specs.Groups.{places}
 use Rattle.cq_query.specs.Puts.{put, put_type, generators_from}
 
 -- the entities at which edges and equations begin

@@ -3,6 +3,7 @@ ghost use Rattle.std.specs.Prelude.{ℕ, ◌≡◌, ◌+◌, ◌*◌, ◌++◌, 
 ghost use Rattle.std.specs.List.{list_any};
 ghost use Rattle.cq_theory.specs.EntTerm as ent;
 ghost use Rattle.cq_theory.specs.TypeTerm.{symbols_of};
+ghost use Rattle.cq_theory.specs.Presentation.{IsPresentation};
 ghost use Rattle.cq_theory.specs.Tables.{Tables, IsWellFormed};
 ghost use Rattle.cq_query.specs.Coeval.{start_of, size_of, starts as starts_of, null_start, is_large as large, is_oversized, coeval_of};
 
@@ -31,8 +32,10 @@ impl Query {
         requires { IsWellFormed self.now.target (record { sheet = sheet.now; algebra = algebra.now }) }
         ensures accepted { IfOk result (λ _. is_oversized (coeval_of self.now (record { sheet = sheet.now; algebra = algebra.now })) ≡ false) }
         ensures made { IfOk result (λ made. made ≡ coeval_of self.now (record { sheet = sheet.now; algebra = algebra.now })) }
+        ensures presentation { IfOk result (λ made. IsPresentation self.now.source made) }
         ensures refused { IfErr result (λ refusal. (refusal ≡ SizeRefusal.Memory) ⊎ ((refusal ≡ SizeRefusal.TooLarge) × (is_oversized (coeval_of self.now (record { sheet = sheet.now; algebra = algebra.now })) ≡ true))) }
     {
+        self.is_well_sorted();
         match find_starts(alloc, self, sheet.counts.as_slice()) {
             Ok((starts, first)) => {
                 coeval_from(alloc, self, sheet, algebra, starts.as_slice(), first)

@@ -1,13 +1,15 @@
 //! Laws of the definitions. Each is the contract of a function that does nothing.
-ghost use Rattle.std.specs.Prelude.{ℕ, ◌≡◌, ◌↔◌, Some, List, slice_get};
+ghost use Rattle.std.specs.Prelude.{ℕ, false, ◌≡◌, ◌↔◌, Some, List, slice_get};
 ghost use Rattle.cq_theory.specs.declared.presentation.Equation.{Equation};
 ghost use Rattle.cq_theory.specs.declared.presentation.Sort.{Sort};
 ghost use Rattle.cq_theory.specs.Derivation.{left_of, right_of};
 ghost use Rattle.cq_theory.specs.Sorts.{sort_of};
-ghost use Rattle.cq_theory.specs.Tables.{Tables};
+ghost use Rattle.cq_theory.specs.Presentation.{IsPresentation};
+ghost use Rattle.cq_theory.specs.Tables.{Tables, IsWellFormed};
 ghost use Rattle.cq_query.specs.QueryData.{QueryData as Query};
 ghost use Rattle.cq_query.specs.IsQuery.{IsQuery};
 ghost use Rattle.cq_query.specs.Duties.{frozen, duties as duties_at};
+ghost use Rattle.cq_query.specs.Coeval.{coeval_of, is_oversized};
 ghost use Rattle.cq_query.specs.Answers.{AreAnswers, IsTuple, MeetsTests, variable_counts};
 
 /// The sides of each duty of a query have one sort over the frozen presentation of its entity.
@@ -21,4 +23,9 @@ pub fn sorts_of_duties()
 pub fn answers()
     ensures { (Q : Query) (M : Tables) (entity : ℕ) (answers : List (List ℕ)) → AreAnswers Q M entity answers → (rows : List ℕ)
         → ((place : ℕ) × (slice_get answers place ≡ Some rows)) ↔ (IsTuple rows (variable_counts Q M entity) × MeetsTests Q M entity rows) }
+{}
+
+/// Over tables of the target, the presentation of coeval is a presentation over the source, where it is not too large.
+pub fn coeval_presented()
+    ensures { (Q : Query) → IsQuery Q → (M : Tables) → IsWellFormed Q.target M → is_oversized (coeval_of Q M) ≡ false → IsPresentation Q.source (coeval_of Q M) }
 {}

@@ -1,4 +1,4 @@
-use Rattle.std.proofs.Common.{◌≡◌, sym, ap, ◌∙◌}
+use Rattle.std.proofs.Common.{sym, ap, ◌∙◌}
 use Rattle.cq_query.specs.QueryParts.{clause_rule}
 use Rattle.cq_query.proofs.clauses.rule_with.Goals as goal
 

@@ -1,7 +1,6 @@
-use Rattle.std.proofs.Common.{◌≡◌, ◌+◌, ◌∷◌, [], ◌++◌, sym, ap, ◌∙◌, arith}
-use Rattle.std.specs.List.{range_with_len}
+use Rattle.std.proofs.Common.{◌+◌, ◌∷◌, [], ◌++◌, sym, ◌∙◌, arith}
 use Rattle.std.proofs.lemmas.List.FromFn.{map-range_with_len_more}
-use Rattle.cq_query.specs.Puts.{alone, generators_from}
+use Rattle.cq_query.specs.Puts.{alone}
 use Rattle.cq_query.proofs.puts.generators.Goals as goal
 
 pub loop-number-preserved : goal.loop-number-preserved

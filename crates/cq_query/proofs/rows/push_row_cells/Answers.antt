@@ -1,4 +1,3 @@
-use Rattle.std.proofs.Common.{ℕ}
 use Rattle.cq_query.specs.Coeval.{cell_equation}
 use Rattle.cq_query.proofs.Copying.{mapped_more}
 use Rattle.cq_query.proofs.rows.push_row_cells.Goals as goal

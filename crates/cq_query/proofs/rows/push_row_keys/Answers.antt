@@ -1,4 +1,3 @@
-use Rattle.std.proofs.Common.{ℕ}
 use Rattle.cq_query.specs.Coeval.{key_equations}
 use Rattle.cq_query.proofs.Lists.{pushed_more}
 use Rattle.cq_query.proofs.rows.push_row_keys.Goals as goal

@@ -1,10 +1,9 @@
 use Rattle.std.proofs.lemmas.Grind.{common_steps}
 use Rattle.std.proofs.lemmas.List.FromFn.{length-map-range_with_len}
-use Rattle.std.proofs.Common.{ℕ, ◌≡◌, ◌+◌, ◌⊎◌, Some, inl, inr, length, refl, ap, ◌∙◌, arith, rules}
-use Rattle.cq_theory.specs.declared.lookup.TheoryRefusal.{TheoryRefusal}
+use Rattle.std.proofs.Common.{◌≡◌, ◌⊎◌, Some, length, ap, ◌∙◌, arith, rules}
 use Rattle.cq_theory.specs.declared.lookup.TheoryRefusal.TheVariants.{Memory}
-use Rattle.cq_query.specs.QueryParts.{variable_fault_after, variables_fault}
-use Rattle.cq_query.proofs.Scoping.{inside, tabled_more, refused_here, rest_more, refused_either}
+use Rattle.cq_query.specs.QueryParts.{variables_fault}
+use Rattle.cq_query.proofs.Scoping.{inside, tabled_more, rest_more, refused_either}
 use Rattle.cq_query.proofs.scopes.check_variables.Goals as goal
 
 pub index_mut-requires : goal.index_mut-requires

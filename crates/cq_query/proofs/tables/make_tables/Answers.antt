@@ -1,6 +1,6 @@
-use Rattle.std.proofs.Common.{ℕ, ◌≡◌, length, ap, ◌∙◌}
+use Rattle.std.proofs.Common.{length, ap, ◌∙◌}
 use Rattle.cq_theory.specs.SchemaData.{SchemaData}
-use Rattle.cq_query.specs.Translation.{edge_sources, path_eq_sources, obs_eq_sources}
+use Rattle.cq_query.specs.Translation.{edge_sources}
 use Rattle.cq_query.proofs.Grouping.{keys_within, attributes_within, path_eqs_within, obs_eqs_within, groups_as}
 use Rattle.cq_query.proofs.tables.make_tables.Goals as goal
 

@@ -1,4 +1,4 @@
-use Rattle.std.proofs.Common.{ℕ, ◌<◌, ◌≡◌, length, sym, ap, subst, ◌∙◌}
+use Rattle.std.proofs.Common.{◌<◌, length, sym, ap, subst, ◌∙◌}
 use Rattle.cq_query.specs.QueryData.{QueryData}
 use Rattle.cq_query.specs.Groups.{positions}
 use Rattle.cq_query.specs.Translation.{attribute_sources}

@@ -1,4 +1,4 @@
-use Rattle.std.proofs.Common.{◌≡◌, ◌+◌, ◌<◌, length, ap, subst, ◌∙◌, arith}
+use Rattle.std.proofs.Common.{length, ap, subst, ◌∙◌, arith}
 use Rattle.cq_theory.specs.Schema.{IsSchema}
 use Rattle.cq_query.proofs.NewQueries.{new_entities, new_blocks, new_fault, new_refused, new_made, new_is, keys_at, attributes_at, path_eqs_at, obs_eqs_at}
 use Rattle.cq_query.proofs.query.Query.new.Goals as goal

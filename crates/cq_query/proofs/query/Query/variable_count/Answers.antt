@@ -1,5 +1,4 @@
 use Rattle.std.proofs.Common.{◌≤◌, ◌≡◌, Option, Some, length, subst, sym, arith}
-use Rattle.std.specs.Prelude.{slice_get}
 use Rattle.cq_query.specs.declared.query.Block.{Block}
 use Rattle.cq_query.specs.Translation.{variables_in}
 use Rattle.cq_query.proofs.query.Query.variable_count.Goals as goal
