@@ -18,6 +18,8 @@ mod rows;
 mod scopes;
 mod sorts;
 mod tables;
+#[cfg(test)]
+mod tests;
 mod translation;
 mod values;
 
