@@ -1,4 +1,7 @@
 //! Queries by their parts: the refusals, and what a small query gives.
+mod frozen;
+mod given;
+
 use crate::{Clause, Query, QueryParts};
 use cq_base::{Name, Raw, Seq};
 use cq_theory::{ArrowRefusal, Schema, SchemaParts, Typeside, TypesideParts};
