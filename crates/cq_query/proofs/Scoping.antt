@@ -1,10 +1,10 @@
 -- The variables of each block, part by part.
-use Rattle.std.proofs.Common.{ℕ, suc, Bool, true, false, List, [], ◌∷◌, ◌++◌, Option, Some, None, ◌≡◌, ◌<◌, ◌≤◌, ◌+◌, ◌-◌, ◌==◌, ◌⊎◌, if◌then◌else◌, inl, inr, map, take, drop, length, get_or, slice_set, slice_index, refl, sym, ap, subst, ◌∙◌, arith, eq-eqb}
+use Rattle.std.proofs.Common.{ℕ, suc, Bool, true, false, List, [], ◌∷◌, ◌++◌, Option, Some, None, ◌≡◌, ◌<◌, ◌≤◌, ◌+◌, ◌-◌, ◌^◌, ◌==◌, ◌⊎◌, if◌then◌else◌, inl, inr, map, take, drop, length, get_or, slice_set, slice_index, refl, sym, ap, subst, ◌∙◌, arith, eq-eqb}
 use Rattle.std.specs.Prelude.{All, option_map}
 use Rattle.std.specs.List.{range_with_len}
 use Rattle.std.proofs.lemmas.Bool.{ne_eqb}
-use Rattle.std.proofs.lemmas.List.{append-nil, take_more, drop_more, length-append}
-use Rattle.std.proofs.lemmas.List.FromFn.{get_or-map-range_with_len}
+use Rattle.std.proofs.lemmas.List.{append-nil, take_more, drop_more, length-append, length-map, get_or-map}
+use Rattle.std.proofs.lemmas.List.FromFn.{get_or-map-range_with_len, length-map-range_with_len}
 use Rattle.std.proofs.lemmas.Grind.{flat_map-append}
 use Rattle.cq_base.specs.declared.name.Name.{Name}
 use Rattle.cq_theory.specs.declared.lookup.TheoryRefusal.{TheoryRefusal}
@@ -85,6 +85,15 @@ few_variables S entities e (part ∷ parts) =
     at_most_one : (b : Bool) → length {A = Name × ℕ} (if b then (part.1, entity_named S part.2) ∷ [] else []) ≤ 1
     at_most_one true = omega arith
     at_most_one false = omega arith
+
+-- no list of variables is longer than the list of parts
+pub few_in_each : {X : Type 0} (f : X → List (Name × ℕ)) (lists : List X) (S : Schema) (entities : List ℕ) (count : ℕ) (parts : List (ℕ × Name × Name)) → map f lists ≡ scopes_of S entities count parts → length parts < 2 ^ 32
+    → All (λ list. length (f list) < 2 ^ 32) lists
+few_in_each f lists S entities count parts are few k d h =
+    let size : length lists ≡ count = sym (length-map lists f) ∙ ap length are ∙ length-map-range_with_len (λ e. variables_in S entities e parts) 0 count in
+    let here : f (get_or lists k d) ≡ variables_in S entities k parts =
+    sym (get_or-map f lists k d [] h) ∙ ap (λ l. get_or l k []) are ∙ get_or-map-range_with_len (λ e. variables_in S entities e parts) 0 count k k [] (omega arith) (omega arith) in
+    omega (arith, few, ap length here, few_variables S entities k parts)
 
 -- one step of a search through the numbers below m
 pub first_of-range : {R : Type 0} (f : ℕ → Option R) (i m : ℕ) → i < m → first_of f (range_with_len i (m - i)) ≡ or_else (f i) (first_of f (range_with_len (i + 1) (m - (i + 1))))

@@ -1,9 +1,9 @@
 //! The variables of the blocks.
 ghost use Rattle.std.specs.Prelude.{ℕ, ◌≡◌, ◌+◌, ◌-◌, ◌<◌, ◌^◌, ◌⊎◌, ◌++◌, ◌∷◌, [], All, IfOk, OnOk, IfErr, Some, None, length, map, option_map};
 ghost use Rattle.cq_theory.specs.Canonical.{below};
-ghost use Rattle.cq_query.specs.QueryParts.{of_query as refusal_of_query, names_in, variable_in, variables_in, scopes_of, variable_fault_after, variable_fault, variables_fault, names_of, sorts_of};
+ghost use Rattle.cq_query.specs.QueryParts.{of_query as refusal_of_query, entity_named as number_named, names_in, variables_in, scopes_of, variable_fault_after, variable_fault, variables_fault, names_of, sorts_of};
 
-use crate::owners::{entity_at, entity_fault, entity_named, of_query};
+use crate::owners::{entity_fault, entity_named, of_query};
 use cq_base::{Name, Names, Seq};
 use cq_theory::{ArrowRefusal, Schema, Sort, TheoryRefusal};
 use std::alloc::{AllocError, Global};
@@ -164,52 +164,59 @@ fn check_variables(
     Ok(())
 }
 
-/// Appends the variable of a part, where it stands in the block of the entity.
+/// That many lists without variables.
+fn empty_lists(alloc: Global, count: usize) -> Result<Vec<Vec<(Name, u32)>>, AllocError>
+    ensures { IfOk result (λ lists. map (λ list. list.items) lists.items ≡ map (λ _. []) (below count)) }
+{
+    let mut lists = Vec::new(alloc);
+    for _number in 0..count {
+        lists.push(Vec::new(alloc))?;
+    }
+    Ok(lists)
+}
+
+/// Appends the variable of a part.
 fn push_variable(
     source: &Schema,
-    entities: &[u32],
-    entity: u32,
     part: &(u32, Name, Name),
     made: &mut Vec<(Name, u32)>,
 ) -> Result<(), AllocError>
-    ensures { OnOk result (made.new.items ≡ made.old.items ++ variable_in source.now entities.now entity part.now) }
+    ensures { OnOk result (made.new.items ≡ made.old.items ++ (part.now.1, number_named source.now part.now.2) ∷ []) }
 {
-    if entity_at(entities, part.0) == entity {
-        made.push((part.1.clone()?, entity_named(source, &part.2)))?;
-    }
+    made.push((part.1.clone()?, entity_named(source, &part.2)))?;
     Ok(())
 }
 
-/// The variables in the block of an entity.
+/// The variables in the block of each entity.
 fn build_variables(
     alloc: Global,
     source: &Schema,
     entities: &[u32],
-    entity: u32,
+    count: usize,
     parts: &[(u32, Name, Name)],
-) -> Result<Vec<(Name, u32)>, AllocError>
-    ensures { IfOk result (λ made. made.items ≡ variables_in source.now entities.now entity parts.now) }
+) -> Result<Vec<Vec<(Name, u32)>>, AllocError>
+    requires entities { All (λ entity. entity < count) entities.now }
+    requires blocks { All (λ part. part.0 < length entities.now) parts.now }
+    ensures { IfOk result (λ lists. map (λ list. list.items) lists.items ≡ scopes_of source.now entities.now count parts.now) }
 {
-    let mut made = Vec::new(alloc);
+    let mut lists = empty_lists(alloc, count)?;
     for part in parts {
-        push_variable(source, entities, entity, part, &mut made)?;
+        let entity = entities[part.0 as usize];
+        push_variable(source, part, &mut lists[entity as usize])?;
     }
-    Ok(made)
+    Ok(lists)
 }
 
-fn build_scope(
-    alloc: Global,
-    source: &Schema,
-    entities: &[u32],
-    entity: u32,
-    parts: &[(u32, Name, Name)],
-) -> Result<Scope, AllocError>
-    requires { length parts.now < 2 ^ 32 }
-    ensures { IfOk result (λ scope. scope ≡ variables_in source.now entities.now entity parts.now) }
+/// Each of the lists of variables with its table.
+fn table_variables(alloc: Global, lists: Vec<Vec<(Name, u32)>>) -> Result<Vec<Scope>, AllocError>
+    requires { All (λ list. length list.items < 2 ^ 32) lists.items }
+    ensures { IfOk result (λ scopes. scopes.items ≡ map (λ list. list.items) lists.items) }
 {
-    let vars = build_variables(alloc, source, entities, entity, parts)?;
-    let scope = Scope::new(alloc, vars)?;
-    Ok(scope)
+    let mut scopes = Vec::new(alloc);
+    for vars in lists {
+        scopes.push(Scope::new(alloc, vars)?)?;
+    }
+    Ok(scopes)
 }
 
 fn build_scopes(
@@ -219,13 +226,13 @@ fn build_scopes(
     count: u32,
     parts: &[(u32, Name, Name)],
 ) -> Result<Vec<Scope>, AllocError>
-    requires { length parts.now < 2 ^ 32 }
+    requires parts { length parts.now < 2 ^ 32 }
+    requires entities { All (λ entity. entity < count) entities.now }
+    requires blocks { All (λ part. part.0 < length entities.now) parts.now }
     ensures { IfOk result (λ scopes. scopes.items ≡ scopes_of source.now entities.now count parts.now) }
 {
-    let mut scopes = Vec::new(alloc);
-    for entity in 0..count {
-        scopes.push(build_scope(alloc, source, entities, entity, parts)?)?;
-    }
+    let lists = build_variables(alloc, source, entities, count as usize, parts)?;
+    let scopes = table_variables(alloc, lists)?;
     Ok(scopes)
 }
 
