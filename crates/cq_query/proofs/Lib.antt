@@ -9,3 +9,4 @@ pub mod MadeQueries
 pub mod NewQueries
 pub mod Copying
 pub mod CopiedPresentations
+pub mod Repeats

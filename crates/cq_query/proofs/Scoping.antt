@@ -17,7 +17,7 @@ use Rattle.cq_query.specs.QueryParts.{of_query, scopes_of, variables_and_rest_fa
 use Rattle.cq_query.proofs.Lists.{set-map_below}
 
 -- one step through the parts
-fault_step : {X : Type 0} (fault : List X → ℕ → X → Option TheoryRefusal) (n i : ℕ) (parts : List X) (part : X) → part ≡ get_or parts i part → i < length parts
+pub fault_step : {X : Type 0} (fault : List X → ℕ → X → Option TheoryRefusal) (n i : ℕ) (parts : List X) (part : X) → part ≡ get_or parts i part → i < length parts
     → first_fault_after fault (take i parts) n (drop i parts) ≡ or_else (fault (take i parts) n part) (first_fault_after fault (take (i + 1) parts) (n + 1) (drop (i + 1) parts))
 fault_step fault n i parts part is within =
     ap (first_fault_after fault (take i parts) n) (drop_more parts i part within)

@@ -7,3 +7,4 @@ pub mod IsQuery
 pub mod Coeval
 pub mod QueryParts
 pub mod Answers
+pub mod Given

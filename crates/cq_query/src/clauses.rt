@@ -4,15 +4,19 @@ ghost use Rattle.std.specs.List.{list_any};
 ghost use Rattle.cq_theory.specs.Resolve.{are_of_one_sort, has_unknown as unknown_in, in_part, raw_sort};
 ghost use Rattle.cq_theory.specs.SchemaData.{SchemaData};
 ghost use Rattle.cq_base.specs.declared.name.Name.{Name};
+ghost use Rattle.cq_query.specs.declared.parts.Clause.{Clause as ClausePart};
 ghost use Rattle.cq_query.specs.declared.parts.Clause.TheVariants as clause;
-ghost use Rattle.cq_query.specs.QueryParts.{of_query as refusal_of_query, least_rule as rule_least, is_from as from_entity, is_right_attribute as right_attribute, attribute_edge as edge_of_attribute, key_edge as edge_of_key, variable_sort as sort_of_variable, target_sort as sort_of_target, clause_rule, rule_over, rule_in, gives_symbol as symbol_given, gives_variable as variable_given, gives_same as same_given, clause_fault, clauses_fault, names_of, sorts_of};
+ghost use Rattle.cq_query.specs.QueryParts.{of_query as refusal_of_query, least_rule as rule_least, is_from as from_entity, is_right_attribute as right_attribute, attribute_edge as edge_of_attribute, key_edge as edge_of_key, variable_sort as sort_of_variable, target_sort as sort_of_target, clause_rule, rule_over, rule_in, gives_same as same_given, clause_fault, clauses_fault, names_of, sorts_of};
 
+use crate::given::add_clause;
 use crate::owners::{entity_at, of_query};
 use crate::parts::Clause;
 use crate::scopes::Scope;
 use cq_base::{Name, Raw};
 use cq_theory::lookup::{has_unknown, has_wrong_count, in_part_of, is_too_large, sort_of_raw};
 use cq_theory::{ArrowRefusal, Edge, Schema, Sort, Symbol, TermRefusal, TheoryRefusal};
+use std::alloc::{AllocError, Global};
+use std::collections::HashSet;
 
 fn have_one_sort(left: Option<Sort>, right: Option<Sort>) -> bool
     ensures { result ≡ are_of_one_sort left right }
@@ -219,65 +223,19 @@ fn rule_of(
     }
 }
 
-fn gives_symbol(name: &Name, part: &Clause) -> bool
-    ensures { result ≡ symbol_given name.now part.now }
-{
-    match part {
-        Clause::Test(_, _) => false,
-        Clause::Att(other, _) => *name == *other,
-        Clause::Key(other) => *name == *other,
-        Clause::Assign(_, _, _) => false,
-    }
-}
-
-fn gives_variable(key: &Name, variable: &Name, part: &Clause) -> bool
-    ensures { result ≡ variable_given key.now variable.now part.now }
-{
-    match part {
-        Clause::Test(_, _) => false,
-        Clause::Att(_, _) => false,
-        Clause::Key(_) => false,
-        Clause::Assign(other, name, _) => *key == *other && *variable == *name,
-    }
-}
-
-/// Whether the second clause gives what the first one gives.
-fn gives_same(part: &Clause, other: &Clause) -> bool
-    ensures { result ≡ same_given part.now other.now }
-{
-    match part {
-        Clause::Test(_, _) => false,
-        Clause::Att(name, _) => gives_symbol(name, other),
-        Clause::Key(name) => gives_symbol(name, other),
-        Clause::Assign(key, variable, _) => gives_variable(key, variable, other),
-    }
-}
-
-/// Whether one of the clauses gives what this one gives.
-fn is_given(earlier: &[(u32, Clause)], part: &Clause) -> bool
-    ensures { result ≡ list_any (λ c. same_given part.now c.1) earlier.now }
-{
-    for other in earlier {
-        if gives_same(part, &other.1) {
-            return true;
-        }
-    }
-    false
-}
-
-/// The fault of clause `number`, after the earlier ones.
+/// The fault of clause `number`, which gives what an earlier one gives or not.
 fn fault_of_clause(
     source: &Schema,
     target: &Schema,
     entities: &[u32],
     scopes: &[Scope],
-    earlier: &[(u32, Clause)],
+    is_given: bool,
     number: u32,
     part: &(u32, Clause),
 ) -> Option<TheoryRefusal>
-    ensures { result ≡ clause_fault source.now target.now entities.now scopes.now earlier.now number part.now }
+    ensures { (earlier : List (ℕ × ClausePart)) → is_given ≡ list_any (λ c. same_given part.now.1 c.1) earlier → result ≡ clause_fault source.now target.now entities.now scopes.now earlier number part.now }
 {
-    if is_given(earlier, &part.1) {
+    if is_given {
         return Some(TheoryRefusal::Duplicate(number));
     }
     let entity = entity_at(entities, part.0);
@@ -289,30 +247,34 @@ fn fault_of_clause(
 
 /// The first fault of the clauses, of which the first is part `first`.
 fn first_clause_fault(
+    alloc: Global,
     source: &Schema,
     target: &Schema,
     entities: &[u32],
     scopes: &[Scope],
     first: u32,
     parts: &[(u32, Clause)],
-) -> Option<TheoryRefusal>
+) -> Result<Option<TheoryRefusal>, AllocError>
     requires { first + length parts.now < 2 ^ 32 }
-    ensures { result ≡ clauses_fault source.now target.now entities.now scopes.now first parts.now }
+    ensures { IfOk result (λ fault. fault ≡ clauses_fault source.now target.now entities.now scopes.now first parts.now) }
 {
+    let mut symbols = HashSet::new(alloc);
+    let mut assigned = HashSet::new(alloc);
     let mut number = first;
-    for (place, part) in parts.iter().enumerate() {
-        let earlier = &parts[..place];
-        let fault = fault_of_clause(source, target, entities, scopes, earlier, number, part);
+    for part in parts {
+        let is_given = add_clause(&mut symbols, &mut assigned, &part.1)?;
+        let fault = fault_of_clause(source, target, entities, scopes, is_given, number, part);
         if fault.is_some() {
-            return fault;
+            return Ok(fault);
         }
         number += 1;
     }
-    None
+    Ok(None)
 }
 
 /// Tests the clauses, of which the first is part `first`.
 pub(crate) fn check_clauses(
+    alloc: Global,
     source: &Schema,
     target: &Schema,
     entities: &[u32],
@@ -322,9 +284,12 @@ pub(crate) fn check_clauses(
 ) -> Result<(), ArrowRefusal>
     requires { first + length parts.now < 2 ^ 32 }
     ensures accepted { IfOk result (λ _. clauses_fault source.now target.now entities.now scopes.now first parts.now ≡ None) }
-    ensures refused { IfErr result (λ refusal. option_map refusal_of_query (clauses_fault source.now target.now entities.now scopes.now first parts.now) ≡ Some refusal) }
+    ensures refused { IfErr result (λ refusal. (refusal ≡ ArrowRefusal.Memory) ⊎ (option_map refusal_of_query (clauses_fault source.now target.now entities.now scopes.now first parts.now) ≡ Some refusal)) }
 {
-    match first_clause_fault(source, target, entities, scopes, first, parts) {
+    let Ok(fault) = first_clause_fault(alloc, source, target, entities, scopes, first, parts) else {
+        return Err(ArrowRefusal::Memory);
+    };
+    match fault {
         Some(refusal) => Err(of_query(refusal)),
         None => Ok(()),
     }

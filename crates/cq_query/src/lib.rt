@@ -6,6 +6,7 @@ mod clauses;
 mod coeval;
 mod copies;
 mod duties;
+mod given;
 mod groups;
 pub mod laws;
 mod making;

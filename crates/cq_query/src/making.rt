@@ -35,7 +35,7 @@ fn finish_blocks(
     ensures obs_eqs { IfOk result (λ made. AreGroups (obs_eq_sources target.now.obs_eqs) (length target.now.entities) made.1.obs_eqs) }
     ensures refused { IfErr result (λ refusal. (refusal ≡ ArrowRefusal.Memory) ⊎ (clauses_and_rest_fault source.now target.now entities.now scopes.now clauses.now first ≡ Some refusal)) }
 {
-    check_clauses(source, target, entities, scopes, first, clauses)?;
+    check_clauses(alloc, source, target, entities, scopes, first, clauses)?;
     let Ok(tables) = make_tables(alloc, target) else {
         return Err(ArrowRefusal::Memory);
     };
