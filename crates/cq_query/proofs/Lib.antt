@@ -10,3 +10,4 @@ pub mod NewQueries
 pub mod Copying
 pub mod CopiedPresentations
 pub mod Repeats
+pub mod Indexing

@@ -8,3 +8,4 @@ pub mod Coeval
 pub mod QueryParts
 pub mod Answers
 pub mod Given
+pub mod Index

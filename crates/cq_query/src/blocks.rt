@@ -5,12 +5,13 @@ ghost use Rattle.cq_theory.specs.Canonical.{below};
 ghost use Rattle.cq_theory.specs.Parts.{equation_of};
 ghost use Rattle.cq_theory.specs.Resolved.{entity_term_in, resolved};
 ghost use Rattle.cq_query.specs.Groups.{positions, AreGroups};
+ghost use Rattle.cq_query.specs.Index.{IsIndex};
 ghost use Rattle.cq_query.specs.Puts.{alone};
 ghost use Rattle.cq_query.specs.Translation.{edge_sources};
 ghost use Rattle.cq_query.specs.QueryParts.{names_of, sorts_of, type_made, entity_made, test_made, test_in, tests_made, scope_or_none, attribute_made, key_made, key_made_at, block_in, block_made, blocks_made, assigned_in};
 
 use crate::groups::Groups;
-use crate::missing::{find_assigned, find_attribute};
+use crate::index::{Index, find_assigned, find_attribute};
 use crate::owners::entity_at;
 use crate::parts::Clause;
 use crate::query::Block;
@@ -161,15 +162,17 @@ fn make_attribute(
     target: &Schema,
     scopes: &[Scope],
     clauses: &[(u32, Clause)],
+    index: &Index,
     attribute: usize,
 ) -> Result<TypeTerm, AllocError>
+    requires index { IsIndex target.now clauses.now index.now }
     ensures { IfOk result (λ made. made ≡ attribute_made source.now target.now scopes.now clauses.now attribute) }
 {
     let Some(edge) = target.attributes.as_slice().get(attribute) else {
         return Ok(TypeTerm::Const(0));
     };
     let scope = scopes.get(edge.from as usize);
-    let raw = find_attribute(target, clauses, attribute);
+    let raw = find_attribute(target, clauses, index, attribute);
     let made = make_type(alloc, source, scope, raw)?;
     Ok(made)
 }
@@ -180,13 +183,15 @@ fn build_attributes(
     target: &Schema,
     scopes: &[Scope],
     clauses: &[(u32, Clause)],
+    index: &Index,
     attributes: &[usize],
 ) -> Result<Vec<TypeTerm>, AllocError>
+    requires index { IsIndex target.now clauses.now index.now }
     ensures { IfOk result (λ made. made.items ≡ map (attribute_made source.now target.now scopes.now clauses.now) attributes.now) }
 {
     let mut made = Vec::new(alloc);
     for attribute in attributes {
-        made.push(make_attribute(alloc, source, target, scopes, clauses, *attribute)?)?;
+        made.push(make_attribute(alloc, source, target, scopes, clauses, index, *attribute)?)?;
     }
     Ok(made)
 }
@@ -198,14 +203,17 @@ fn build_assigned(
     target: &Schema,
     scope: Option<&Scope>,
     clauses: &[(u32, Clause)],
+    index: &Index,
     key: usize,
     vars: &[(Name, u32)],
 ) -> Result<Vec<EntTerm>, AllocError>
+    requires index { IsIndex target.now clauses.now index.now }
+    requires key { key < length target.now.keys }
     ensures { IfOk result (λ made. made.items ≡ map (λ v. entity_made source.now (option_copied scope.entry) (assigned_in target.now clauses.now key v.0)) vars.now) }
 {
     let mut made = Vec::new(alloc);
     for var in vars {
-        let raw = find_assigned(target, clauses, key, &var.0);
+        let raw = find_assigned(target, clauses, index, key, &var.0);
         made.push(make_entity(alloc, source, scope, raw)?)?;
     }
     Ok(made)
@@ -219,12 +227,15 @@ fn build_assigned_to(
     from: Option<&Scope>,
     to: Option<&Scope>,
     clauses: &[(u32, Clause)],
+    index: &Index,
     key: usize,
 ) -> Result<Vec<EntTerm>, AllocError>
+    requires index { IsIndex target.now clauses.now index.now }
+    requires key { key < length target.now.keys }
     ensures { IfOk result (λ made. made.items ≡ map (λ v. entity_made source.now (option_copied from.entry) (assigned_in target.now clauses.now key v.0)) (scope_or_none (option_copied to.entry))) }
 {
     match to {
-        Some(to) => build_assigned(alloc, source, target, from, clauses, key, to.vars()),
+        Some(to) => build_assigned(alloc, source, target, from, clauses, index, key, to.vars()),
         None => Ok(Vec::new(alloc)),
     }
 }
@@ -243,14 +254,17 @@ fn make_key_at(
     target: &Schema,
     scopes: &[Scope],
     clauses: &[(u32, Clause)],
+    index: &Index,
     key: usize,
     edge: &Edge,
 ) -> Result<Vec<EntTerm>, AllocError>
+    requires index { IsIndex target.now clauses.now index.now }
+    requires key { key < length target.now.keys }
     ensures { IfOk result (λ made. made.items ≡ key_made_at source.now target.now scopes.now clauses.now key (Some edge.now)) }
 {
     let from = scope_at(scopes, edge.from);
     let to = scope_at(scopes, edge.to);
-    build_assigned_to(alloc, source, target, from, to, clauses, key)
+    build_assigned_to(alloc, source, target, from, to, clauses, index, key)
 }
 
 fn key_at(target: &Schema, key: usize) -> Option<&Edge>
@@ -266,12 +280,14 @@ fn make_key(
     target: &Schema,
     scopes: &[Scope],
     clauses: &[(u32, Clause)],
+    index: &Index,
     key: usize,
 ) -> Result<Vec<EntTerm>, AllocError>
+    requires index { IsIndex target.now clauses.now index.now }
     ensures { IfOk result (λ made. made.items ≡ key_made source.now target.now scopes.now clauses.now key) }
 {
     match key_at(target, key) {
-        Some(edge) => make_key_at(alloc, source, target, scopes, clauses, key, edge),
+        Some(edge) => make_key_at(alloc, source, target, scopes, clauses, index, key, edge),
         None => Ok(Vec::new(alloc)),
     }
 }
@@ -282,13 +298,15 @@ fn build_keys(
     target: &Schema,
     scopes: &[Scope],
     clauses: &[(u32, Clause)],
+    index: &Index,
     keys: &[usize],
 ) -> Result<Vec<Seq<EntTerm>>, AllocError>
+    requires index { IsIndex target.now clauses.now index.now }
     ensures { IfOk result (λ made. made.items ≡ map (key_made source.now target.now scopes.now clauses.now) keys.now) }
 {
     let mut made = Vec::new(alloc);
     for key in keys {
-        let terms = make_key(alloc, source, target, scopes, clauses, *key)?;
+        let terms = make_key(alloc, source, target, scopes, clauses, index, *key)?;
         made.push(Seq::from_vec(terms))?;
     }
     Ok(made)
@@ -331,16 +349,18 @@ fn make_block(
     entities: &[u32],
     scopes: &[Scope],
     clauses: &[(u32, Clause)],
+    index: &Index,
     attributes: &[usize],
     keys: &[usize],
     entity: usize,
 ) -> Result<Block, AllocError>
-    requires { entity < length scopes.now }
+    requires index { IsIndex target.now clauses.now index.now }
+    requires entity { entity < length scopes.now }
     ensures { IfOk result (λ made. made ≡ block_in source.now target.now entities.now scopes.now clauses.now attributes.now keys.now entity) }
 {
     let (vars, tests) = build_head(alloc, source, entities, scopes, clauses, entity)?;
-    let attributes = build_attributes(alloc, source, target, scopes, clauses, attributes)?;
-    let keys = build_keys(alloc, source, target, scopes, clauses, keys)?;
+    let attributes = build_attributes(alloc, source, target, scopes, clauses, index, attributes)?;
+    let keys = build_keys(alloc, source, target, scopes, clauses, index, keys)?;
     Ok(Block {
         vars: Seq::from_vec(vars),
         tests: Seq::from_vec(tests),
@@ -357,10 +377,12 @@ fn make_block_at(
     entities: &[u32],
     scopes: &[Scope],
     clauses: &[(u32, Clause)],
+    index: &Index,
     attributes: &Groups,
     keys: &Groups,
     entity: usize,
 ) -> Result<Block, AllocError>
+    requires index { IsIndex target.now clauses.now index.now }
     requires attributes { AreGroups (edge_sources target.now.attributes) (length target.now.entities) attributes.now }
     requires keys { AreGroups (edge_sources target.now.keys) (length target.now.entities) keys.now }
     requires scopes { length scopes.now ≡ length target.now.entities }
@@ -370,7 +392,7 @@ fn make_block_at(
     let attributes = attributes.of(entity);
     let keys = keys.of(entity);
     make_block(
-        alloc, source, target, entities, scopes, clauses, attributes, keys, entity,
+        alloc, source, target, entities, scopes, clauses, index, attributes, keys, entity,
     )
 }
 
@@ -382,9 +404,11 @@ pub(crate) fn build_blocks(
     entities: &[u32],
     scopes: &[Scope],
     clauses: &[(u32, Clause)],
+    index: &Index,
     attributes: &Groups,
     keys: &Groups,
 ) -> Result<Vec<Block>, AllocError>
+    requires index { IsIndex target.now clauses.now index.now }
     requires attributes { AreGroups (edge_sources target.now.attributes) (length target.now.entities) attributes.now }
     requires keys { AreGroups (edge_sources target.now.keys) (length target.now.entities) keys.now }
     requires scopes { length scopes.now ≡ length target.now.entities }
@@ -393,7 +417,7 @@ pub(crate) fn build_blocks(
     let mut made = Vec::new(alloc);
     for entity in 0..target.entities.len() {
         made.push(make_block_at(
-            alloc, source, target, entities, scopes, clauses, attributes, keys, entity,
+            alloc, source, target, entities, scopes, clauses, index, attributes, keys, entity,
         )?)?;
     }
     Ok(made)

@@ -8,6 +8,7 @@ mod copies;
 mod duties;
 mod given;
 mod groups;
+mod index;
 pub mod laws;
 mod making;
 mod missing;

@@ -6,6 +6,7 @@ ghost use Rattle.cq_query.specs.QueryParts.{scopes_of, blocks_made, clauses_and_
 
 use crate::blocks::build_blocks;
 use crate::clauses::check_clauses;
+use crate::index::make_index;
 use crate::missing::check_missing;
 use crate::parts::Clause;
 use crate::query::Block;
@@ -39,7 +40,17 @@ fn finish_blocks(
     let Ok(tables) = make_tables(alloc, target) else {
         return Err(ArrowRefusal::Memory);
     };
-    check_missing(target, scopes, clauses, &tables.attributes, &tables.keys)?;
+    let Ok(index) = make_index(alloc, target, clauses) else {
+        return Err(ArrowRefusal::Memory);
+    };
+    check_missing(
+        target,
+        scopes,
+        clauses,
+        &index,
+        &tables.attributes,
+        &tables.keys,
+    )?;
     match build_blocks(
         alloc,
         source,
@@ -47,6 +58,7 @@ fn finish_blocks(
         entities,
         scopes,
         clauses,
+        &index,
         &tables.attributes,
         &tables.keys,
     ) {

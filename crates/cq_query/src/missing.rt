@@ -4,10 +4,12 @@ ghost use Rattle.std.specs.List.{list_any};
 ghost use Rattle.cq_theory.specs.Canonical.{below};
 ghost use Rattle.cq_theory.specs.Resolve.{or_else};
 ghost use Rattle.cq_query.specs.Groups.{positions, AreGroups};
+ghost use Rattle.cq_query.specs.Index.{IsIndex};
 ghost use Rattle.cq_query.specs.Translation.{edge_sources};
-ghost use Rattle.cq_query.specs.QueryParts.{is_attribute as is_the_attribute, is_key as is_the_key, attribute_given as given_attribute, key_given as given_key, assigned_given as given_assigned, attribute_in, has_key as key_there, assigned_in, first_of, missing_attribute, missing_key, missing_variable, missing_variables, missing_attributes, missing_keys, missing_assigned, missing_in, missing_at, missing_part};
+ghost use Rattle.cq_query.specs.QueryParts.{is_attribute as is_the_attribute, is_key as is_the_key, attribute_given as given_attribute, key_given as given_key, assigned_given as given_assigned, first_of, missing_attribute, missing_key, missing_variable, missing_variables, missing_attributes, missing_keys, missing_assigned, missing_in, missing_at, missing_part};
 
 use crate::groups::Groups;
+use crate::index::{Index, find_assigned, find_attribute, has_key};
 use crate::owners::missing;
 use crate::parts::Clause;
 use crate::scopes::Scope;
@@ -37,7 +39,11 @@ fn is_key(key: usize, symbol: Option<Symbol>) -> bool
 }
 
 /// The term that a clause gives to the attribute.
-fn attribute_given<'a>(target: &Schema, attribute: usize, part: &'a Clause) -> Option<&'a Raw>
+pub(crate) fn attribute_given<'a>(
+    target: &Schema,
+    attribute: usize,
+    part: &'a Clause,
+) -> Option<&'a Raw>
     ensures { option_copied result ≡ given_attribute target.now attribute part.now }
 {
     match part {
@@ -55,7 +61,7 @@ fn attribute_given<'a>(target: &Schema, attribute: usize, part: &'a Clause) -> O
 }
 
 /// Whether a clause is that of the foreign key.
-fn key_given(target: &Schema, key: usize, part: &Clause) -> bool
+pub(crate) fn key_given(target: &Schema, key: usize, part: &Clause) -> bool
     ensures { result ≡ given_key target.now key part.now }
 {
     match part {
@@ -67,7 +73,7 @@ fn key_given(target: &Schema, key: usize, part: &Clause) -> bool
 }
 
 /// The term that a clause assigns to the variable for the foreign key.
-fn assigned_given<'a>(
+pub(crate) fn assigned_given<'a>(
     target: &Schema,
     key: usize,
     variable: &Name,
@@ -89,77 +95,39 @@ fn assigned_given<'a>(
     }
 }
 
-/// The term of an attribute.
-pub(crate) fn find_attribute<'a>(
-    target: &Schema,
-    clauses: &'a [(u32, Clause)],
-    attribute: usize,
-) -> Option<&'a Raw>
-    ensures { option_copied result ≡ attribute_in target.now clauses.now attribute }
-{
-    for part in clauses {
-        let found = attribute_given(target, attribute, &part.1);
-        if found.is_some() {
-            return found;
-        }
-    }
-    None
-}
-
-fn has_key(target: &Schema, clauses: &[(u32, Clause)], key: usize) -> bool
-    ensures { result ≡ key_there target.now clauses.now key }
-{
-    for part in clauses {
-        if key_given(target, key, &part.1) {
-            return true;
-        }
-    }
-    false
-}
-
-/// The term that a foreign key assigns to a variable.
-pub(crate) fn find_assigned<'a>(
-    target: &Schema,
-    clauses: &'a [(u32, Clause)],
-    key: usize,
-    variable: &Name,
-) -> Option<&'a Raw>
-    ensures { option_copied result ≡ assigned_in target.now clauses.now key variable.now }
-{
-    for part in clauses {
-        let found = assigned_given(target, key, variable, &part.1);
-        if found.is_some() {
-            return found;
-        }
-    }
-    None
-}
-
 fn check_attribute(
     target: &Schema,
     clauses: &[(u32, Clause)],
+    index: &Index,
     attribute: usize,
 ) -> Result<(), ArrowRefusal>
+    requires index { IsIndex target.now clauses.now index.now }
     ensures accepted { IfOk result (λ _. missing_attribute target.now clauses.now attribute (slice_get target.now.attributes attribute) ≡ None) }
     ensures refused { IfErr result (λ refusal. (refusal ≡ ArrowRefusal.Memory) ⊎ (missing_attribute target.now clauses.now attribute (slice_get target.now.attributes attribute) ≡ Some refusal)) }
 {
     let Some(edge) = target.attributes.as_slice().get(attribute) else {
         return Ok(());
     };
-    if find_attribute(target, clauses, attribute).is_none() {
+    if find_attribute(target, clauses, index, attribute).is_none() {
         return Err(missing(&edge.name));
     }
     Ok(())
 }
 
-fn check_key(target: &Schema, clauses: &[(u32, Clause)], key: usize) -> Result<(), ArrowRefusal>
+fn check_key(
+    target: &Schema,
+    clauses: &[(u32, Clause)],
+    index: &Index,
+    key: usize,
+) -> Result<(), ArrowRefusal>
+    requires index { IsIndex target.now clauses.now index.now }
     ensures accepted { IfOk result (λ _. missing_key target.now clauses.now key (slice_get target.now.keys key) ≡ None) }
     ensures refused { IfErr result (λ refusal. (refusal ≡ ArrowRefusal.Memory) ⊎ (missing_key target.now clauses.now key (slice_get target.now.keys key) ≡ Some refusal)) }
 {
     let Some(edge) = target.keys.as_slice().get(key) else {
         return Ok(());
     };
-    if !has_key(target, clauses, key) {
+    if !has_key(target, clauses, index, key) {
         return Err(missing(&edge.name));
     }
     Ok(())
@@ -169,14 +137,17 @@ fn check_key(target: &Schema, clauses: &[(u32, Clause)], key: usize) -> Result<(
 fn check_variables(
     target: &Schema,
     clauses: &[(u32, Clause)],
+    index: &Index,
     key: usize,
     vars: &[(Name, u32)],
 ) -> Result<(), ArrowRefusal>
+    requires index { IsIndex target.now clauses.now index.now }
+    requires key { key < length target.now.keys }
     ensures accepted { IfOk result (λ _. first_of (missing_variable target.now clauses.now key) vars.now ≡ None) }
     ensures refused { IfErr result (λ refusal. (refusal ≡ ArrowRefusal.Memory) ⊎ (first_of (missing_variable target.now clauses.now key) vars.now ≡ Some refusal)) }
 {
     for var in vars {
-        if find_assigned(target, clauses, key, &var.0).is_none() {
+        if find_assigned(target, clauses, index, key, &var.0).is_none() {
             return Err(missing(&var.0));
         }
     }
@@ -187,8 +158,10 @@ fn check_assigned(
     target: &Schema,
     scopes: &[Scope],
     clauses: &[(u32, Clause)],
+    index: &Index,
     key: usize,
 ) -> Result<(), ArrowRefusal>
+    requires index { IsIndex target.now clauses.now index.now }
     ensures accepted { IfOk result (λ _. missing_variables target.now scopes.now clauses.now key (slice_get target.now.keys key) ≡ None) }
     ensures refused { IfErr result (λ refusal. (refusal ≡ ArrowRefusal.Memory) ⊎ (missing_variables target.now scopes.now clauses.now key (slice_get target.now.keys key) ≡ Some refusal)) }
 {
@@ -196,7 +169,7 @@ fn check_assigned(
         return Ok(());
     };
     match scopes.get(edge.to as usize) {
-        Some(scope) => check_variables(target, clauses, key, scope.vars()),
+        Some(scope) => check_variables(target, clauses, index, key, scope.vars()),
         None => Ok(()),
     }
 }
@@ -204,13 +177,15 @@ fn check_assigned(
 fn check_attributes(
     target: &Schema,
     clauses: &[(u32, Clause)],
+    index: &Index,
     attributes: &[usize],
 ) -> Result<(), ArrowRefusal>
+    requires index { IsIndex target.now clauses.now index.now }
     ensures accepted { IfOk result (λ _. missing_attributes target.now clauses.now attributes.now ≡ None) }
     ensures refused { IfErr result (λ refusal. (refusal ≡ ArrowRefusal.Memory) ⊎ (missing_attributes target.now clauses.now attributes.now ≡ Some refusal)) }
 {
     for attribute in attributes {
-        check_attribute(target, clauses, *attribute)?;
+        check_attribute(target, clauses, index, *attribute)?;
     }
     Ok(())
 }
@@ -218,13 +193,15 @@ fn check_attributes(
 fn check_keys(
     target: &Schema,
     clauses: &[(u32, Clause)],
+    index: &Index,
     keys: &[usize],
 ) -> Result<(), ArrowRefusal>
+    requires index { IsIndex target.now clauses.now index.now }
     ensures accepted { IfOk result (λ _. missing_keys target.now clauses.now keys.now ≡ None) }
     ensures refused { IfErr result (λ refusal. (refusal ≡ ArrowRefusal.Memory) ⊎ (missing_keys target.now clauses.now keys.now ≡ Some refusal)) }
 {
     for key in keys {
-        check_key(target, clauses, *key)?;
+        check_key(target, clauses, index, *key)?;
     }
     Ok(())
 }
@@ -234,13 +211,15 @@ fn check_all_assigned(
     target: &Schema,
     scopes: &[Scope],
     clauses: &[(u32, Clause)],
+    index: &Index,
     keys: &[usize],
 ) -> Result<(), ArrowRefusal>
+    requires index { IsIndex target.now clauses.now index.now }
     ensures accepted { IfOk result (λ _. missing_assigned target.now scopes.now clauses.now keys.now ≡ None) }
     ensures refused { IfErr result (λ refusal. (refusal ≡ ArrowRefusal.Memory) ⊎ (missing_assigned target.now scopes.now clauses.now keys.now ≡ Some refusal)) }
 {
     for key in keys {
-        check_assigned(target, scopes, clauses, *key)?;
+        check_assigned(target, scopes, clauses, index, *key)?;
     }
     Ok(())
 }
@@ -250,10 +229,12 @@ fn check_entity(
     target: &Schema,
     scopes: &[Scope],
     clauses: &[(u32, Clause)],
+    index: &Index,
     attributes: &Groups,
     keys: &Groups,
     entity: usize,
 ) -> Result<(), ArrowRefusal>
+    requires index { IsIndex target.now clauses.now index.now }
     requires attributes { AreGroups (edge_sources target.now.attributes) (length target.now.entities) attributes.now }
     requires keys { AreGroups (edge_sources target.now.keys) (length target.now.entities) keys.now }
     requires entity { entity < length target.now.entities }
@@ -262,7 +243,7 @@ fn check_entity(
 {
     let attributes = attributes.of(entity);
     let keys = keys.of(entity);
-    check_lists(target, scopes, clauses, attributes, keys)
+    check_lists(target, scopes, clauses, index, attributes, keys)
 }
 
 /// Whether these attributes and foreign keys are given whole.
@@ -271,15 +252,17 @@ fn check_lists(
     target: &Schema,
     scopes: &[Scope],
     clauses: &[(u32, Clause)],
+    index: &Index,
     attributes: &[usize],
     keys: &[usize],
 ) -> Result<(), ArrowRefusal>
+    requires index { IsIndex target.now clauses.now index.now }
     ensures accepted { IfOk result (λ _. missing_in target.now scopes.now clauses.now attributes.now keys.now ≡ None) }
     ensures refused { IfErr result (λ refusal. (refusal ≡ ArrowRefusal.Memory) ⊎ (missing_in target.now scopes.now clauses.now attributes.now keys.now ≡ Some refusal)) }
 {
-    check_attributes(target, clauses, attributes)?;
-    check_keys(target, clauses, keys)?;
-    check_all_assigned(target, scopes, clauses, keys)
+    check_attributes(target, clauses, index, attributes)?;
+    check_keys(target, clauses, index, keys)?;
+    check_all_assigned(target, scopes, clauses, index, keys)
 }
 
 /// Whether the attributes and foreign keys of each entity are given whole.
@@ -287,16 +270,18 @@ pub(crate) fn check_missing(
     target: &Schema,
     scopes: &[Scope],
     clauses: &[(u32, Clause)],
+    index: &Index,
     attributes: &Groups,
     keys: &Groups,
 ) -> Result<(), ArrowRefusal>
+    requires index { IsIndex target.now clauses.now index.now }
     requires attributes { AreGroups (edge_sources target.now.attributes) (length target.now.entities) attributes.now }
     requires keys { AreGroups (edge_sources target.now.keys) (length target.now.entities) keys.now }
     ensures accepted { IfOk result (λ _. missing_part target.now scopes.now clauses.now ≡ None) }
     ensures refused { IfErr result (λ refusal. (refusal ≡ ArrowRefusal.Memory) ⊎ (missing_part target.now scopes.now clauses.now ≡ Some refusal)) }
 {
     for entity in 0..target.entities.len() {
-        check_entity(target, scopes, clauses, attributes, keys, entity)?;
+        check_entity(target, scopes, clauses, index, attributes, keys, entity)?;
     }
     Ok(())
 }
