@@ -19,33 +19,47 @@ impl Stopped {
     }
 }
 
-/// No equation. No list is as long.
-const NONE: u64 = u64::MAX;
+/// What waits for the cells of a row.
+#[derive(Clone, Copy)]
+enum Cells {
+    /// Nothing, since the row has them.
+    Filled,
+    /// The equations of a list.
+    Awaited(Option<usize>),
+}
 
-/// In the place of a list: the cells of the row are filled, and nothing waits for them.
-const FILLED: u64 = u64::MAX - 1;
+/// An equation in its list, with the place of the one behind it; behind the last one stands the first.
+#[derive(Clone, Copy)]
+struct Entry {
+    stopped: Stopped,
+    next: usize,
+}
 
-/// Lists of equations. A list is known by the place of its last equation, of which the next one is its first; so two lists are
-/// joined in one step.
+/// Lists of equations. A list is known by the place of its last equation, of which the next one is its first, or by none if it
+/// is empty; so two lists are joined in one step.
 #[derive(Drop)]
 pub struct Waiting {
-    lists: Vec<u64>,
-    entries: Vec<(Stopped, u64)>,
-    ready: u64,
+    rows: Vec<Cells>,
+    entries: Vec<Entry>,
+    ready: Option<usize>,
     open: bool,
 }
 
 impl Waiting {
     /// Where the first rows, as many as `filled`, have all their cells, and the other ones none.
     pub fn new(alloc: Global, filled: u64, made: u64) -> Result<Waiting, AllocError> {
-        let mut lists = Vec::new(alloc);
+        let mut rows = Vec::new(alloc);
         for row in 0..made {
-            lists.push(if row < filled { FILLED } else { NONE })?;
+            rows.push(if row < filled {
+                Cells::Filled
+            } else {
+                Cells::Awaited(None)
+            })?;
         }
         Ok(Waiting {
-            lists,
+            rows,
             entries: Vec::new(alloc),
-            ready: NONE,
+            ready: None,
             open: filled > 0,
         })
     }
@@ -66,89 +80,93 @@ impl Waiting {
         if stopped.is_at(row) {
             return Ok(());
         }
-        let place = self.entries.len() as u64;
-        let list = self.list(row);
-        if list == FILLED {
+        let Cells::Awaited(list) = self.cells(row) else {
             return Ok(());
-        }
-        self.entries.push((stopped, place))?;
-        let joined = self.join(list, place);
-        self.set_list(row, joined);
+        };
+        let place = self.entries.len();
+        self.entries.push(Entry {
+            stopped,
+            next: place,
+        })?;
+        let joined = self.join(list, Some(place));
+        self.set_cells(row, Cells::Awaited(joined));
         Ok(())
     }
 
     /// What waits for cells of a row waits for those of the row to which it is renamed; it may go on if one of them has cells.
     pub fn renamed(&mut self, from: u64, to: u64) {
-        let gone = self.list(from);
-        let kept = self.list(to);
-        if gone == FILLED {
-            self.set_list(to, FILLED);
-            self.may_go_on(kept);
-        } else if kept == FILLED {
-            self.may_go_on(gone);
-        } else {
-            let joined = self.join(kept, gone);
-            self.set_list(to, joined);
+        match (self.cells(from), self.cells(to)) {
+            (Cells::Filled, Cells::Filled) => {}
+            (Cells::Filled, Cells::Awaited(list)) => {
+                self.set_cells(to, Cells::Filled);
+                self.may_go_on(list);
+            }
+            (Cells::Awaited(list), Cells::Filled) => self.may_go_on(list),
+            (Cells::Awaited(gone), Cells::Awaited(kept)) => {
+                let joined = self.join(kept, gone);
+                self.set_cells(to, Cells::Awaited(joined));
+            }
         }
     }
 
     /// Takes the first equation that may go on.
     pub fn take(&mut self) -> Option<Stopped> {
-        let first = self.next(self.ready);
-        let entry = *self.entries.get(first as usize)?;
-        if first == self.ready {
-            self.ready = NONE;
+        let last = self.ready?;
+        let first = self.next(last)?;
+        let entry = *self.entries.get(first)?;
+        if first == last {
+            self.ready = None;
         } else {
-            self.set_next(self.ready, entry.1);
+            self.set_next(last, entry.next);
         }
-        Some(entry.0)
+        Some(entry.stopped)
     }
 
-    fn may_go_on(&mut self, list: u64) {
+    fn may_go_on(&mut self, list: Option<usize>) {
         let ready = self.ready;
         self.ready = self.join(ready, list);
     }
 
-    // The list at a row.
-    fn list(&self, row: u64) -> u64 {
-        match self.lists.get(row as usize) {
-            Some(list) => *list,
-            None => NONE,
+    // What waits for the cells of a row. A row that is made later has none, and nothing is kept for it.
+    fn cells(&self, row: u64) -> Cells {
+        match self.rows.get(row as usize) {
+            Some(cells) => *cells,
+            None => Cells::Awaited(None),
         }
     }
 
-    fn set_list(&mut self, row: u64, list: u64) {
-        if let Some(place) = self.lists.get_mut(row as usize) {
-            *place = list;
+    fn set_cells(&mut self, row: u64, cells: Cells) {
+        if let Some(place) = self.rows.get_mut(row as usize) {
+            *place = cells;
         }
     }
 
-    // The equation behind one in its list.
-    fn next(&self, place: u64) -> u64 {
-        match self.entries.get(place as usize) {
-            Some(entry) => entry.1,
-            None => NONE,
+    // The place of the equation behind the one at a place.
+    fn next(&self, place: usize) -> Option<usize> {
+        match self.entries.get(place) {
+            Some(entry) => Some(entry.next),
+            None => None,
         }
     }
 
-    fn set_next(&mut self, place: u64, next: u64) {
-        if let Some(entry) = self.entries.get_mut(place as usize) {
-            entry.1 = next;
+    fn set_next(&mut self, place: usize, next: usize) {
+        if let Some(entry) = self.entries.get_mut(place) {
+            entry.next = next;
         }
     }
 
     // One list behind another.
-    fn join(&mut self, list: u64, behind: u64) -> u64 {
-        let first = self.next(list);
-        let second = self.next(behind);
-        if first == NONE {
+    fn join(&mut self, list: Option<usize>, behind: Option<usize>) -> Option<usize> {
+        let Some(last) = list else {
             return behind;
-        }
-        if second == NONE {
+        };
+        let Some(end) = behind else {
             return list;
+        };
+        if let (Some(first), Some(second)) = (self.next(last), self.next(end)) {
+            self.set_next(last, second);
+            self.set_next(end, first);
         }
-        self.set_next(list, second);
-        self.set_next(behind, first);
         behind
     }
 }
