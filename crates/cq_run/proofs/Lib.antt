@@ -1,2 +1,3 @@
 mod Gives
 mod Judging
+mod Answered
