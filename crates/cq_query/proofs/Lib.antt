@@ -11,3 +11,4 @@ pub mod Copying
 pub mod CopiedPresentations
 pub mod Repeats
 pub mod Indexing
+pub mod FormedTables

@@ -1,4 +1,5 @@
 //! Queries by their parts: the refusals, and what a small query gives.
+mod coeval;
 mod frozen;
 mod given;
 
