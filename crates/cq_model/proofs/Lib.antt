@@ -41,3 +41,9 @@ pub mod NamedRows
 pub mod NamedLeaves
 pub mod AllNodes
 pub mod ModelMade
+pub mod CanonicalPlaces
+pub mod CanonicalGenerators
+pub mod CanonicalTerms
+pub mod CanonicalHolds
+pub mod CanonicalDerived
+pub mod CanonicalNames

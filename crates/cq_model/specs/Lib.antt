@@ -12,4 +12,5 @@ pub mod Pushing
 pub mod Equating
 pub mod LeafPlaces
 pub mod Standing
+pub mod Given
 pub mod BuiltParts

@@ -1,5 +1,7 @@
 //! Laws of models that are read from closed rows and closed nodes. Each is the contract of a function that does
 //! nothing.
+pub mod canonical;
+
 ghost use Rattle.std.specs.Prelude.{ℕ, List, ◌≡◌, Some, None};
 ghost use Rattle.cq_tables.specs.Content.{Content};
 ghost use Rattle.cq_flat.specs.declared.node.Node.{Node};
