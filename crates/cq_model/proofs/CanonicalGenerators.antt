@@ -62,10 +62,10 @@ module _ (S : Schema) (M : Tables) (same : length M.sheet.counts ≡ length S.en
   abbrev nulls : List ℕ
   nulls = M.algebra.nulls
 
-  abbrev of_rows : List Sort
+  abbrev pub of_rows : List Sort
   of_rows = flat_map (row_sorts S M) (below (length S.entities))
 
-  abbrev sorts : List Sort
+  abbrev pub sorts : List Sort
   sorts = of_rows ++ map Plain nulls
 
   abbrev G : Generators
@@ -97,10 +97,11 @@ module _ (S : Schema) (M : Tables) (same : length M.sheet.counts ≡ length S.en
   meaning_count : length row_meanings ≡ sum counts
   meaning_count = ap (λ n. length (flat_map meanings (below n))) (sym same) ∙ size_of_blocks meanings 0 counts meaning_sizes
 
+  pub sorts_count : length sorts ≡ sum counts + length nulls
+  sorts_count = omega (arith, length-append of_rows (map Plain nulls), sort_count, length-map nulls Plain)
+
   pub generator_count : length G ≡ sum counts + length nulls
-  generator_count =
-      length-map (enumerate_from 1 sorts) numbered ∙ length-enumerate_from 1 sorts
-      ∙ (let all : length sorts ≡ sum counts + length nulls = omega (arith, length-append of_rows (map Plain nulls), sort_count, length-map nulls Plain) in all)
+  generator_count = length-map (enumerate_from 1 sorts) numbered ∙ length-enumerate_from 1 sorts ∙ sorts_count
 
   pub assignment_count : length A ≡ sum counts + length nulls
   assignment_count = omega (arith, length-append row_meanings (map null_meaning (below (length nulls))), meaning_count, length-map-range_with_len null_meaning 0 (length nulls))

@@ -47,3 +47,6 @@ pub mod CanonicalTerms
 pub mod CanonicalHolds
 pub mod CanonicalDerived
 pub mod CanonicalNames
+pub mod Pushed
+pub mod CanonicalEquations
+pub mod GivenTables

@@ -13,4 +13,5 @@ pub mod Equating
 pub mod LeafPlaces
 pub mod Standing
 pub mod Given
+pub mod Numbers
 pub mod BuiltParts

@@ -3,8 +3,10 @@
 
 mod application;
 pub mod building;
+pub mod canonical;
 pub mod edges;
 pub mod equations;
+mod given;
 pub mod groups;
 pub mod instance;
 pub mod laws;
@@ -20,5 +22,6 @@ mod values;
 pub mod walk;
 
 pub use building::{BuildRefusal, build};
+pub use given::TablesRefusal;
 pub use instance::Instance;
 pub use transform::{Image, Transform};

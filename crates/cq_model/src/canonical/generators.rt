@@ -1,0 +1,204 @@
+//! The generators of rows and nulls, as terms, with their names and with what they stand for.
+ghost use Rattle.std.specs.Prelude.{ℕ, ◌≡◌, ◌+◌, ◌++◌, ◌∷◌, ◌<◌, ◌≤◌, ◌^◌, [], IfOk, OnOk, length, map, codes, decimal, replicate, slice_index, sum};
+ghost use Rattle.std.specs.List.{flat_map};
+ghost use Rattle.cq_theory.specs.declared.presentation.Sort.TheVariants.{Plain, Entity};
+ghost use Rattle.cq_theory.specs.declared.value.Value.TheVariants as value_of;
+ghost use Rattle.cq_theory.specs.Tables.{AtRow, AtValue};
+ghost use Rattle.cq_theory.specs.Canonical.{below, named};
+ghost use Rattle.cq_model.specs.Numbers as made_of;
+ghost use Rattle.cq_model.specs.Standing.{meaning};
+
+use crate::standing::Standing;
+use cq_base::{Name, Seq};
+use cq_theory::{EntTerm, Sort, Value};
+use itoa::Buffer;
+use std::alloc::{AllocError, Global};
+
+/// Appends the sorts of that many rows of an entity.
+fn push_row_sorts(entity: u32, count: u32, made: &mut Vec<Sort>) -> Result<(), AllocError>
+    ensures { OnOk result (made.new.items ≡ made.old.items ++ replicate count (Entity entity)) }
+{
+    for _row in 0..count {
+        made.push(Sort::Entity(entity))?;
+    }
+    Ok(())
+}
+
+/// The number at a place, and 0 past the end.
+pub(crate) fn number_at(numbers: &[u32], place: usize) -> u32
+    ensures { result ≡ slice_index numbers.now place }
+{
+    match numbers.get(place) {
+        Some(number) => *number,
+        None => 0,
+    }
+}
+
+/// Appends the sorts of an entity's rows.
+fn push_entity_sorts(counts: &[u32], entity: usize, made: &mut Vec<Sort>) -> Result<(), AllocError>
+    requires { entity < 2 ^ 32 }
+    ensures { OnOk result (made.new.items ≡ made.old.items ++ made_of.row_sorts counts.now entity) }
+{
+    let count = number_at(counts, entity);
+    push_row_sorts(entity as u32, count, made)
+}
+
+/// Appends the sorts of all rows.
+fn push_all_sorts(counts: &[u32], made: &mut Vec<Sort>) -> Result<(), AllocError>
+    requires { length counts.now < 2 ^ 32 }
+    ensures { OnOk result (made.new.items ≡ made.old.items ++ flat_map (made_of.row_sorts counts.now) (below (length counts.now))) }
+{
+    for entity in 0..counts.len() {
+        push_entity_sorts(counts, entity, made)?;
+    }
+    Ok(())
+}
+
+/// Appends the sorts of the nulls.
+fn push_null_sorts(nulls: &[u32], made: &mut Vec<Sort>) -> Result<(), AllocError>
+    ensures { OnOk result (made.new.items ≡ made.old.items ++ map Plain nulls.now) }
+{
+    for null in nulls {
+        made.push(Sort::Plain(*null))?;
+    }
+    Ok(())
+}
+
+/// The name of a generator with a number.
+fn generator_name(alloc: Global, number: u64) -> Result<Name, AllocError>
+    ensures { IfOk result (λ name. name ≡ codes "g" ++ decimal number) }
+{
+    let mut buffer = Buffer::new();
+    let mut text = String::from_str(alloc, "g")?;
+    text.push_str(buffer.format(number))?;
+    match Name::new(alloc, text.as_str()) {
+        Ok(name) => Ok(name),
+        Err(_) => Err(AllocError),
+    }
+}
+
+/// Appends the generator with a number.
+fn push_generator(
+    alloc: Global,
+    number: u64,
+    sort: Sort,
+    made: &mut Vec<(Name, Sort)>,
+) -> Result<(), AllocError>
+    ensures { OnOk result (made.new.items ≡ made.old.items ++ (codes "g" ++ decimal number, sort) ∷ []) }
+{
+    let name = generator_name(alloc, number)?;
+    made.push((name, sort))?;
+    Ok(())
+}
+
+/// The generators of these sorts, named `g1`, `g2` and so on.
+fn name_generators(alloc: Global, sorts: &[Sort]) -> Result<Vec<(Name, Sort)>, AllocError>
+    requires { length sorts.now < 2 ^ 32 }
+    ensures { IfOk result (λ made. made.items ≡ named sorts.now) }
+{
+    let mut made = Vec::with_capacity(alloc, sorts.len())?;
+    let mut number = 1;
+    for sort in sorts {
+        push_generator(alloc, number, *sort, &mut made)?;
+        number += 1;
+    }
+    Ok(made)
+}
+
+/// The generators of the rows, entity by entity, and then those of the nulls.
+pub(crate) fn build_generators(
+    alloc: Global,
+    counts: &[u32],
+    nulls: &[u32],
+) -> Result<Vec<(Name, Sort)>, AllocError>
+    requires entities { length counts.now < 2 ^ 32 }
+    requires few { length (made_of.sorts counts.now nulls.now) < 2 ^ 32 }
+    ensures { IfOk result (λ made. made.items ≡ named (made_of.sorts counts.now nulls.now)) }
+{
+    let mut sorts = Vec::new(alloc);
+    push_all_sorts(counts, &mut sorts)?;
+    push_null_sorts(nulls, &mut sorts)?;
+    let made = name_generators(alloc, sorts.as_slice())?;
+    Ok(made)
+}
+
+/// A generator as a term.
+pub(crate) fn alone(alloc: Global, generator: u32) -> EntTerm
+    ensures { result ≡ record { generator = generator; path = [] } }
+{
+    EntTerm {
+        generator,
+        path: Seq::from_vec(Vec::new(alloc)),
+    }
+}
+
+/// That many generators from `start` on, as terms.
+fn names_from(alloc: Global, start: u32, count: u32) -> Result<Seq<EntTerm>, AllocError>
+    requires { start + count < 2 ^ 32 }
+    ensures { IfOk result (λ made. made ≡ map (λ row. record { generator = start + row; path = [] }) (below count)) }
+{
+    let mut made = Vec::with_capacity(alloc, count as usize)?;
+    for row in 0..count {
+        made.push(alone(alloc, start + row))?;
+    }
+    Ok(Seq::from_vec(made))
+}
+
+/// The names of the rows of each entity.
+pub(crate) fn row_names(alloc: Global, counts: &[u32]) -> Result<Seq<Seq<EntTerm>>, AllocError>
+    requires { sum counts.now ≤ 16000000 }
+    ensures { IfOk result (λ made. made ≡ map (made_of.names counts.now) (below (length counts.now))) }
+{
+    let mut made = Vec::with_capacity(alloc, counts.len())?;
+    let mut start = 0;
+    for entity in 0..counts.len() {
+        let count = number_at(counts, entity);
+        made.push(names_from(alloc, start, count)?)?;
+        start += count;
+    }
+    Ok(Seq::from_vec(made))
+}
+
+/// Appends what the generators of that many rows stand for.
+fn push_row_standings(count: u32, made: &mut Vec<Standing>) -> Result<(), AllocError>
+    ensures { OnOk result (map meaning made.new.items ≡ map meaning made.old.items ++ map AtRow (below count)) }
+{
+    for row in 0..count {
+        made.push(Standing::Row(row))?;
+    }
+    Ok(())
+}
+
+/// Appends what the generators of all rows stand for.
+fn push_all_standings(counts: &[u32], made: &mut Vec<Standing>) -> Result<(), AllocError>
+    ensures { OnOk result (map meaning made.new.items ≡ map meaning made.old.items ++ flat_map (λ entity. map AtRow (below (slice_index counts.now entity))) (below (length counts.now))) }
+{
+    for entity in 0..counts.len() {
+        push_row_standings(number_at(counts, entity), made)?;
+    }
+    Ok(())
+}
+
+/// Appends what the generators of that many nulls stand for.
+fn push_null_standings(nulls: u32, made: &mut Vec<Standing>) -> Result<(), AllocError>
+    ensures { OnOk result (map meaning made.new.items ≡ map meaning made.old.items ++ map (λ n. AtValue (value_of.Null n)) (below nulls)) }
+{
+    for label in 0..nulls {
+        made.push(Standing::Value(Value::Null(label as u64)))?;
+    }
+    Ok(())
+}
+
+/// What the generators of the rows and of that many nulls stand for.
+pub(crate) fn standings(
+    alloc: Global,
+    counts: &[u32],
+    nulls: u32,
+) -> Result<Vec<Standing>, AllocError>
+    ensures { IfOk result (λ made. map meaning made.items ≡ made_of.meanings counts.now nulls) }
+{
+    let mut made = Vec::new(alloc);
+    push_all_standings(counts, &mut made)?;
+    push_null_standings(nulls, &mut made)?;
+    Ok(made)
+}
