@@ -1,10 +1,10 @@
 -- The tables are the initial model of their canonical presentation: each term is derivably equal to the term of what it means.
-use Rattle.std.proofs.Common.{ℕ, zero, suc, Bool, true, false, List, [], ◌∷◌, ◌++◌, Option, Some, None, ◌≡◌, ◌<◌, ◌≤◌, ◌+◌, ◌==◌, inl, inr, map, length, sum, refl, sym, ap, subst, ◌∙◌, arith}
-use Rattle.std.specs.Prelude.{slice_get, slice_index, slice_index_or, option_map, option_and_then, find, ◌↔◌}
+use Rattle.std.proofs.Common.{ℕ, true, List, [], ◌∷◌, Option, Some, None, ◌≡◌, ◌<◌, ◌+◌, ◌==◌, inl, inr, map, length, refl, sym, ap, subst, ◌∙◌, arith}
+use Rattle.std.specs.Prelude.{slice_get, slice_index, slice_index_or, option_map, option_and_then, find}
 use Rattle.std.specs.List.{flat_map, enumerate_from}
 use Rattle.std.proofs.lemmas.Bool.{and_parts, eq-eqb, cases_lt}
 use Rattle.std.proofs.lemmas.List.{get_or_past, append-nil}
-use Rattle.std.proofs.lemmas.Option.{option_and_then_some, slice_get_within, slice_get-get_or}
+use Rattle.std.proofs.lemmas.Option.{option_and_then_some, slice_get-get_or}
 use Rattle.cq_theory.specs.declared.presentation.Equation.{Equation}
 use Rattle.cq_theory.specs.declared.presentation.Presentation.{Presentation}
 use Rattle.cq_theory.specs.declared.presentation.Sort.{Sort}
@@ -29,11 +29,10 @@ use Rattle.cq_theory.proofs.Every.{Every, Every-at, Every-from, Every-parts, Eve
 use Rattle.cq_theory.proofs.Closings.{entity_of-extended, extended-cons}
 use Rattle.cq_theory.proofs.Derivations.{Derives-reflexive, Derives-symmetric, Derives-transitive, Derives-key, Derives-attribute, Derives-function}
 use Rattle.cq_theory.proofs.OnValues.{entry_for, found_passes}
-use Rattle.cq_theory.proofs.Sound.{followed_some, is_type_some, applied_type_some, meaning_of-derived, row_of-within}
+use Rattle.cq_theory.proofs.Sound.{followed_some, is_type_some, applied_type_some, meaning_of-derived}
 use Rattle.cq_theory.proofs.TypeTerms.{fold-Gen, fold-Const, fold-Att, fold-Fun, Each, on_terms}
 use Rattle.cq_theory.proofs.Values as values
 use Rattle.cq_model.proofs.CanonicalGenerators as generators
-use Rattle.cq_model.proofs.CanonicalTerms as terms
 use Rattle.cq_model.proofs.CanonicalHolds as model
 
 module _ (S : Schema) (M : Tables) (schema : IsSchema S) (well : IsWellFormed S M) where

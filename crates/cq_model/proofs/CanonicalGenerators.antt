@@ -1,9 +1,9 @@
 -- The generators of the canonical presentation: their sorts, and what they stand for.
-use Rattle.std.proofs.Common.{ℕ, List, [], ◌∷◌, ◌++◌, Option, Some, None, ◌≡◌, ◌<◌, ◌+◌, ◌⊎◌, inl, inr, map, length, sum, refl, sym, ap, subst, ◌∙◌, arith}
+use Rattle.std.proofs.Common.{ℕ, List, [], ◌++◌, Option, Some, None, ◌≡◌, ◌<◌, ◌+◌, ◌⊎◌, inl, inr, map, length, sum, refl, sym, ap, subst, ◌∙◌, arith}
 use Rattle.std.specs.Prelude.{slice_get, slice_index, slice_index_or, option_map, option_and_then, codes, decimal}
-use Rattle.std.specs.List.{range_with_len, flat_map, enumerate_from}
+use Rattle.std.specs.List.{flat_map, enumerate_from}
 use Rattle.std.proofs.lemmas.List.{length-append, length-map, length-replicate}
-use Rattle.std.proofs.lemmas.List.FromFn.{length-enumerate_from, length-range_with_len, length-map-range_with_len}
+use Rattle.std.proofs.lemmas.List.FromFn.{length-enumerate_from, length-map-range_with_len}
 use Rattle.std.proofs.lemmas.Option.{slice_get-map, slice_get_within, get_or_from_slice_get}
 use Rattle.cq_base.specs.declared.name.Name.{Name}
 use Rattle.cq_theory.specs.declared.presentation.Sort.{Sort}
@@ -15,7 +15,7 @@ use Rattle.cq_theory.specs.Tables.{Tables, Meaning, AtRow, AtValue, Assignment, 
 use Rattle.cq_theory.specs.Canonical.{below, named, row_generator, null_generator, row_term, row_sorts, canonical, canonical_assignment}
 use Rattle.cq_theory.proofs.Every.{at_range}
 use Rattle.cq_model.proofs.Lists.{get-append, get-append_front, get-map, get-map_from}
-use Rattle.cq_model.proofs.CanonicalPlaces.{split, get-behind, get-replicate, from_replicate, get-enumerated, IsBlockPlace, HaveSizes, placed, size_of_blocks, from_placed}
+use Rattle.cq_model.proofs.CanonicalPlaces.{split, get-behind, get-replicate, from_replicate, get-enumerated, HaveSizes, placed, size_of_blocks, from_placed}
 
 abbrev numbered : ℕ × Sort → Name × Sort
 numbered p = (codes "g" ++ decimal p.0, p.1)

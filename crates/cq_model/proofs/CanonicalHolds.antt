@@ -1,19 +1,16 @@
 -- The tables are a model of their canonical presentation, which is one over the schema.
-use Rattle.std.proofs.Common.{ℕ, Bool, true, List, [], ◌∷◌, ◌++◌, Option, Some, None, ◌≡◌, ◌<◌, ◌≤◌, ◌+◌, ◌==◌, if◌then◌else◌, inl, inr, map, length, sum, refl, sym, ap, subst, ◌∙◌, arith}
-use Rattle.std.specs.Prelude.{slice_get, slice_index, slice_index_or, option_map, option_and_then, All}
+use Rattle.std.proofs.Common.{ℕ, Bool, List, [], ◌∷◌, Option, Some, None, ◌≡◌, ◌<◌, ◌≤◌, ◌+◌, ◌==◌, if◌then◌else◌, inl, inr, map, length, sum, sym, ap, subst, ◌∙◌, arith}
+use Rattle.std.specs.Prelude.{slice_get, slice_index_or, option_map, option_and_then, All}
 use Rattle.std.specs.List.{flat_map, enumerate_from}
 use Rattle.std.proofs.lemmas.Bool.{eqb-true, eq-eqb}
-use Rattle.std.proofs.lemmas.List.{length-map}
 use Rattle.std.proofs.lemmas.List.FromFn.{length-range_with_len}
-use Rattle.std.proofs.lemmas.Option.{slice_get_within, slice_get-get_or, get_or_from_slice_get}
+use Rattle.std.proofs.lemmas.Option.{slice_get_within, slice_get-get_or}
 use Rattle.cq_base.specs.declared.name.Name.{Name}
 use Rattle.cq_theory.specs.declared.presentation.Equation.{Equation}
 use Rattle.cq_theory.specs.declared.presentation.Sort.{Sort}
 use Rattle.cq_theory.specs.declared.presentation.Sort.TheVariants.{Plain, Entity}
 use Rattle.cq_theory.specs.declared.schema.Edge.{Edge}
 use Rattle.cq_theory.specs.SchemaData.{SchemaData as Schema}
-use Rattle.cq_theory.specs.declared.term.EntTerm.{EntTerm}
-use Rattle.cq_theory.specs.declared.term.TypeTerm.{TypeTerm}
 use Rattle.cq_theory.specs.declared.term.TypeTerm.TheVariants as term
 use Rattle.cq_theory.specs.declared.value.Value.{Value}
 use Rattle.cq_theory.specs.declared.value.Value.TheVariants as value
@@ -24,7 +21,7 @@ use Rattle.cq_theory.specs.Sorts.{Generators, followed, target_of, entity_of, ap
 use Rattle.cq_theory.specs.Schema.{IsSchema}
 use Rattle.cq_theory.specs.Presentation.{IsSort, IsEquation, IsPresentation}
 use Rattle.cq_theory.specs.Derivation.{left_of, right_of}
-use Rattle.cq_theory.specs.Tables.{Tables, Meaning, AtRow, AtValue, Assignment, count_of, key_at, cell_at, row_from, row_of, value_of, value_step, meaning_of, applied, value_type, value_type_step, normal_of, normal_step, HasSort, IsSoundEntry, IsWellFormed, Satisfies, Holds}
+use Rattle.cq_theory.specs.Tables.{Tables, AtRow, AtValue, Assignment, count_of, key_at, cell_at, value_step, meaning_of, applied, value_type, value_type_step, normal_of, normal_step, HasSort, IsSoundEntry, IsWellFormed, Satisfies, Holds}
 use Rattle.cq_theory.specs.Canonical.{below, edges_from, row_generator, row_term, value_term, cell_equation, key_equation, row_equations, entity_equations, entry_equation, canonical, canonical_assignment}
 use Rattle.cq_theory.proofs.Every.{Every, Every-at, Every-append, Every-flat_map, Every-map, from_filter, from_enumerated, at_range}
 use Rattle.cq_theory.proofs.OnValues.{All_at, applied-entry}

@@ -3,7 +3,6 @@ use Rattle.std.proofs.Common.{ℕ, List, [], ◌∷◌, Some, ◌≡◌, ◌<◌
 use Rattle.std.specs.Prelude.{slice_get, slice_index_or}
 use Rattle.std.proofs.lemmas.Option.{option_and_then_some}
 use Rattle.cq_theory.specs.SchemaData.{SchemaData as Schema}
-use Rattle.cq_theory.specs.declared.term.EntTerm.{EntTerm}
 use Rattle.cq_theory.specs.Schema.{IsSchema}
 use Rattle.cq_theory.specs.Sorts.{Generators, target_of, entity_at, entity_of}
 use Rattle.cq_theory.specs.Tables.{Tables, AtRow, Assignment, row_in, count_of, row_of, IsWellFormed}

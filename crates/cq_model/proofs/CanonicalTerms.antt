@@ -1,5 +1,5 @@
 -- Values as terms over the canonical generators: their types, their symbols, and what they mean.
-use Rattle.std.proofs.Common.{ℕ, true, List, [], ◌∷◌, Option, Some, ◌≡◌, ◌<◌, ◌+◌, map, length, sum, refl, sym, ap, ◌∙◌, arith}
+use Rattle.std.proofs.Common.{ℕ, true, List, [], ◌∷◌, Option, Some, ◌≡◌, ◌+◌, map, length, sum, refl, sym, ap, ◌∙◌, arith}
 use Rattle.std.specs.Prelude.{slice_get, All}
 use Rattle.std.proofs.lemmas.Bool.{and_parts}
 use Rattle.std.proofs.lemmas.Option.{slice_get_within}

@@ -1,10 +1,9 @@
 -- What is kept of given tables is an instance, whose rows have their least names.
-use Rattle.std.proofs.Common.{ℕ, Bool, true, false, List, [], ◌∷◌, Some, ◌≡◌, ◌<◌, ◌≤◌, ◌+◌, inl, inr, map, length, sum, refl, sym, ap, subst, ◌∙◌, arith}
-use Rattle.std.specs.Prelude.{slice_get, slice_index, slice_index_or, All}
+use Rattle.std.proofs.Common.{ℕ, List, [], ◌≡◌, ◌<◌, inl, inr, map, length, sym, ap, subst, ◌∙◌, arith}
+use Rattle.std.specs.Prelude.{slice_get, slice_index_or, All}
 use Rattle.std.proofs.lemmas.Bool.{cases_lt}
 use Rattle.std.proofs.lemmas.List.{get_or_past}
 use Rattle.std.proofs.lemmas.List.FromFn.{get_or-map-range_with_len, length-map-range_with_len}
-use Rattle.cq_base.specs.declared.name.Name.{Name}
 use Rattle.cq_theory.specs.declared.presentation.Presentation.{Presentation}
 use Rattle.cq_theory.specs.SchemaData.{SchemaData as Schema}
 use Rattle.cq_theory.specs.declared.term.EntTerm.{EntTerm}
@@ -14,7 +13,7 @@ use Rattle.cq_theory.specs.Canonical.{below, row_generator, row_term, canonical,
 use Rattle.cq_theory.specs.Listed.{IsLeastName}
 use Rattle.cq_model.specs.InstanceData.{InstanceData, IsInstance, IsName, names_at, name_at}
 use Rattle.cq_model.specs.Given.{IsModel, HasLeastNames, row_names, given}
-use Rattle.cq_model.proofs.Lists.{IsIn, get-map_from, in_range, All_from}
+use Rattle.cq_model.proofs.Lists.{get-map_from, in_range, All_from}
 use Rattle.cq_model.proofs.CanonicalGenerators.{generator_count}
 use Rattle.cq_model.proofs.CanonicalHolds.{holds}
 use Rattle.cq_model.proofs.CanonicalDerived.{initial, count_within}

@@ -1,5 +1,5 @@
 -- Tables of which an instance is made as they stand.
-use Rattle.std.specs.Prelude.{ℕ, List, [], ◌+◌, ◌<◌, ◌≤◌, All, sum, map, length}
+use Rattle.std.specs.Prelude.{ℕ, List, ◌+◌, ◌<◌, ◌≤◌, All, sum, map, length}
 use Rattle.cq_theory.specs.declared.term.EntTerm.{EntTerm}
 use Rattle.cq_theory.specs.declared.value.Sheet.{Sheet}
 use Rattle.cq_theory.specs.declared.value.Algebra.{Algebra}

@@ -6,7 +6,6 @@ use Rattle.cq_theory.specs.declared.presentation.Equation.TheVariants.{Ent, Typ}
 use Rattle.cq_theory.specs.declared.presentation.Sort.{Sort}
 use Rattle.cq_theory.specs.declared.presentation.Sort.TheVariants.{Plain, Entity}
 use Rattle.cq_theory.specs.declared.schema.Edge.{Edge}
-use Rattle.cq_theory.specs.SchemaData.{SchemaData as Schema}
 use Rattle.cq_theory.specs.declared.term.EntTerm.{EntTerm}
 use Rattle.cq_theory.specs.declared.term.TypeTerm.{TypeTerm}
 use Rattle.cq_theory.specs.declared.term.TypeTerm.TheVariants as term
@@ -16,7 +15,7 @@ use Rattle.cq_theory.specs.declared.value.Value.TheOpen.{Value-F, Const, Null, F
 use Rattle.cq_theory.specs.declared.value.Value.TheFolds.{fold-Value}
 use Rattle.cq_theory.specs.declared.value.Entry.{Entry}
 use Rattle.cq_theory.specs.declared.value.Sheet.{Sheet}
-use Rattle.cq_theory.specs.Tables.{Tables, Meaning, AtRow, AtValue}
+use Rattle.cq_theory.specs.Tables.{Meaning, AtRow, AtValue}
 use Rattle.cq_theory.specs.Canonical.{below}
 use Rattle.cq_model.specs.Numbering.{positions}
 use Rattle.cq_model.specs.declared.canonical.Numbers.{Numbers}

@@ -1,11 +1,10 @@
-use Rattle.std.proofs.Common.{ℕ, List, ◌≡◌, ◌<◌, ◌≤◌, ◌+◌, map, length, sum, sym, ap, subst, ◌∙◌, arith}
+use Rattle.std.proofs.Common.{ℕ, List, ◌≡◌, ◌<◌, length, sum, sym, ap, subst, ◌∙◌, arith}
 use Rattle.std.specs.Prelude.{All}
 use Rattle.cq_theory.specs.declared.schema.Edge.{Edge}
 use Rattle.cq_theory.specs.SchemaData.{SchemaData as Schema}
 use Rattle.cq_theory.specs.Schema.{IsSchema}
 use Rattle.cq_theory.specs.Tables.{Tables}
 use Rattle.cq_theory.specs.Canonical.{named}
-use Rattle.cq_model.specs.declared.canonical.Numbers.{Numbers}
 use Rattle.cq_model.specs.Given.{tables}
 use Rattle.cq_model.specs.Numbers as made
 use Rattle.cq_model.proofs.CanonicalEquations as canonical

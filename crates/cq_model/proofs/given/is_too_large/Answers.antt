@@ -1,6 +1,5 @@
-use Rattle.std.proofs.Common.{ℕ, ◌≡◌, ◌<◌, ◌≤◌, ◌+◌, length, sum, sym, ap, ◌∙◌, arith, rules}
-use Rattle.std.proofs.lemmas.Bool.{lt-ltb, le-ltb}
-use Rattle.std.proofs.lemmas.List.{take_all}
+use Rattle.std.proofs.Common.{◌<◌, ◌+◌, length, sum, sym, arith, rules}
+use Rattle.std.proofs.lemmas.Bool.{lt-ltb}
 use Rattle.cq_model.proofs.Pushed.{start_more, start_fits}
 use Rattle.cq_model.proofs.given.is_too_large.Goals as goal
 

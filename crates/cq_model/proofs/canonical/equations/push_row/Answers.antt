@@ -1,4 +1,4 @@
-use Rattle.std.proofs.Common.{ℕ, List, [], ◌≡◌, ◌<◌, ◌+◌, ◌++◌, ◌^◌, map, slice_index, slice_index_or, sym, ap, subst, ◌∙◌, append_assoc, arith}
+use Rattle.std.proofs.Common.{ℕ, [], ◌≡◌, ◌<◌, ◌+◌, ◌++◌, ◌^◌, map, slice_index, slice_index_or, sym, ap, subst, ◌∙◌, append_assoc, arith}
 use Rattle.std.specs.Prelude.{All}
 use Rattle.cq_model.specs.Numbers.{target_generator, cell_made, key_made, cells_made, keys_made}
 use Rattle.cq_model.proofs.canonical.equations.push_row.Goals as goal

@@ -1,9 +1,7 @@
-use Rattle.std.proofs.Common.{List, ◌≡◌, map, sym, ap, subst, ◌∙◌}
+use Rattle.std.proofs.Common.{map, sym, ap, subst, ◌∙◌}
 use Rattle.cq_theory.specs.SchemaData.{SchemaData as Schema}
 use Rattle.cq_theory.specs.Schema.{IsSchema}
-use Rattle.cq_theory.specs.Tables.{Tables, Assignment}
-use Rattle.cq_theory.specs.declared.presentation.Presentation.{Presentation}
-use Rattle.cq_theory.specs.declared.term.EntTerm.{EntTerm}
+use Rattle.cq_theory.specs.Tables.{Tables}
 use Rattle.cq_theory.specs.Canonical.{canonical, canonical_assignment}
 use Rattle.cq_model.specs.Given.{IsModel, tables, given}
 use Rattle.cq_model.specs.Standing.{meaning}
