@@ -120,15 +120,15 @@ pub fn term(alloc: Global, words: &[(&str, usize)]) -> Result<Raw, Fail> {
     }
 }
 
-/// A term under a function or foreign key of one argument, so many times.
-pub fn repeated(
+/// A term of so many symbols: this one under a function or foreign key of one argument.
+pub fn grown(
     alloc: Global,
     first: &[(&'static str, usize)],
     text: &'static str,
-    times: usize,
+    symbols: usize,
 ) -> Result<Raw, Fail> {
     let mut words = first.to_vec(alloc)?;
-    for _time in 0..times {
+    for _symbol in first.len()..symbols {
         words.push((text, 1))?;
     }
     term(alloc, words.as_slice())
