@@ -12,3 +12,4 @@ pub mod CopiedPresentations
 pub mod Repeats
 pub mod Indexing
 pub mod FormedTables
+pub mod Blocking

@@ -72,6 +72,13 @@ module _ (S T S₁ T₁ T₂ : Schema) (parts : QueryParts) (names : List Name) 
       let both : (parts.vars, length parts.entities) ≡ (vars, length entities) = λ i. (sym same_vars i, sym size i) in
       subst Within both h
 
+  pub new_clauses : All (λ (part : ℕ × Clause). part.0 < length parts.entities) parts.clauses → All (λ (part : ℕ × Clause). part.0 < length entities) clauses
+  new_clauses h =
+      let size : length entities ≡ length parts.entities = ap length entities_are ∙ length-map parts.entities (entity_named T) in
+      let Within : List (ℕ × Clause) × ℕ → Type 0 = λ x. All (λ (part : ℕ × Clause). part.0 < x.1) x.0 in
+      let both : (parts.clauses, length parts.entities) ≡ (clauses, length entities) = λ i. (sym same_clauses i, sym size i) in
+      subst Within both h
+
   abbrev rest : Option ArrowRefusal
   rest = variables_and_rest_fault S T E (length parts.entities) parts.vars parts.clauses
 

@@ -1,6 +1,5 @@
 //! The blocks that the parts of a query give.
-ghost use Rattle.std.specs.Prelude.{ℕ, List, ◌≡◌, ◌++◌, ◌<◌, IfOk, OnOk, Some, length, map, option_copied, slice_get};
-ghost use Rattle.std.specs.List.{flat_map};
+ghost use Rattle.std.specs.Prelude.{ℕ, List, [], ◌≡◌, ◌++◌, ◌<◌, All, IfOk, OnOk, Some, length, map, option_copied, slice_get};
 ghost use Rattle.cq_theory.specs.Canonical.{below};
 ghost use Rattle.cq_theory.specs.Parts.{equation_of};
 ghost use Rattle.cq_theory.specs.Resolved.{entity_term_in, resolved};
@@ -8,11 +7,10 @@ ghost use Rattle.cq_query.specs.Groups.{positions, AreGroups};
 ghost use Rattle.cq_query.specs.Index.{IsIndex};
 ghost use Rattle.cq_query.specs.Puts.{alone};
 ghost use Rattle.cq_query.specs.Translation.{edge_sources};
-ghost use Rattle.cq_query.specs.QueryParts.{names_of, sorts_of, type_made, entity_made, test_made, test_in, tests_made, scope_or_none, attribute_made, key_made, key_made_at, block_in, block_made, blocks_made, assigned_in};
+ghost use Rattle.cq_query.specs.QueryParts.{names_of, sorts_of, type_made, entity_made, test_made, tests_made, scope_or_none, attribute_made, key_made, key_made_at, blocks_made, assigned_in};
 
 use crate::groups::Groups;
 use crate::index::{Index, find_assigned, find_attribute};
-use crate::owners::entity_at;
 use crate::parts::Clause;
 use crate::query::Block;
 use crate::scopes::Scope;
@@ -118,41 +116,50 @@ fn push_test(
     }
 }
 
-/// The same, where the clause stands in the block of the entity.
+/// The same over the variables of an entity's block.
 fn push_test_in(
     alloc: Global,
     source: &Schema,
-    entities: &[u32],
-    scope: &Scope,
+    scopes: &[Scope],
     entity: usize,
-    part: &(u32, Clause),
+    part: &Clause,
     made: &mut Vec<Equation>,
 ) -> Result<(), AllocError>
-    ensures { OnOk result (made.new.items ≡ made.old.items ++ test_in source.now entities.now scope.now entity part.now) }
+    requires { entity < length scopes.now }
+    ensures { OnOk result (made.new.items ≡ made.old.items ++ test_made source.now (scope_or_none (slice_get scopes.now entity)) part.now) }
 {
-    if entity_at(entities, part.0) as usize == entity {
-        push_test(alloc, source, scope, &part.1, made)
-    } else {
-        Ok(())
-    }
+    push_test(alloc, source, &scopes[entity], part, made)
 }
 
-/// The where equations of an entity's block.
+/// That many lists without equations.
+fn empty_lists(alloc: Global, count: usize) -> Result<Vec<Vec<Equation>>, AllocError>
+    ensures { IfOk result (λ lists. map (λ list. list.items) lists.items ≡ map (λ _. []) (below count)) }
+{
+    let mut lists = Vec::new(alloc);
+    for _number in 0..count {
+        lists.push(Vec::new(alloc))?;
+    }
+    Ok(lists)
+}
+
+/// The where equations in the block of each entity.
 fn build_tests(
     alloc: Global,
     source: &Schema,
     entities: &[u32],
-    scope: &Scope,
+    scopes: &[Scope],
     clauses: &[(u32, Clause)],
-    entity: usize,
-) -> Result<Vec<Equation>, AllocError>
-    ensures { IfOk result (λ made. made.items ≡ flat_map (test_in source.now entities.now scope.now entity) clauses.now) }
+) -> Result<Vec<Vec<Equation>>, AllocError>
+    requires entities { All (λ entity. entity < length scopes.now) entities.now }
+    requires blocks { All (λ part. part.0 < length entities.now) clauses.now }
+    ensures { IfOk result (λ lists. map (λ list. list.items) lists.items ≡ map (tests_made source.now entities.now scopes.now clauses.now) (below (length scopes.now))) }
 {
-    let mut made = Vec::new(alloc);
+    let mut lists = empty_lists(alloc, scopes.len())?;
     for part in clauses {
-        push_test_in(alloc, source, entities, scope, entity, part, &mut made)?;
+        let entity = entities[part.0 as usize] as usize;
+        push_test_in(alloc, source, scopes, entity, &part.1, &mut lists[entity])?;
     }
-    Ok(made)
+    Ok(lists)
 }
 
 /// The term of an attribute.
@@ -322,43 +329,36 @@ fn copy_variables(alloc: Global, vars: &[(Name, u32)]) -> Result<Vec<(Name, u32)
     Ok(made)
 }
 
-/// The variables and the where equations of an entity's block.
-fn build_head(
+/// The variables of an entity's block.
+fn build_variables(
     alloc: Global,
-    source: &Schema,
-    entities: &[u32],
     scopes: &[Scope],
-    clauses: &[(u32, Clause)],
     entity: usize,
-) -> Result<(Vec<(Name, u32)>, Vec<Equation>), AllocError>
+) -> Result<Vec<(Name, u32)>, AllocError>
     requires { entity < length scopes.now }
-    ensures { IfOk result (λ made. (made.0.items ≡ scope_or_none (slice_get scopes.now entity)) × (made.1.items ≡ tests_made source.now entities.now scopes.now clauses.now entity)) }
+    ensures { IfOk result (λ made. made.items ≡ scope_or_none (slice_get scopes.now entity)) }
 {
-    let scope = &scopes[entity];
-    let vars = copy_variables(alloc, scope.vars())?;
-    let tests = build_tests(alloc, source, entities, scope, clauses, entity)?;
-    Ok((vars, tests))
+    copy_variables(alloc, scopes[entity].vars())
 }
 
-/// The block of an entity, by the attributes and foreign keys from it.
-#[tactic(auto, unfolding(crate::specs::QueryParts::block_in))]
+/// The block of an entity with these where equations, by the attributes and foreign keys from it.
 fn make_block(
     alloc: Global,
     source: &Schema,
     target: &Schema,
-    entities: &[u32],
     scopes: &[Scope],
     clauses: &[(u32, Clause)],
     index: &Index,
     attributes: &[usize],
     keys: &[usize],
     entity: usize,
+    tests: Vec<Equation>,
 ) -> Result<Block, AllocError>
     requires index { IsIndex target.now clauses.now index.now }
     requires entity { entity < length scopes.now }
-    ensures { IfOk result (λ made. made ≡ block_in source.now target.now entities.now scopes.now clauses.now attributes.now keys.now entity) }
+    ensures { IfOk result (λ made. made ≡ record { vars = scope_or_none (slice_get scopes.now entity); tests = tests.items; attributes = map (attribute_made source.now target.now scopes.now clauses.now) attributes.now; keys = map (key_made source.now target.now scopes.now clauses.now) keys.now }) }
 {
-    let (vars, tests) = build_head(alloc, source, entities, scopes, clauses, entity)?;
+    let vars = build_variables(alloc, scopes, entity)?;
     let attributes = build_attributes(alloc, source, target, scopes, clauses, index, attributes)?;
     let keys = build_keys(alloc, source, target, scopes, clauses, index, keys)?;
     Ok(Block {
@@ -369,30 +369,30 @@ fn make_block(
     })
 }
 
-/// The block of an entity.
+/// The block of an entity with these where equations.
 fn make_block_at(
     alloc: Global,
     source: &Schema,
     target: &Schema,
-    entities: &[u32],
     scopes: &[Scope],
     clauses: &[(u32, Clause)],
     index: &Index,
     attributes: &Groups,
     keys: &Groups,
     entity: usize,
+    tests: Vec<Equation>,
 ) -> Result<Block, AllocError>
     requires index { IsIndex target.now clauses.now index.now }
     requires attributes { AreGroups (edge_sources target.now.attributes) (length target.now.entities) attributes.now }
     requires keys { AreGroups (edge_sources target.now.keys) (length target.now.entities) keys.now }
     requires scopes { length scopes.now ≡ length target.now.entities }
     requires entity { entity < length target.now.entities }
-    ensures { IfOk result (λ made. made ≡ block_made source.now target.now entities.now scopes.now clauses.now entity) }
+    ensures { IfOk result (λ made. made ≡ record { vars = scope_or_none (slice_get scopes.now entity); tests = tests.items; attributes = map (attribute_made source.now target.now scopes.now clauses.now) (positions (edge_sources target.now.attributes) entity); keys = map (key_made source.now target.now scopes.now clauses.now) (positions (edge_sources target.now.keys) entity) }) }
 {
     let attributes = attributes.of(entity);
     let keys = keys.of(entity);
     make_block(
-        alloc, source, target, entities, scopes, clauses, index, attributes, keys, entity,
+        alloc, source, target, scopes, clauses, index, attributes, keys, entity, tests,
     )
 }
 
@@ -412,12 +412,16 @@ pub(crate) fn build_blocks(
     requires attributes { AreGroups (edge_sources target.now.attributes) (length target.now.entities) attributes.now }
     requires keys { AreGroups (edge_sources target.now.keys) (length target.now.entities) keys.now }
     requires scopes { length scopes.now ≡ length target.now.entities }
+    requires entities { All (λ entity. entity < length target.now.entities) entities.now }
+    requires blocks { All (λ part. part.0 < length entities.now) clauses.now }
     ensures { IfOk result (λ made. made.items ≡ blocks_made source.now target.now entities.now scopes.now clauses.now) }
 {
+    let lists = build_tests(alloc, source, entities, scopes, clauses)?;
     let mut made = Vec::new(alloc);
-    for entity in 0..target.entities.len() {
+    for tests in lists {
+        let entity = made.len();
         made.push(make_block_at(
-            alloc, source, target, entities, scopes, clauses, index, attributes, keys, entity,
+            alloc, source, target, scopes, clauses, index, attributes, keys, entity, tests,
         )?)?;
     }
     Ok(made)

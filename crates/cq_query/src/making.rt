@@ -28,6 +28,8 @@ fn finish_blocks(
 ) -> Result<(Vec<Block>, Tables), ArrowRefusal>
     requires parts { first + length clauses.now < 2 ^ 32 }
     requires scopes { length scopes.now ≡ length target.now.entities }
+    requires entities { All (λ entity. entity < length target.now.entities) entities.now }
+    requires blocks { All (λ part. part.0 < length entities.now) clauses.now }
     ensures accepted { IfOk result (λ _. clauses_and_rest_fault source.now target.now entities.now scopes.now clauses.now first ≡ None) }
     ensures made { IfOk result (λ made. made.0.items ≡ blocks_made source.now target.now entities.now scopes.now clauses.now) }
     ensures keys { IfOk result (λ made. AreGroups (edge_sources target.now.keys) (length target.now.entities) made.1.keys) }
@@ -80,6 +82,7 @@ pub(crate) fn make_blocks(
     requires parts { first + length vars.now + length clauses.now < 2 ^ 32 }
     requires entities { All (λ entity. entity < length target.now.entities) entities.now }
     requires blocks { All (λ part. part.0 < length entities.now) vars.now }
+    requires clauses { All (λ part. part.0 < length entities.now) clauses.now }
     ensures accepted { IfOk result (λ _. variables_and_rest_fault source.now target.now entities.now first vars.now clauses.now ≡ None) }
     ensures made { IfOk result (λ made. made.0.items ≡ blocks_made source.now target.now entities.now (scopes_of source.now entities.now (length target.now.entities) vars.now) clauses.now) }
     ensures keys { IfOk result (λ made. AreGroups (edge_sources target.now.keys) (length target.now.entities) made.1.keys) }

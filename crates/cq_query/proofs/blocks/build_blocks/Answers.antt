@@ -1,9 +1,26 @@
-use Rattle.std.proofs.Common.{[], ◌∷◌, ◌++◌, sym, ◌∙◌, arith}
-use Rattle.std.proofs.lemmas.List.FromFn.{map-range_with_len_more}
-use Rattle.cq_query.specs.QueryParts.{block_made}
+use Rattle.std.proofs.Common.{List, [], ◌∷◌, ◌≡◌, Vec, Global, map, length, refl, subst, ap, ◌∙◌, arith, rules}
+use Rattle.cq_theory.specs.declared.presentation.Equation.{Equation}
+use Rattle.cq_query.proofs.Blocking.{IsUpTo, with_tests, one_more, all_made}
 use Rattle.cq_query.proofs.blocks.build_blocks.Goals as goal
 
-pub loop-entity-preserved : goal.loop-entity-preserved
-loop-entity-preserved c =
-    c.in_ok-push.ensures.items ∙ (λ i. c.loop-entity.invariant i ++ c.in_ok-make_block_at.ensures i ∷ [])
-    ∙ sym (map-range_with_len_more (block_made c.args.source.now c.args.target.now c.args.entities.now c.args.scopes.now c.args.clauses.now) 0 c.loop-entity.entity c.loop-entity.entity (omega arith))
+pub loop-tests-preserved : goal.loop-tests-preserved
+loop-tests-preserved c =
+    let next : c.loop-tests.tests-iterator.rest.items ≡ c.in-Some.tests ∷ c.next.new.self.rest.items = search rules in
+    let size : c.len-entity.result ≡ length c.loop-tests.made.items = search rules in
+    one_more c.args.source.now c.args.target.now c.args.entities.now c.args.scopes.now c.args.clauses.now c.loop-tests.made.items c.push.new.self.items c.in-Some.tests.items
+    (map (λ (list : Vec Equation Global). list.items) c.next.new.self.rest.items) c.in_ok-make_block_at.field-0
+    (subst (λ lists. IsUpTo c.args.source.now c.args.target.now c.args.entities.now c.args.scopes.now c.args.clauses.now c.loop-tests.made.items (map (λ (list : Vec Equation Global). list.items) lists)) next c.loop-tests.invariant)
+    (c.in_ok-make_block_at.ensures ∙ ap (λ n. with_tests c.args.source.now c.args.target.now c.args.entities.now c.args.scopes.now c.args.clauses.now n c.in-Some.tests.items) size)
+    c.in_ok-push.ensures.items
+
+nothing : {X : Type 0} (xs : List X) → length xs ≡ 0 → xs ≡ []
+nothing [] h = refl
+nothing (x ∷ xs) h = absurd (omega arith)
+
+pub returns : goal.returns
+returns c =
+    let h = c.in-None.ensures.steps in
+    let size : length c.loop-tests.tests-iterator.rest.items ≡ 0 = omega (arith, h.0, c.loop-tests.tests-iterator.rest.ok) in
+    let none : c.loop-tests.tests-iterator.rest.items ≡ [] = nothing c.loop-tests.tests-iterator.rest.items size in
+    all_made c.args.source.now c.args.target.now c.args.entities.now c.args.scopes.now c.args.clauses.now c.loop-tests.made.items
+    (subst (λ lists. IsUpTo c.args.source.now c.args.target.now c.args.entities.now c.args.scopes.now c.args.clauses.now c.loop-tests.made.items (map (λ (list : Vec Equation Global). list.items) lists)) none c.loop-tests.invariant)

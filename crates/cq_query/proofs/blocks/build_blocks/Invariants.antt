@@ -1,7 +1,6 @@
-use Rattle.std.proofs.Common.{◌≡◌, map}
-use Rattle.cq_theory.specs.Canonical.{below}
-use Rattle.cq_query.specs.QueryParts.{block_made}
+use Rattle.std.proofs.Common.{map}
+use Rattle.cq_query.proofs.Blocking.{IsUpTo}
 use Rattle.cq_query.proofs.blocks.build_blocks.Given as goal
 
-abbrev pub invariant-loop-entity : goal.invariant-loop-entity
-invariant-loop-entity l = l.made.items ≡ map (block_made l.source l.target l.entities l.scopes l.clauses) (below l.entity)
+abbrev pub invariant-loop-tests : goal.invariant-loop-tests
+invariant-loop-tests l = IsUpTo l.source l.target l.entities l.scopes l.clauses l.made.items (map (λ list. list.items) l.tests-iterator.rest.items)

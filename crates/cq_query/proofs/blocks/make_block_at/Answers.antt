@@ -1,7 +1,9 @@
-use Rattle.std.proofs.Common.{ℕ, List, ◌≡◌, IfOk, subst}
+use Rattle.std.proofs.Common.{ℕ, List, ◌≡◌, IfOk, map, subst}
+use Rattle.std.specs.Prelude.{slice_get}
+use Rattle.cq_query.specs.declared.query.Block.{Block}
 use Rattle.cq_query.specs.Groups.{positions}
 use Rattle.cq_query.specs.Translation.{edge_sources}
-use Rattle.cq_query.specs.QueryParts.{block_in}
+use Rattle.cq_query.specs.QueryParts.{scope_or_none, attribute_made, key_made}
 use Rattle.cq_query.proofs.Lists.{group_within, group_read}
 use Rattle.cq_query.proofs.blocks.make_block_at.Goals as goal
 
@@ -17,5 +19,11 @@ returns c =
     let keys = group_read _ _ c.args.entity _ c.requires.keys c.requires.entity _ c.of-keys.ensures in
     let both : (c.of-attributes.result.now, c.of-keys.result.now) ≡ (positions (edge_sources c.args.target.now.attributes) c.args.entity, positions (edge_sources c.args.target.now.keys) c.args.entity)
     = λ i. (attributes i, keys i) in
-    let Told : List ℕ × List ℕ → Type 0 = λ l. IfOk c.make_block.result (λ made. made ≡ block_in c.args.source.now c.args.target.now c.args.entities.now c.args.scopes.now c.args.clauses.now l.0 l.1 c.args.entity) in
+    let With : List ℕ × List ℕ → Block = λ l. record {
+      vars = scope_or_none (slice_get c.args.scopes.now c.args.entity);
+      tests = c.args.tests.items;
+      attributes = map (attribute_made c.args.source.now c.args.target.now c.args.scopes.now c.args.clauses.now) l.0;
+      keys = map (key_made c.args.source.now c.args.target.now c.args.scopes.now c.args.clauses.now) l.1;
+    } in
+    let Told : List ℕ × List ℕ → Type 0 = λ l. IfOk c.make_block.result (λ made. made ≡ With l) in
     subst Told both c.make_block.ensures

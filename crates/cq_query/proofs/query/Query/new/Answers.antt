@@ -1,6 +1,6 @@
 use Rattle.std.proofs.Common.{length, ap, subst, ◌∙◌, arith}
 use Rattle.cq_theory.specs.Schema.{IsSchema}
-use Rattle.cq_query.proofs.NewQueries.{new_entities, new_blocks, new_fault, new_refused, new_made, new_is, keys_at, attributes_at, path_eqs_at, obs_eqs_at}
+use Rattle.cq_query.proofs.NewQueries.{new_entities, new_blocks, new_clauses, new_fault, new_refused, new_made, new_is, keys_at, attributes_at, path_eqs_at, obs_eqs_at}
 use Rattle.cq_query.proofs.query.Query.new.Goals as goal
 
 pub make_entities-requires : goal.make_entities-requires
@@ -24,6 +24,14 @@ make_blocks-requires-clause-blocks c =
     c.deref-4.ensures c.deref-5.ensures c.deref-3.ensures c.as_slice.ensures c.as_slice-3.ensures c.as_slice-4.ensures c.len-first.ensures
     c.in_ok-blocks.ensures.accepted c.in_ok-blocks.ensures.made c.as_slice-2.ensures.value
     c.requires.vars
+
+pub make_blocks-requires-clause-clauses : goal.make_blocks-requires-clause-clauses
+make_blocks-requires-clause-clauses c =
+    new_clauses c.args.source.value c.args.target.value c.deref-4.result.now c.deref-5.result.now c.deref-3.result.now c.args.parts
+    c.as_slice.result.now c.as_slice-3.result.now c.as_slice-4.result.now c.in_ok-blocks.blocks.items c.as_slice-2.result.now c.len-first.result
+    c.deref-4.ensures c.deref-5.ensures c.deref-3.ensures c.as_slice.ensures c.as_slice-3.ensures c.as_slice-4.ensures c.len-first.ensures
+    c.in_ok-blocks.ensures.accepted c.in_ok-blocks.ensures.made c.as_slice-2.ensures.value
+    c.requires.clauses
 
 pub invariant_of-result : goal.invariant_of-result
 invariant_of-result c = (
