@@ -13,3 +13,4 @@ pub mod Repeats
 pub mod Indexing
 pub mod FormedTables
 pub mod Blocking
+pub mod Assigning

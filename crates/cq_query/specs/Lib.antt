@@ -9,3 +9,4 @@ pub mod QueryParts
 pub mod Answers
 pub mod Given
 pub mod Index
+pub mod Assigned

@@ -4,13 +4,15 @@ ghost use Rattle.cq_theory.specs.Canonical.{below};
 ghost use Rattle.cq_theory.specs.Parts.{equation_of};
 ghost use Rattle.cq_theory.specs.Resolved.{entity_term_in, resolved};
 ghost use Rattle.cq_query.specs.Groups.{positions, AreGroups};
+ghost use Rattle.cq_query.specs.Assigned.{IsAssigned};
 ghost use Rattle.cq_query.specs.Index.{IsIndex};
 ghost use Rattle.cq_query.specs.Puts.{alone};
 ghost use Rattle.cq_query.specs.Translation.{edge_sources};
 ghost use Rattle.cq_query.specs.QueryParts.{names_of, sorts_of, type_made, entity_made, test_made, tests_made, scope_or_none, attribute_made, key_made, key_made_at, blocks_made, assigned_in};
 
+use crate::assigned::{Assigned, find_assigned, make_assigned};
 use crate::groups::Groups;
-use crate::index::{Index, find_assigned, find_attribute};
+use crate::index::{Index, find_attribute};
 use crate::parts::Clause;
 use crate::query::Block;
 use crate::scopes::Scope;
@@ -210,17 +212,16 @@ fn build_assigned(
     target: &Schema,
     scope: Option<&Scope>,
     clauses: &[(u32, Clause)],
-    index: &Index,
+    assigned: &Assigned,
     key: usize,
     vars: &[(Name, u32)],
 ) -> Result<Vec<EntTerm>, AllocError>
-    requires index { IsIndex target.now clauses.now index.now }
-    requires key { key < length target.now.keys }
+    requires { IsAssigned target.now clauses.now key assigned.now }
     ensures { IfOk result (λ made. made.items ≡ map (λ v. entity_made source.now (option_copied scope.entry) (assigned_in target.now clauses.now key v.0)) vars.now) }
 {
     let mut made = Vec::new(alloc);
     for var in vars {
-        let raw = find_assigned(target, clauses, index, key, &var.0);
+        let raw = find_assigned(target, clauses, assigned, key, &var.0);
         made.push(make_entity(alloc, source, scope, raw)?)?;
     }
     Ok(made)
@@ -234,15 +235,14 @@ fn build_assigned_to(
     from: Option<&Scope>,
     to: Option<&Scope>,
     clauses: &[(u32, Clause)],
-    index: &Index,
+    assigned: &Assigned,
     key: usize,
 ) -> Result<Vec<EntTerm>, AllocError>
-    requires index { IsIndex target.now clauses.now index.now }
-    requires key { key < length target.now.keys }
+    requires { IsAssigned target.now clauses.now key assigned.now }
     ensures { IfOk result (λ made. made.items ≡ map (λ v. entity_made source.now (option_copied from.entry) (assigned_in target.now clauses.now key v.0)) (scope_or_none (option_copied to.entry))) }
 {
     match to {
-        Some(to) => build_assigned(alloc, source, target, from, clauses, index, key, to.vars()),
+        Some(to) => build_assigned(alloc, source, target, from, clauses, assigned, key, to.vars()),
         None => Ok(Vec::new(alloc)),
     }
 }
@@ -271,7 +271,9 @@ fn make_key_at(
 {
     let from = scope_at(scopes, edge.from);
     let to = scope_at(scopes, edge.to);
-    build_assigned_to(alloc, source, target, from, to, clauses, index, key)
+    let assigned = make_assigned(alloc, target, clauses, index, key)?;
+    let terms = build_assigned_to(alloc, source, target, from, to, clauses, &assigned, key)?;
+    Ok(terms)
 }
 
 fn key_at(target: &Schema, key: usize) -> Option<&Edge>

@@ -2,13 +2,13 @@
 ghost use Rattle.std.specs.Prelude.{◌≡◌, ◌+◌, ◌<◌, ◌≤◌, ◌^◌, All, IfOk, length, map, option_copied};
 ghost use Rattle.std.specs.List.{list_any};
 ghost use Rattle.cq_query.specs.Groups.{AreGroups};
-ghost use Rattle.cq_query.specs.QueryParts.{first_of, attribute_given as given_attribute, key_given as given_key, assigned_given as given_assigned, attribute_in, has_key as key_there, assigned_in};
+ghost use Rattle.cq_query.specs.QueryParts.{first_of, attribute_given as given_attribute, key_given as given_key, attribute_in, has_key as key_there};
 ghost use Rattle.cq_query.specs.Index.{IsIndex, at_place, is_at_place, attribute_number as number_of_attribute, key_number as number_of_key, attribute_owner as owner_attribute, key_owner as owner_key};
 
 use crate::groups::Groups;
-use crate::missing::{assigned_given, attribute_given, key_given};
+use crate::missing::{attribute_given, key_given};
 use crate::parts::Clause;
-use cq_base::{Name, Raw};
+use cq_base::Raw;
 use cq_theory::{Schema, Symbol};
 use std::alloc::{AllocError, Global};
 
@@ -127,40 +127,6 @@ fn attribute_at<'a>(
     }
 }
 
-/// The term that the clause at one of these places assigns to the variable for the foreign key.
-fn assigned_among<'a>(
-    target: &Schema,
-    clauses: &'a [(u32, Clause)],
-    places: &[usize],
-    key: usize,
-    variable: &Name,
-) -> Option<&'a Raw>
-    ensures { option_copied result ≡ first_of (at_place (λ part. given_assigned target.now key variable.now part.1) clauses.now) places.now }
-{
-    for place in places {
-        let found = assigned_at(target, clauses, *place, key, variable);
-        if found.is_some() {
-            return found;
-        }
-    }
-    None
-}
-
-fn assigned_at<'a>(
-    target: &Schema,
-    clauses: &'a [(u32, Clause)],
-    place: usize,
-    key: usize,
-    variable: &Name,
-) -> Option<&'a Raw>
-    ensures { option_copied result ≡ at_place (λ part. given_assigned target.now key variable.now part.1) clauses.now place }
-{
-    match clauses.get(place) {
-        Some(part) => assigned_given(target, key, variable, &part.1),
-        None => None,
-    }
-}
-
 /// Whether the clause at one of these places is that of the foreign key.
 fn is_key_among(target: &Schema, clauses: &[(u32, Clause)], places: &[usize], key: usize) -> bool
     ensures { result ≡ list_any (is_at_place (λ part. given_key target.now key part.1) clauses.now) places.now }
@@ -204,22 +170,6 @@ pub(crate) fn has_key(target: &Schema, clauses: &[(u32, Clause)], index: &Index,
 {
     let places = index.keys.of(key);
     is_key_among(target, clauses, places, key)
-}
-
-/// The term that a foreign key assigns to a variable.
-pub(crate) fn find_assigned<'a>(
-    target: &Schema,
-    clauses: &'a [(u32, Clause)],
-    index: &Index,
-    key: usize,
-    variable: &Name,
-) -> Option<&'a Raw>
-    requires index { IsIndex target.now clauses.now index.now }
-    requires key { key < length target.now.keys }
-    ensures { option_copied result ≡ assigned_in target.now clauses.now key variable.now }
-{
-    let places = index.keys.of(key);
-    assigned_among(target, clauses, places, key, variable)
 }
 
 fn index_attributes(

@@ -1,6 +1,7 @@
 //! Queries from a schema to a schema: what they keep, their frozen presentations and their duties.
 #![tactic(auto)]
 
+mod assigned;
 mod blocks;
 mod clauses;
 mod coeval;

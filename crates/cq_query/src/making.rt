@@ -46,6 +46,7 @@ fn finish_blocks(
         return Err(ArrowRefusal::Memory);
     };
     check_missing(
+        alloc,
         target,
         scopes,
         clauses,

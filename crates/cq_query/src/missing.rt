@@ -4,17 +4,20 @@ ghost use Rattle.std.specs.List.{list_any};
 ghost use Rattle.cq_theory.specs.Canonical.{below};
 ghost use Rattle.cq_theory.specs.Resolve.{or_else};
 ghost use Rattle.cq_query.specs.Groups.{positions, AreGroups};
+ghost use Rattle.cq_query.specs.Assigned.{IsAssigned};
 ghost use Rattle.cq_query.specs.Index.{IsIndex};
 ghost use Rattle.cq_query.specs.Translation.{edge_sources};
 ghost use Rattle.cq_query.specs.QueryParts.{is_attribute as is_the_attribute, is_key as is_the_key, attribute_given as given_attribute, key_given as given_key, assigned_given as given_assigned, first_of, missing_attribute, missing_key, missing_variable, missing_variables, missing_attributes, missing_keys, missing_assigned, missing_in, missing_at, missing_part};
 
+use crate::assigned::{Assigned, find_assigned, make_assigned};
 use crate::groups::Groups;
-use crate::index::{Index, find_assigned, find_attribute, has_key};
+use crate::index::{Index, find_attribute, has_key};
 use crate::owners::missing;
 use crate::parts::Clause;
 use crate::scopes::Scope;
 use cq_base::{Name, Raw};
 use cq_theory::{ArrowRefusal, Schema, Symbol};
+use std::alloc::Global;
 
 fn is_attribute(attribute: usize, symbol: Option<Symbol>) -> bool
     ensures { result ≡ is_the_attribute attribute symbol }
@@ -27,7 +30,7 @@ fn is_attribute(attribute: usize, symbol: Option<Symbol>) -> bool
     }
 }
 
-fn is_key(key: usize, symbol: Option<Symbol>) -> bool
+pub(crate) fn is_key(key: usize, symbol: Option<Symbol>) -> bool
     ensures { result ≡ is_the_key key symbol }
 {
     match symbol {
@@ -137,6 +140,27 @@ fn check_key(
 fn check_variables(
     target: &Schema,
     clauses: &[(u32, Clause)],
+    assigned: &Assigned,
+    key: usize,
+    vars: &[(Name, u32)],
+) -> Result<(), ArrowRefusal>
+    requires { IsAssigned target.now clauses.now key assigned.now }
+    ensures accepted { IfOk result (λ _. first_of (missing_variable target.now clauses.now key) vars.now ≡ None) }
+    ensures refused { IfErr result (λ refusal. (refusal ≡ ArrowRefusal.Memory) ⊎ (first_of (missing_variable target.now clauses.now key) vars.now ≡ Some refusal)) }
+{
+    for var in vars {
+        if find_assigned(target, clauses, assigned, key, &var.0).is_none() {
+            return Err(missing(&var.0));
+        }
+    }
+    Ok(())
+}
+
+/// The same, where the assignments are still to be found.
+fn check_variables_of(
+    alloc: Global,
+    target: &Schema,
+    clauses: &[(u32, Clause)],
     index: &Index,
     key: usize,
     vars: &[(Name, u32)],
@@ -146,15 +170,14 @@ fn check_variables(
     ensures accepted { IfOk result (λ _. first_of (missing_variable target.now clauses.now key) vars.now ≡ None) }
     ensures refused { IfErr result (λ refusal. (refusal ≡ ArrowRefusal.Memory) ⊎ (first_of (missing_variable target.now clauses.now key) vars.now ≡ Some refusal)) }
 {
-    for var in vars {
-        if find_assigned(target, clauses, index, key, &var.0).is_none() {
-            return Err(missing(&var.0));
-        }
+    match make_assigned(alloc, target, clauses, index, key) {
+        Ok(assigned) => check_variables(target, clauses, &assigned, key, vars),
+        Err(_) => Err(ArrowRefusal::Memory),
     }
-    Ok(())
 }
 
 fn check_assigned(
+    alloc: Global,
     target: &Schema,
     scopes: &[Scope],
     clauses: &[(u32, Clause)],
@@ -169,7 +192,7 @@ fn check_assigned(
         return Ok(());
     };
     match scopes.get(edge.to as usize) {
-        Some(scope) => check_variables(target, clauses, index, key, scope.vars()),
+        Some(scope) => check_variables_of(alloc, target, clauses, index, key, scope.vars()),
         None => Ok(()),
     }
 }
@@ -208,6 +231,7 @@ fn check_keys(
 
 /// Whether the foreign keys assign a term to each variable of the blocks to which they lead.
 fn check_all_assigned(
+    alloc: Global,
     target: &Schema,
     scopes: &[Scope],
     clauses: &[(u32, Clause)],
@@ -219,13 +243,14 @@ fn check_all_assigned(
     ensures refused { IfErr result (λ refusal. (refusal ≡ ArrowRefusal.Memory) ⊎ (missing_assigned target.now scopes.now clauses.now keys.now ≡ Some refusal)) }
 {
     for key in keys {
-        check_assigned(target, scopes, clauses, index, *key)?;
+        check_assigned(alloc, target, scopes, clauses, index, *key)?;
     }
     Ok(())
 }
 
 /// Whether the attributes and foreign keys of an entity are given whole.
 fn check_entity(
+    alloc: Global,
     target: &Schema,
     scopes: &[Scope],
     clauses: &[(u32, Clause)],
@@ -243,12 +268,13 @@ fn check_entity(
 {
     let attributes = attributes.of(entity);
     let keys = keys.of(entity);
-    check_lists(target, scopes, clauses, index, attributes, keys)
+    check_lists(alloc, target, scopes, clauses, index, attributes, keys)
 }
 
 /// Whether these attributes and foreign keys are given whole.
 #[tactic(auto, unfolding(crate::specs::QueryParts::missing_in))]
 fn check_lists(
+    alloc: Global,
     target: &Schema,
     scopes: &[Scope],
     clauses: &[(u32, Clause)],
@@ -262,11 +288,12 @@ fn check_lists(
 {
     check_attributes(target, clauses, index, attributes)?;
     check_keys(target, clauses, index, keys)?;
-    check_all_assigned(target, scopes, clauses, index, keys)
+    check_all_assigned(alloc, target, scopes, clauses, index, keys)
 }
 
 /// Whether the attributes and foreign keys of each entity are given whole.
 pub(crate) fn check_missing(
+    alloc: Global,
     target: &Schema,
     scopes: &[Scope],
     clauses: &[(u32, Clause)],
@@ -281,7 +308,9 @@ pub(crate) fn check_missing(
     ensures refused { IfErr result (λ refusal. (refusal ≡ ArrowRefusal.Memory) ⊎ (missing_part target.now scopes.now clauses.now ≡ Some refusal)) }
 {
     for entity in 0..target.entities.len() {
-        check_entity(target, scopes, clauses, index, attributes, keys, entity)?;
+        check_entity(
+            alloc, target, scopes, clauses, index, attributes, keys, entity,
+        )?;
     }
     Ok(())
 }
