@@ -1,6 +1,5 @@
 -- Clauses by the attribute or foreign key to which they give something.
-use Rattle.std.specs.Prelude.{ℕ, Bool, false, List, ◌≡◌, ◌+◌, map, length, Option, Some, None, slice_get, option_and_then}
-use Rattle.cq_base.specs.declared.name.Name.{Name}
+use Rattle.std.specs.Prelude.{ℕ, Bool, false, List, ◌+◌, map, length, Option, Some, None, slice_get, option_and_then}
 use Rattle.cq_theory.specs.declared.lookup.Symbol.{Symbol}
 use Rattle.cq_theory.specs.declared.lookup.Symbol.TheVariants as symbol
 use Rattle.cq_theory.specs.SchemaData.{SchemaData as Schema}

@@ -242,7 +242,16 @@ fn build_assigned_to(
     ensures { IfOk result (λ made. made.items ≡ map (λ v. entity_made source.now (option_copied from.entry) (assigned_in target.now clauses.now key v.0)) (scope_or_none (option_copied to.entry))) }
 {
     match to {
-        Some(to) => build_assigned(alloc, source, target, from, clauses, assigned, key, to.vars()),
+        Some(to) => build_assigned(
+            alloc,
+            source,
+            target,
+            from,
+            clauses,
+            assigned,
+            key,
+            to.vars(),
+        ),
         None => Ok(Vec::new(alloc)),
     }
 }
