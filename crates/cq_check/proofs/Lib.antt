@@ -1,0 +1,13 @@
+pub mod Lists
+pub mod Typed
+pub mod Rows
+pub mod Placed
+pub mod Derived
+pub mod Meanings
+pub mod Readable
+pub mod Pushed
+pub mod Listed
+pub mod Leaves
+pub mod OneValue
+pub mod Depths
+pub mod Duties

@@ -1,0 +1,3 @@
+//! Mappings between small schemas that are checked.
+mod given;
+mod mappings;
