@@ -1,11 +1,12 @@
 -- The duties of a mapping are well sorted.
-use Rattle.std.proofs.Common.{ℕ, zero, suc, List, [], ◌∷◌, ◌++◌, Option, Some, None, ◌≡◌, ◌<◌, ◌≤◌, ◌+◌, ◌⊎◌, map, length, refl, sym, ap, subst, ◌∙◌, arith, inl, inr}
+use Rattle.std.proofs.Common.{ℕ, zero, suc, Result, Err, List, [], ◌∷◌, ◌++◌, Option, Some, None, ◌≡◌, ◌<◌, ◌≤◌, ◌+◌, ◌⊎◌, map, length, refl, sym, ap, subst, ◌∙◌, arith, inl, inr}
 use Rattle.std.specs.Prelude.{slice_get, option_map, All}
 use Rattle.std.proofs.lemmas.Bool.{cases_lt}
 use Rattle.std.proofs.lemmas.List.Elements.{All-nil, All-cons}
 use Rattle.cq_base.specs.declared.name.Name.{Name}
-use Rattle.cq_check.specs.Answers.{IsWellSorted, IsAnswer, IsTooDeep, IsTooWide, IsDutyAt, over, IsNotPreserved, IsTooDeepDuty, IsTooWideDuty}
-use Rattle.cq_check.specs.declared.equality.Verdict.TheVariants.{No}
+use Rattle.cq_check.specs.Answers.{IsWellSorted, IsTooDeep, IsTooWide, IsDutyAt, over, IsNotPreserved, IsTooDeepDuty, IsTooWideDuty}
+use Rattle.cq_check.specs.declared.mappings.CheckRefusal.{CheckRefusal}
+use Rattle.cq_check.specs.declared.mappings.CheckRefusal.TheVariants.{NotPreserved, Depth, TooManyRows}
 use Rattle.cq_check.proofs.Lists.{mapped_at, one_at}
 use Rattle.cq_mapping.specs.MappingData.{MappingData as Mapping}
 use Rattle.cq_mapping.specs.Mapping.{IsMapping}
@@ -75,6 +76,16 @@ module _ (F : Mapping) (is : IsMapping F) where
     count = omega arith;
     equations = λ i e at. cc;
   }
+
+-- the number of a refusal
+pub preserved_number : (p n : ℕ) → ◌≡◌ {A = Result (Unit {0}) CheckRefusal} (Err (NotPreserved p)) (Err (NotPreserved n)) → n ≡ p
+preserved_number p n h = let one : NotPreserved p ≡ NotPreserved n = cc in let two : p ≡ n = cc in sym two
+
+pub depth_number : (p n : ℕ) → ◌≡◌ {A = Result (Unit {0}) CheckRefusal} (Err (Depth p)) (Err (Depth n)) → n ≡ p
+depth_number p n h = let one : Depth p ≡ Depth n = cc in let two : p ≡ n = cc in sym two
+
+pub rows_number : (p n : ℕ) → ◌≡◌ {A = Result (Unit {0}) CheckRefusal} (Err (TooManyRows p)) (Err (TooManyRows n)) → n ≡ p
+rows_number p n h = let one : TooManyRows p ≡ TooManyRows n = cc in let two : p ≡ n = cc in sym two
 
 -- the first duties are derivable
 abbrev pub AreDerivable : Mapping → ℕ → Type 0

@@ -38,10 +38,16 @@ module _ (S : Schema) (P : Presentation) (m : Content) (entries : List ℕ) wher
       }
 
   -- as the code makes it
-  pub made_sound : (list : NodeListData) (made count : ℕ) → made ≡ made_of m → count ≡ length P.generators
-      → list ≡ record { nodes = ([] ++ replicate made node.Leaf) ++ replicate count node.Leaf; equations = [] } → AreSound S P m entries list
-  made_sound list made count made_is count_is is =
-      subst (AreSound S P m entries) (sym (is ∙ ap (λ (l : List Node). record { nodes = l; equations = [] }) (replicate-append-replicate made count node.Leaf ∙ (λ i. replicate (made_is i + count_is i) node.Leaf)))) leaves_sound
+  pub made_sound : (none rows all : NodeListData) (made count : ℕ) → none ≡ record { nodes = []; equations = [] }
+      → rows ≡ record { nodes = none.nodes ++ replicate made node.Leaf; equations = none.equations } → all ≡ record { nodes = rows.nodes ++ replicate count node.Leaf; equations = rows.equations }
+      → made ≡ made_of m → count ≡ length P.generators → AreSound S P m entries all
+  made_sound none rows all made count none_is rows_are all_are made_is count_is =
+      let rows_here : rows ≡ record { nodes = replicate made node.Leaf; equations = [] } = rows_are ∙ ap (λ (l : NodeListData). record { nodes = l.nodes ++ replicate made node.Leaf; equations = l.equations }) none_is in
+      let all_here : all ≡ record { nodes = replicate made node.Leaf ++ replicate count node.Leaf; equations = [] } =
+      all_are ∙ ap (λ (l : NodeListData). record { nodes = l.nodes ++ replicate count node.Leaf; equations = l.equations }) rows_here in
+      let whole : all ≡ record { nodes = replicate (made_of m + length P.generators) node.Leaf; equations = [] } =
+      all_here ∙ ap (λ (l : List Node). record { nodes = l; equations = [] }) (replicate-append-replicate made count node.Leaf ∙ (λ i. replicate (made_is i + count_is i) node.Leaf)) in
+      subst (AreSound S P m entries) (sym whole) leaves_sound
 
   -- the nodes of a term are added
   pub pushed_sound : (old new : NodeListData) (t : TypeTerm) (type : ℕ) (place : _) → type_of S P.generators t ≡ Some type → IsPushed m entries old.nodes new.nodes t place → new.equations ≡ old.equations

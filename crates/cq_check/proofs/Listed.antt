@@ -177,7 +177,7 @@ module _ (S : Schema) (P : Presentation) (m : Content) (entries : List ℕ) wher
           let same : a ≡ b = cc in
           g ∙ ap (λ n. Some n) (sym same)
 
-module _ (S : Schema) (schema : IsSchema S) (m : Content) where
+module _ (S : Schema) (m : Content) where
   -- the first observation equations are added at a row
   pub record AddsAtRow (row : ℕ) (old new : NodeListData) (count : ℕ) : Type 0 where
     pub grows : Grows old new
@@ -205,9 +205,9 @@ module _ (S : Schema) (schema : IsSchema S) (m : Content) where
     ];
   }
 
-  pub row_added : (row : ℕ) (old mid new : NodeListData) (i : ℕ) (e : ObsEq) → live_of m row ≡ true → slice_get S.obs_eqs i ≡ Some e → e.entity ≡ row_entity m row
+  pub row_added : IsSchema S → (row : ℕ) (old mid new : NodeListData) (i : ℕ) (e : ObsEq) → live_of m row ≡ true → slice_get S.obs_eqs i ≡ Some e → e.entity ≡ row_entity m row
       → IsEquated m (row ∷ []) mid new e.left e.right → AddsAtRow row old mid i → AddsAtRow row old new (i + 1)
-  row_added row old mid new i e live there entity h before =
+  row_added schema row old mid new i e live there entity h before =
       let sides = schema.obs_eqs i e there in
       record {
         grows = grows_both old mid new before.grows h.grows;

@@ -1,6 +1,7 @@
 -- Places of lists.
-use Rattle.std.proofs.Common.{ℕ, zero, suc, List, [], ◌∷◌, ◌++◌, Some, ◌≡◌, ◌<◌, ◌≤◌, ◌+◌, ◌⊎◌, map, length, refl, sym, ap, subst, ◌∙◌, arith, inl, inr}
+use Rattle.std.proofs.Common.{ℕ, zero, suc, List, [], ◌∷◌, ◌++◌, Some, ◌≡◌, ◌<◌, ◌≤◌, ◌+◌, ◌⊎◌, map, length, get_or, refl, sym, ap, subst, ◌∙◌, arith, inl, inr}
 use Rattle.std.specs.Prelude.{slice_get}
+use Rattle.std.proofs.lemmas.Option.{slice_get-get_or}
 use Rattle.cq_check.specs.Adding.{Extends}
 
 -- what stands at a place within a list
@@ -38,3 +39,7 @@ pub mapped_at : {X Y : Type 0} (f : X → Y) (xs : List X) (n : ℕ) (y : Y) →
 mapped_at f [] n y h = cc
 mapped_at f (x ∷ xs) zero y h = (x, refl, cc)
 mapped_at f (x ∷ xs) (suc n) y h = mapped_at f xs n y h
+
+-- the member that a loop has at a place
+pub item_at : {X : Type 0} (xs items : List X) (i : ℕ) (x : X) → items ≡ xs → i < length items → x ≡ get_or items i x → slice_get xs i ≡ Some x
+item_at xs items i x same within is = ap (λ l. slice_get l i) (sym same) ∙ slice_get-get_or items i x within ∙ ap (λ y. Some y) (sym is)

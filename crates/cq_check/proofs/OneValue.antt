@@ -1,6 +1,6 @@
 -- What the values of two nodes say of the terms for which they stand.
-use Rattle.std.proofs.Common.{ℕ, Bool, true, false, List, Some, ◌≡◌, ◌<◌, ◌+◌, length, get_or, refl, sym, ap, subst, ◌∙◌, arith}
-use Rattle.std.specs.Prelude.{slice_get, option_map, MatchBool, All}
+use Rattle.std.proofs.Common.{ℕ, Result, Ok, Err, Bool, true, false, List, Some, ◌≡◌, ◌<◌, ◌+◌, length, get_or, refl, sym, ap, subst, ◌∙◌, arith}
+use Rattle.std.specs.Prelude.{slice_get, option_map, MatchBool, All, IfOk}
 use Rattle.std.proofs.lemmas.Option.{slice_get-get_or}
 use Rattle.cq_tables.specs.Content.{Content, made_of}
 use Rattle.cq_flat.specs.Nodes.{AreSides}
@@ -20,6 +20,11 @@ use Rattle.cq_theory.specs.declared.term.TypeTerm.{TypeTerm}
 use Rattle.cq_theory.specs.declared.term.Term.TheVariants.{Typ}
 use Rattle.cq_theory.specs.Sorts.{type_of}
 use Rattle.cq_theory.specs.Derivation.{Derives}
+
+-- what a clause says of an answer
+pub ok_then : {X E : Type 0} (r : Result X E) (P Q : X → Type 0) → ((x : X) → P x → Q x) → IfOk r P → IfOk r Q
+ok_then (Ok x) P Q f h = f x h
+ok_then (Err e) P Q f h = tt
 
 module _ (S : Schema) (P : Presentation) (m : Content) (entries : List ℕ) (schema : IsSchema S) (presentation : IsPresentation S P) (frame : IsFrame S P m entries)
     (list : NodeListData) (sound : AreSound S P m entries list) where

@@ -1,5 +1,5 @@
 //! Whether two terms are equal over rows that were made up to some depth.
-ghost use Rattle.std.specs.Prelude.{◌≡◌, ◌<◌, ◌↔◌, IfOk, IsTrue, MatchBool, length};
+ghost use Rattle.std.specs.Prelude.{ℕ, ◌≡◌, ◌<◌, ◌↔◌, IfOk, IsTrue, MatchBool, length};
 ghost use Rattle.cq_check.specs.Answers.{IsWellSorted};
 ghost use Rattle.cq_check.specs.Frame.{IsFrame, AreOneRow, IsApart};
 ghost use Rattle.cq_check.specs.Closed.{IsOneValue};
@@ -53,12 +53,7 @@ fn are_one_row(tables: &Tables, entries: &[u64], left: &EntTerm, right: &EntTerm
 }
 
 /// Whether two nodes have one value in the closure of the equations.
-fn have_one_value(
-    alloc: Global,
-    list: NodeList,
-    left: u64,
-    right: u64,
-) -> Result<bool, AllocError>
+fn have_one_value(alloc: Global, list: NodeList, left: u64, right: u64) -> Result<bool, AllocError>
     requires arguments { HasEarlierArguments list.nodes }
     requires sides { AreSides list.nodes list.equations }
     requires left { left < length list.nodes }
@@ -117,6 +112,7 @@ pub fn are_equal(
     ensures { IfOk result (λ same. MatchBool same (Derives schema.now presentation.now (left_of equation.now) (right_of equation.now))
         (IsApart schema.now presentation.now tables.now entries.now (left_of equation.now) (right_of equation.now))) }
 {
+    schema.is_well_sorted();
     match equation {
         Equation::Ent(left, right) => Ok(are_one_row(tables, entries, left, right)),
         Equation::Typ(left, right) => are_one_class(

@@ -44,14 +44,15 @@ fn verdict_at(
 {
     let partial = saturate(alloc, schema, presentation, depth)?;
     let entries = partial.generator_rows.as_slice();
-    if are_equal(
+    let same = are_equal(
         alloc,
         schema,
         presentation,
         &partial.tables,
         entries,
         equation,
-    )? {
+    )?;
+    if same {
         return Ok(Some(Verdict::Yes));
     }
     if partial.closed {

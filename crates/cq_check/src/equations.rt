@@ -1,6 +1,7 @@
 //! The equations between type terms: those of a presentation, and those of its schema at each row.
 ghost use Rattle.std.specs.Prelude.{◌≡◌, ◌≤◌, ◌+◌, true, length, map, OnOk};
 ghost use Rattle.cq_tables.specs.Content.{live_of, made_of, keys_of, IsWhole};
+ghost use Rattle.cq_tables.specs.Content.{entity_of as row_entity};
 ghost use Rattle.cq_check.specs.Adding.{Grows, HasGiven, HasAtRow, HasAtRows};
 ghost use Rattle.cq_check.specs.Frame.{IsFrame};
 ghost use Rattle.cq_check.specs.Sound.{AreSound, KeepsSound};
@@ -42,31 +43,24 @@ fn push_row(
     alloc: Global,
     schema: &Schema,
     tables: &Tables,
+    entity: u32,
     row: u64,
     list: &mut NodeList,
 ) -> Result<(), AllocError>
     requires whole { IsWhole tables.now }
     requires keys { keys_of tables.now ≡ map ends_of schema.now.keys }
     requires live { live_of tables.now row ≡ true }
+    requires entity { row_entity tables.now row ≡ entity }
     requires count { made_of tables.now ≤ length list.old.nodes }
     ensures grows { OnOk result (Grows list.old list.new) }
     ensures sound { OnOk result (KeepsSound schema.now tables.now list.old list.new) }
     ensures has { OnOk result (HasAtRow schema.now tables.now list.new row (length schema.now.obs_eqs)) }
 {
-    schema.is_well_sorted();
-    let entity = tables.entity(row);
     for equation in schema.obs_eqs.as_slice() {
         if equation.entity != entity {
             continue;
         }
-        push_equation(
-            alloc,
-            tables,
-            &[row],
-            list,
-            &equation.left,
-            &equation.right,
-        )?;
+        push_equation(alloc, tables, &[row], list, &equation.left, &equation.right)?;
     }
     Ok(())
 }
@@ -86,9 +80,12 @@ pub fn push_observations(
     ensures has { OnOk result (HasAtRows schema.now tables.now list.new (made_of tables.now)) }
 {
     for row in 0..tables.made() {
-        if tables.live(row) {
-            push_row(alloc, schema, tables, row, list)?;
+        let alive = tables.live(row);
+        if !alive {
+            continue;
         }
+        let entity = tables.entity(row);
+        push_row(alloc, schema, tables, entity, row, list)?;
     }
     Ok(())
 }

@@ -7,7 +7,7 @@ ghost use Rattle.cq_mapping.specs.Duties.{Preserves, one_generator};
 use crate::equality::{EqualRefusal, Verdict, equal};
 use cq_base::{Name, Seq};
 use cq_mapping::Mapping;
-use cq_theory::{Presentation, Sort};
+use cq_theory::{Presentation, Schema, Sort};
 use std::alloc::{AllocError, Global};
 
 /// Why a mapping isn't known to preserve the equations of its source. The number, from 1, is that of the first duty that isn't derived.
@@ -30,6 +30,12 @@ impl From<AllocError> for CheckRefusal {
     fn from(_error: AllocError) -> CheckRefusal {
         CheckRefusal::Memory
     }
+}
+
+fn target(mapping: &Mapping) -> &Schema
+    ensures { result.now ≡ mapping.now.target }
+{
+    &mapping.target
 }
 
 /// One generator of an entity, and no equations.
@@ -56,13 +62,7 @@ pub fn check_mapping(alloc: Global, mapping: &Mapping, depth: u32) -> Result<(),
     for (place, duty) in duties.iter().enumerate() {
         let number = place as u64 + 1;
         let presentation = over_one(alloc, duty.schema_entity)?;
-        match equal(
-            alloc,
-            &mapping.target,
-            &presentation,
-            depth,
-            &duty.equation,
-        ) {
+        match equal(alloc, target(mapping), &presentation, depth, &duty.equation) {
             Ok(Verdict::Yes) => {}
             Ok(Verdict::No) => return Err(CheckRefusal::NotPreserved(number)),
             Err(EqualRefusal::Depth) => return Err(CheckRefusal::Depth(number)),
