@@ -1,11 +1,10 @@
 -- What the rows of one depth say of an equation, and what those of all depths so far.
-use Rattle.std.proofs.Common.{ℕ, Bool, true, false, List, Option, Some, None, ◌≡◌, ◌<◌, ◌≤◌, ◌+◌, ◌⊎◌, map, refl, sym, ap, subst, ◌∙◌, arith, inl, inr}
-use Rattle.std.specs.Prelude.{MatchBool}
+use Rattle.std.proofs.Common.{ℕ, List, Some, None, ◌≡◌, ◌<◌, ◌+◌, map, sym, subst, arith, inl, inr}
 use Rattle.std.proofs.lemmas.Bool.{cases_lt}
 use Rattle.cq_tables.specs.Content.{Content, IsWhole, keys_of}
 use Rattle.cq_rows.specs.Plain.{ends_of}
 use Rattle.cq_rows.specs.Rows.{AllFilled}
-use Rattle.cq_rows.specs.Saturated.{HasEntries, OneRowIsEqual, AllTraced, AllNamed, PathEquationsHold, EntityEquationsHold, NoneCloses, SomeWide}
+use Rattle.cq_rows.specs.Saturated.{HasEntries, OneRowIsEqual, AllTraced, AllNamed, PathEquationsHold, EntityEquationsHold, SomeWide}
 use Rattle.cq_check.specs.Frame.{IsFrame, IsApart}
 use Rattle.cq_check.specs.Answers.{IsDerived, IsDerivedWithin, IsTooDeep, IsTooWide}
 use Rattle.cq_check.proofs.Rows.{filled_traced}

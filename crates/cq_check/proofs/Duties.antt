@@ -1,6 +1,6 @@
 -- The duties of a mapping are well sorted.
-use Rattle.std.proofs.Common.{ℕ, zero, suc, Result, Err, List, [], ◌∷◌, ◌++◌, Option, Some, None, ◌≡◌, ◌<◌, ◌≤◌, ◌+◌, ◌⊎◌, map, length, refl, sym, ap, subst, ◌∙◌, arith, inl, inr}
-use Rattle.std.specs.Prelude.{slice_get, option_map, All}
+use Rattle.std.proofs.Common.{ℕ, zero, suc, Result, Err, List, [], ◌∷◌, ◌++◌, Some, ◌≡◌, ◌<◌, ◌+◌, ◌⊎◌, map, length, sym, ap, subst, ◌∙◌, arith, inl, inr}
+use Rattle.std.specs.Prelude.{slice_get, option_map}
 use Rattle.std.proofs.lemmas.Bool.{cases_lt}
 use Rattle.std.proofs.lemmas.List.Elements.{All-nil, All-cons}
 use Rattle.cq_base.specs.declared.name.Name.{Name}
@@ -10,17 +10,14 @@ use Rattle.cq_check.specs.declared.mappings.CheckRefusal.TheVariants.{NotPreserv
 use Rattle.cq_check.proofs.Lists.{mapped_at, one_at}
 use Rattle.cq_mapping.specs.MappingData.{MappingData as Mapping}
 use Rattle.cq_mapping.specs.Mapping.{IsMapping}
-use Rattle.cq_mapping.specs.Images.{entity_image, path_image, type_image}
-use Rattle.cq_mapping.specs.Duties.{path_duty, observation_duty, duties_of, one_generator, IsDerivable, Preserves}
+use Rattle.cq_mapping.specs.Images.{entity_image, path_image}
+use Rattle.cq_mapping.specs.Duties.{path_duty, observation_duty, duties_of, one_generator, IsDerivable}
 use Rattle.cq_mapping.specs.declared.duties.Duty.{Duty}
 use Rattle.cq_mapping.proofs.Imaged.{sort_of-image}
-use Rattle.cq_theory.specs.declared.presentation.Presentation.{Presentation}
 use Rattle.cq_theory.specs.declared.presentation.Sort.{Sort}
 use Rattle.cq_theory.specs.declared.presentation.Sort.TheVariants.{Plain, Entity}
 use Rattle.cq_theory.specs.declared.schema.PathEq.{PathEq}
 use Rattle.cq_theory.specs.declared.schema.ObsEq.{ObsEq}
-use Rattle.cq_theory.specs.declared.term.EntTerm.{EntTerm}
-use Rattle.cq_theory.specs.declared.term.TypeTerm.{TypeTerm}
 use Rattle.cq_theory.specs.declared.term.Term.TheVariants.{Ent, Typ}
 use Rattle.cq_theory.specs.Schema.{one_of}
 use Rattle.cq_theory.specs.Presentation.{IsSort, IsPresentation}

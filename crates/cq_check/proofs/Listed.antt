@@ -1,23 +1,19 @@
 -- Equations that are added keep what a list of nodes says of derivable equations, and are there.
-use Rattle.std.proofs.Common.{ℕ, zero, suc, Bool, true, false, List, [], ◌∷◌, Option, Some, None, ◌≡◌, ◌<◌, ◌≤◌, ◌+◌, ◌⊎◌, map, length, get_or, refl, sym, ap, subst, ◌∙◌, arith, inl, inr}
+use Rattle.std.proofs.Common.{ℕ, true, false, List, [], ◌∷◌, Option, Some, ◌≡◌, ◌<◌, ◌≤◌, ◌+◌, ◌⊎◌, length, refl, sym, ap, subst, ◌∙◌, arith, inl, inr}
 use Rattle.std.specs.Prelude.{slice_get, option_map}
 use Rattle.std.proofs.lemmas.Bool.{cases_lt}
-use Rattle.std.proofs.lemmas.Option.{slice_get_within, slice_get-get_or}
-use Rattle.cq_tables.specs.Content.{Content, made_of, live_of}
+use Rattle.cq_tables.specs.Content.{Content, live_of}
 use Rattle.cq_tables.specs.Content.{entity_of as row_entity}
 use Rattle.cq_rows.specs.Rows.{row_of_term}
 use Rattle.cq_flat.specs.declared.node.Node.{Node}
 use Rattle.cq_flat.specs.Nodes.{HasEarlierArguments}
-use Rattle.cq_check.specs.Frame.{IsFrame}
 use Rattle.cq_check.specs.NodeListData.{NodeListData}
-use Rattle.cq_check.specs.Standing.{is_traced}
 use Rattle.cq_check.specs.Sound.{HasTerm, AreEqualNodes, AreSound, KeepsSound}
 use Rattle.cq_check.specs.Adding.{Grows, HasEquation, HasIfTraced, IsEquated, HasGiven, HasAtRow, HasAtRows}
 use Rattle.cq_check.proofs.Lists.{at_place, one_at}
 use Rattle.cq_check.proofs.Placed.{stands_more, stands_at}
 use Rattle.cq_check.proofs.Pushed.{HasTerm-more}
 use Rattle.cq_check.proofs.Typed.{type_sorted}
-use Rattle.cq_theory.specs.declared.presentation.Equation.{Equation}
 use Rattle.cq_theory.specs.declared.presentation.Equation.TheVariants.{Ent as EntEquation, Typ as TypEquation}
 use Rattle.cq_theory.specs.declared.presentation.Presentation.{Presentation}
 use Rattle.cq_theory.specs.declared.presentation.Sort.TheVariants.{Plain}

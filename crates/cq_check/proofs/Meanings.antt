@@ -1,9 +1,9 @@
 -- Derivably equal terms have one value, where all the equations that can be traced are listed.
-use Rattle.std.proofs.Common.{ℕ, zero, suc, Bool, true, false, List, [], ◌∷◌, Option, Some, None, ◌≡◌, ◌<◌, ◌≤◌, ◌+◌, ◌==◌, ◌&&◌, map, length, refl, sym, ap, subst, ◌∙◌, arith, slice_index_or, eq-eqb, eqb-true, if◌then◌else◌}
-use Rattle.std.specs.Prelude.{slice_get, is_some, IsSome, All}
+use Rattle.std.proofs.Common.{ℕ, zero, suc, Bool, true, false, List, [], ◌∷◌, Option, Some, None, ◌≡◌, ◌<◌, ◌≤◌, ◌+◌, ◌==◌, ◌&&◌, map, length, refl, sym, ap, subst, ◌∙◌, arith, eq-eqb, eqb-true, if◌then◌else◌}
+use Rattle.std.specs.Prelude.{slice_get, All}
 use Rattle.std.proofs.lemmas.List.Elements.{All-head, All-tail}
 use Rattle.std.proofs.lemmas.Option.{slice_get_within, slice_get-get_or}
-use Rattle.cq_tables.specs.Content.{Content, made_of, live_of}
+use Rattle.cq_tables.specs.Content.{Content, made_of}
 use Rattle.cq_rows.specs.Rows.{row_of_term}
 use Rattle.cq_flat.specs.declared.node.Node.{Node}
 use Rattle.cq_flat.specs.declared.node.Node.TheVariants as node
@@ -14,10 +14,10 @@ use Rattle.cq_check.specs.Frame.{IsFrame, AllTracedWithin, IsApart}
 use Rattle.cq_check.specs.NodeListData.{NodeListData}
 use Rattle.cq_check.specs.Standing.{Stands, generator, constant, cell, function as application, EachStands, none as no_terms, more as more_terms, all_true, traced_step, is_traced}
 use Rattle.cq_check.specs.Sound.{AreSound}
-use Rattle.cq_check.specs.Adding.{HasEquation, HasGiven, HasAtRow, HasAtRows}
+use Rattle.cq_check.specs.Adding.{HasEquation, HasGiven, HasAtRows}
 use Rattle.cq_check.proofs.Rows.{row_leads, traced_row, derived_row, both_within}
 use Rattle.cq_check.proofs.Placed.{traced_at, stands_at}
-use Rattle.cq_check.proofs.Typed.{type_sorted, IsTyped, EachTyped, args_typed, typed_cell}
+use Rattle.cq_check.proofs.Typed.{type_sorted, EachTyped, args_typed, typed_cell}
 use Rattle.cq_theory.specs.declared.presentation.Equation.{Equation}
 use Rattle.cq_theory.specs.declared.presentation.Equation.TheVariants.{Ent as EntEquation, Typ as TypEquation}
 use Rattle.cq_theory.specs.declared.presentation.Presentation.{Presentation}
@@ -34,7 +34,6 @@ use Rattle.cq_theory.specs.declared.term.Term.{Term}
 use Rattle.cq_theory.specs.declared.term.Term.TheVariants.{Ent, Typ}
 use Rattle.cq_theory.specs.declared.value.Value.{Value}
 use Rattle.cq_theory.specs.declared.value.Value.TheVariants as value
-use Rattle.cq_theory.specs.EntTerm.{depth_of, extended}
 use Rattle.cq_theory.specs.Term.{greatest, type_depth, type_depth_step}
 use Rattle.cq_theory.specs.TypeTerm.{substituted}
 use Rattle.cq_theory.specs.Sorts.{entity_of, type_of}

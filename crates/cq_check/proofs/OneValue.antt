@@ -1,6 +1,6 @@
 -- What the values of two nodes say of the terms for which they stand.
-use Rattle.std.proofs.Common.{ℕ, Result, Ok, Err, Bool, true, false, List, Some, ◌≡◌, ◌<◌, ◌+◌, length, get_or, refl, sym, ap, subst, ◌∙◌, arith}
-use Rattle.std.specs.Prelude.{slice_get, option_map, MatchBool, All, IfOk}
+use Rattle.std.proofs.Common.{ℕ, Result, Ok, Err, Bool, true, false, List, Some, ◌≡◌, ◌<◌, length, get_or, refl}
+use Rattle.std.specs.Prelude.{MatchBool, IfOk}
 use Rattle.std.proofs.lemmas.Option.{slice_get-get_or}
 use Rattle.cq_tables.specs.Content.{Content, made_of}
 use Rattle.cq_flat.specs.Nodes.{AreSides}

@@ -1,5 +1,5 @@
 -- Nodes that stand for terms: in a longer list, and where a term takes the place of the variable.
-use Rattle.std.proofs.Common.{ℕ, Bool, true, false, List, [], ◌∷◌, ◌++◌, Option, Some, None, ◌≡◌, ◌&&◌, map, refl, sym, ap, ◌∙◌}
+use Rattle.std.proofs.Common.{ℕ, Bool, List, [], ◌∷◌, ◌++◌, Some, ◌≡◌, map, refl, sym, ap, ◌∙◌}
 use Rattle.std.specs.Prelude.{slice_get, slice_index, is_some, option_and_then}
 use Rattle.std.proofs.lemmas.Option.{option_and_then_some}
 use Rattle.cq_tables.specs.Content.{Content, trace_of}
@@ -14,11 +14,10 @@ use Rattle.cq_theory.specs.SchemaData.{SchemaData as Schema}
 use Rattle.cq_theory.specs.Schema.{one_of}
 use Rattle.cq_theory.specs.declared.term.EntTerm.{EntTerm}
 use Rattle.cq_theory.specs.declared.term.TypeTerm.{TypeTerm}
-use Rattle.cq_theory.specs.declared.term.TypeTerm.TheVariants as term
 use Rattle.cq_theory.specs.EntTerm.{extended}
 use Rattle.cq_theory.specs.TypeTerm.{substituted, substituted_step}
 use Rattle.cq_theory.specs.Sorts.{target_of, entity_at, entity_of, type_of}
-use Rattle.cq_theory.proofs.TypeTerms.{fold-Gen, fold-Const, fold-Att, fold-Fun, Each, on_terms}
+use Rattle.cq_theory.proofs.TypeTerms.{fold-Const, fold-Att, fold-Fun, Each, on_terms}
 
 module _ (m : Content) (rows : List ℕ) (nodes nodes' : List Node) (longer : Extends nodes nodes') where
   mutual

@@ -5,18 +5,18 @@ use Rattle.std.proofs.lemmas.Bool.{cases_lt}
 use Rattle.std.proofs.lemmas.List.{take_more}
 use Rattle.std.proofs.lemmas.List.Elements.{All-nil, All-push, All-weaker}
 use Rattle.std.proofs.lemmas.Option.{slice_get_within}
-use Rattle.cq_tables.specs.Content.{Content, made_of, live_of}
+use Rattle.cq_tables.specs.Content.{Content, made_of}
 use Rattle.cq_rows.specs.Rows.{row_of_term}
 use Rattle.cq_rows.proofs.Tracing.{trace_leads}
 use Rattle.cq_flat.specs.declared.node.Node.{Node}
 use Rattle.cq_flat.specs.declared.node.Node.TheVariants as node
 use Rattle.cq_flat.specs.Nodes.{HasEarlierArguments}
 use Rattle.cq_check.specs.NodeListData.{NodeListData}
-use Rattle.cq_check.specs.Standing.{Stands, generator, constant, cell, function, EachStands, none, more, all_true, traced_step, is_traced}
+use Rattle.cq_check.specs.Standing.{Stands, generator, constant, cell, function, EachStands, none, all_true, traced_step, is_traced}
 use Rattle.cq_check.specs.Sound.{HasTerm}
-use Rattle.cq_check.specs.Reading.{IsReadable, IsReadablePath}
+use Rattle.cq_check.specs.Reading.{IsReadable}
 use Rattle.cq_check.specs.Adding.{Extends, AreNamedFrom, IsPushed, IsEquated, AreSidesOf}
-use Rattle.cq_check.proofs.Lists.{extends_append, extends_as, last_at, one_more}
+use Rattle.cq_check.proofs.Lists.{extends_append, last_at, one_more}
 use Rattle.cq_check.proofs.Placed.{stands_more, each_more, each_append}
 use Rattle.cq_check.proofs.Readable.{readable_cell, readable_leaf, readable_start}
 use Rattle.cq_check.proofs.Typed.{IsTyped, EachTyped, args_typed}

@@ -1,6 +1,6 @@
 -- Which terms can be read over rows.
 use Rattle.std.proofs.Common.{ℕ, zero, suc, true, List, [], ◌∷◌, Option, Some, None, ◌≡◌, ◌<◌, ◌≤◌, ◌+◌, map, length, refl, sym, ap, subst, ◌∙◌, arith}
-use Rattle.std.specs.Prelude.{slice_get, slice_index, option_map, IsSome}
+use Rattle.std.specs.Prelude.{slice_get, slice_index, IsSome}
 use Rattle.std.proofs.lemmas.Option.{option_and_then_some, slice_get_within}
 use Rattle.cq_tables.specs.Content.{Content, live_of, made_of, keys_of, end_of, IsWhole}
 use Rattle.cq_tables.specs.Content.{entity_of as row_entity}
@@ -8,16 +8,14 @@ use Rattle.cq_rows.specs.Plain.{ends_of}
 use Rattle.cq_check.specs.Frame.{IsFrame}
 use Rattle.cq_check.specs.Reading.{AreReadable, IsReadable, IsReadablePath}
 use Rattle.cq_check.proofs.Rows.{path_ends}
-use Rattle.cq_check.proofs.Typed.{no_type_variable, first_variable, entity_sorted, type_sorted, args_typed, typed_at, typed_cell, typed_generator}
+use Rattle.cq_check.proofs.Typed.{no_type_variable, first_variable, args_typed, typed_at, typed_cell, typed_generator}
 use Rattle.cq_theory.specs.declared.presentation.Presentation.{Presentation}
-use Rattle.cq_theory.specs.declared.presentation.Sort.{Sort}
-use Rattle.cq_theory.specs.declared.presentation.Sort.TheVariants.{Plain, Entity}
 use Rattle.cq_theory.specs.SchemaData.{SchemaData as Schema}
 use Rattle.cq_theory.specs.Schema.{one_of}
 use Rattle.cq_theory.specs.declared.term.EntTerm.{EntTerm}
 use Rattle.cq_theory.specs.declared.term.TypeTerm.{TypeTerm}
 use Rattle.cq_theory.specs.declared.term.TypeTerm.TheVariants.{Gen, Att, Fun}
-use Rattle.cq_theory.specs.Sorts.{Generators, target_of, entity_at, type_at, entity_of, type_of}
+use Rattle.cq_theory.specs.Sorts.{Generators, target_of, entity_at, type_at, type_of}
 
 -- what a look-up in a list finds is within it
 found_within : {X : Type 0} (f : Option X → Option ℕ) → f None ≡ None → (xs : List X) (n e : ℕ) → f (slice_get xs n) ≡ Some e → n < length xs

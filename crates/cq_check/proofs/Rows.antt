@@ -1,31 +1,27 @@
 -- Where entity terms lead in rows that were made for a presentation.
-use Rattle.std.proofs.Common.{ℕ, zero, suc, Bool, true, false, List, [], ◌∷◌, ◌++◌, Option, Some, None, ◌≡◌, ◌<◌, ◌≤◌, ◌+◌, map, length, refl, sym, ap, subst, ◌∙◌, arith}
-use Rattle.std.specs.Prelude.{slice_get, slice_index, option_and_then, option_map, IsSome}
-use Rattle.std.proofs.lemmas.Option.{same_Some, option_and_then_some, slice_get_within}
-use Rattle.cq_base.specs.declared.name.Name.{Name}
-use Rattle.cq_tables.specs.Content.{Content, live_of, made_of, trace_of, cell_of, step_of, end_of, keys_of, IsHeld, IsWhole}
+use Rattle.std.proofs.Common.{ℕ, true, List, [], ◌∷◌, Option, Some, None, ◌≡◌, map, refl, sym, ap, subst, ◌∙◌}
+use Rattle.std.specs.Prelude.{slice_get, slice_index, option_and_then, IsSome}
+use Rattle.std.proofs.lemmas.Option.{same_Some, option_and_then_some}
+use Rattle.cq_tables.specs.Content.{Content, live_of, trace_of, cell_of, step_of, end_of, keys_of, IsHeld, IsWhole}
 use Rattle.cq_tables.specs.Content.{entity_of as row_entity}
 use Rattle.cq_rows.specs.Plain.{ends_of}
 use Rattle.cq_rows.specs.Rows.{AllFilled, row_of_term}
 use Rattle.cq_rows.proofs.Bridge.{step_same, end_same}
 use Rattle.cq_rows.proofs.Tracing.{trace-append, trace_leads}
 use Rattle.cq_check.specs.Frame.{IsFrame, AreOneRow, AllTracedWithin, IsApart}
-use Rattle.cq_check.specs.Reading.{AreReadable}
 use Rattle.cq_theory.specs.declared.presentation.Presentation.{Presentation}
-use Rattle.cq_theory.specs.declared.presentation.Sort.{Sort}
 use Rattle.cq_theory.specs.declared.presentation.Equation.{Equation}
 use Rattle.cq_theory.specs.declared.presentation.Equation.TheVariants.{Ent as EntEquation, Typ as TypEquation}
 use Rattle.cq_theory.specs.declared.schema.PathEq.{PathEq}
 use Rattle.cq_theory.specs.SchemaData.{SchemaData as Schema}
-use Rattle.cq_theory.specs.Schema.{IsSchema, one_of}
+use Rattle.cq_theory.specs.Schema.{IsSchema}
 use Rattle.cq_theory.specs.Presentation.{IsPresentation}
 use Rattle.cq_theory.specs.declared.term.EntTerm.{EntTerm}
-use Rattle.cq_theory.specs.declared.term.TypeTerm.{TypeTerm}
 use Rattle.cq_theory.specs.declared.term.Term.{Term}
 use Rattle.cq_theory.specs.declared.term.Term.TheVariants.{Ent, Typ}
 use Rattle.cq_theory.specs.EntTerm.{extended}
 use Rattle.cq_theory.specs.Sorts.{followed, target_of, entity_at, entity_of}
-use Rattle.cq_theory.specs.Derivation.{Derivation, Derivations, reflexivity, symmetry, transitivity, key, attribute, function, given, path_equation, observation, IsWithin, Concludes, Derives, left_of, right_of}
+use Rattle.cq_theory.specs.Derivation.{Derivation, reflexivity, symmetry, transitivity, key, attribute, function, given, path_equation, observation, IsWithin, Concludes, Derives, left_of, right_of}
 use Rattle.cq_theory.proofs.Bounded.{term_depth-within}
 use Rattle.cq_theory.proofs.Closings.{entity_of-extended}
 use Rattle.cq_check.proofs.Typed.{entity_sorted}

@@ -1,6 +1,6 @@
 -- The sides of an equation, and the list of nodes that is closed to compare them.
 use Rattle.std.proofs.Common.{ℕ, Bool, true, false, List, [], ◌∷◌, map, Option, Some, None, ◌≡◌, ◌<◌, ◌≤◌, ◌+◌, length, refl, sym, ap, subst, ◌∙◌, arith}
-use Rattle.std.specs.Prelude.{slice_get, option_map, MatchBool, MatchOption}
+use Rattle.std.specs.Prelude.{slice_get, MatchBool, MatchOption}
 use Rattle.cq_tables.specs.Content.{Content, made_of, live_of, keys_of, IsWhole}
 use Rattle.cq_tables.specs.Content.{entity_of as row_entity}
 use Rattle.cq_rows.specs.Plain.{ends_of}

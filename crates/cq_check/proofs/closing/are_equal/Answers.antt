@@ -1,4 +1,4 @@
-use Rattle.std.proofs.Common.{ℕ, sym, subst}
+use Rattle.std.proofs.Common.{sym, subst}
 use Rattle.std.specs.Prelude.{MatchBool}
 use Rattle.cq_check.specs.Answers.{IsWellSorted}
 use Rattle.cq_check.specs.Frame.{IsApart}

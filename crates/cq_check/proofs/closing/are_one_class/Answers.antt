@@ -128,4 +128,3 @@ returns c =
     (λ same. MatchBool same (Derives S P (Typ t) (Typ u)) (IsApart S P m entries (Typ t) (Typ u)))
     (λ same values. listed_answer S P m entries c.requires.frame t u c.requires.sorted c.is_well_sorted.ensures c.requires.presentation c.push_observations.new.list c.in-Some.first c.in-Some-2.second same all values)
     c.have_one_value.ensures
-

@@ -1,5 +1,4 @@
-use Rattle.std.proofs.Common.{ℕ, List, Some, ◌≡◌, ◌≤◌, ◌+◌, ◌∙◌, length, ap, sym, subst, arith}
-use Rattle.std.specs.Prelude.{slice_get}
+use Rattle.std.proofs.Common.{ℕ, Some, ◌≤◌, ◌+◌, ◌∙◌, length, ap, arith}
 use Rattle.cq_tables.specs.Content.{Content, made_of}
 use Rattle.cq_check.specs.Answers.{IsWellSorted}
 use Rattle.cq_check.proofs.Lists.{item_at}

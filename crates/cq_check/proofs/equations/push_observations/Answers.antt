@@ -1,4 +1,4 @@
-use Rattle.std.proofs.Common.{ℕ, ◌∙◌, sym, arith}
+use Rattle.std.proofs.Common.{◌∙◌, sym, arith}
 use Rattle.cq_check.proofs.Listed.{rows_none, rows_skipped, rows_added}
 use Rattle.cq_check.proofs.equations.push_observations.Goals as goal
 

@@ -5,7 +5,7 @@ use Rattle.cq_check.specs.Answers.{IsWellSorted, IsDerived, IsAnswer, IsTooDeep,
 use Rattle.cq_check.proofs.Lists.{item_at}
 use Rattle.cq_check.proofs.Duties.{duty_sorted, duty_presented, preserved_number, depth_number, rows_number, one_derivable_more, not_preserved, too_deep, too_wide}
 use Rattle.cq_mapping.specs.MappingData.{MappingData as Mapping}
-use Rattle.cq_mapping.specs.Duties.{duties_of, one_generator}
+use Rattle.cq_mapping.specs.Duties.{duties_of}
 use Rattle.cq_mapping.specs.declared.duties.Duty.{Duty}
 use Rattle.cq_theory.specs.declared.presentation.Presentation.{Presentation}
 use Rattle.cq_theory.specs.SchemaData.{SchemaData as Schema}

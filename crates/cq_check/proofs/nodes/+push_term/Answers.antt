@@ -1,5 +1,4 @@
-use Rattle.std.proofs.Common.{rules, ℕ, List, [], Some, ◌≡◌, ◌≤◌, ◌+◌, ◌∙◌, length, take, sym, ap, subst}
-use Rattle.std.specs.Prelude.{slice_get}
+use Rattle.std.proofs.Common.{rules, ℕ, List, [], ◌+◌, ◌∙◌, length, take, sym, ap, subst}
 use Rattle.std.proofs.lemmas.List.{take_all}
 use Rattle.cq_flat.specs.declared.node.Node.{Node}
 use Rattle.cq_tables.specs.Content.{Content}

@@ -1,4 +1,4 @@
-use Rattle.std.proofs.Common.{ℕ, refl, subst}
+use Rattle.std.proofs.Common.{refl, subst}
 use Rattle.cq_check.specs.NodeListData.{NodeListData}
 use Rattle.cq_check.specs.Adding.{IsEquated}
 use Rattle.cq_check.proofs.Pushed.{equated_not_right, equated_both}

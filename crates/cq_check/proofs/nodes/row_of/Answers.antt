@@ -1,4 +1,4 @@
-use Rattle.std.proofs.Common.{ℕ, List, ap, sym, subst}
+use Rattle.std.proofs.Common.{ℕ, List, sym, subst}
 use Rattle.std.specs.Prelude.{IsSome, slice_index}
 use Rattle.cq_tables.specs.Content.{end_of, keys_of, entity_of}
 use Rattle.cq_check.proofs.Readable.{readable_start}
