@@ -1,4 +1,5 @@
-//! Schemas and mappings from lists of words.
+//! Schemas and mappings from texts. Commas stand between the parts of a text, and a part is made of words. `l*3` stands for
+//! `l l l`; in a term the arguments stand before their function, as in `e v/1 zero plus/2`.
 ghost use Rattle.std.specs.Prelude.{◌≡◌, IfOk};
 
 use crate::Mapping;
@@ -11,95 +12,137 @@ use std::alloc::{AllocError, Global};
 use std::rc::Rc;
 use std::test::Fail;
 
-/// A term: each word with the number of its arguments, which stand before it.
-pub type Words = &'static [(&'static str, usize)];
-
-pub type Texts = &'static [&'static str];
-
 /// The parts of a schema. The variable of its observation equations is e.
+#[derive(Clone, Copy)]
 pub struct Shape {
-    pub entities: Texts,
-    pub keys: &'static [(&'static str, &'static str, &'static str)],
-    pub path_eqs: &'static [(Texts, Texts)],
-    pub attributes: &'static [(&'static str, &'static str, &'static str)],
-    pub obs_eqs: &'static [(Words, Words)],
+    pub entities: &'static str,
+    pub keys: &'static str,
+    pub path_eqs: &'static str,
+    pub attributes: &'static str,
+    pub obs_eqs: &'static str,
 }
-
-/// An image of a foreign key or an attribute.
-pub enum Image {
-    Key(Texts),
-    Path(Texts),
-    /// A term over the variable e, with its entity.
-    Lambda(Option<&'static str>, Words),
-}
-
-/// The block, the name and the image of a foreign key or an attribute.
-pub struct Arrow(pub &'static str, pub &'static str, pub Image);
 
 pub const SOURCE: Shape = Shape {
-    entities: &["E", "F"],
-    keys: &[("j", "E", "E"), ("k", "E", "F")],
-    path_eqs: &[],
-    attributes: &[("w", "E", "n"), ("x", "F", "s")],
-    obs_eqs: &[],
+    entities: "E F",
+    keys: "j E E, k E F",
+    path_eqs: "",
+    attributes: "w E n, x F s",
+    obs_eqs: "",
 };
 
 // Numbers of images differ from those of the source.
 pub const TARGET: Shape = Shape {
-    entities: &["H", "G"],
-    keys: &[("m", "G", "H"), ("l", "G", "G")],
-    path_eqs: &[(&["l", "m"], &["m"])],
-    attributes: &[("y", "H", "s"), ("v", "G", "n")],
-    obs_eqs: &[(&[("e", 0), ("v", 1)], &[("e", 0), ("l", 1), ("v", 1)])],
+    entities: "H G",
+    keys: "m G H, l G G",
+    path_eqs: "l m = m",
+    attributes: "y H s, v G n",
+    obs_eqs: "e v/1 = e l/1 v/1",
 };
+
+/// Images of the entities of `SOURCE` in `TARGET`.
+pub const ENTITIES: &str = "E G, F H";
+
+/// A foreign key or attribute of `SOURCE` with an image in `TARGET`, where the name alone is given.
+fn whole(text: &str) -> &str {
+    match text {
+        "j" => "E j = l",
+        "k" => "E k = l m",
+        "w" => "E w : l v",
+        "x" => "F x lambda H. e y/1",
+        _ => text,
+    }
+}
+
+/// What stands before the first mark of a text, and what stands behind it.
+fn cut<'a>(text: &'a str, mark: &str) -> (&'a str, &'a str) {
+    match text.split_once(mark) {
+        Some(halves) => halves,
+        None => (text, ""),
+    }
+}
+
+/// A word, and how often it stands there.
+fn counted(word: &str) -> (&str, usize) {
+    match word.split_once("*") {
+        Some((text, times)) => (text, times.parse::<usize>().unwrap_or(0)),
+        None => (word, 1),
+    }
+}
 
 pub fn name(alloc: Global, text: &str) -> Result<Name, Fail> {
     Ok(Name::new(alloc, text)?)
 }
 
-fn names(alloc: Global, texts: &[&str]) -> Result<Seq<Name>, Fail> {
-    let mut names = Vec::new(alloc);
-    for text in texts {
+fn push_name(alloc: Global, names: &mut Vec<Name>, text: &str, times: usize) -> Result<(), Fail> {
+    for _time in 0..times {
         names.push(name(alloc, text)?)?;
+    }
+    Ok(())
+}
+
+fn names(alloc: Global, text: &str) -> Result<Seq<Name>, Fail> {
+    let mut names = Vec::new(alloc);
+    for word in text.split_whitespace() {
+        let (text, times) = counted(word);
+        push_name(alloc, &mut names, text, times)?;
     }
     Ok(Seq::from_vec(names))
 }
 
-pub fn pairs(alloc: Global, texts: &[(&str, &str)]) -> Result<Seq<(Name, Name)>, Fail> {
+fn pair(alloc: Global, text: &str) -> Result<(Name, Name), Fail> {
+    let (left, right) = cut(text, " ");
+    Ok((name(alloc, left)?, name(alloc, right)?))
+}
+
+/// Parts such as `E G`.
+pub fn pairs(alloc: Global, text: &str) -> Result<Seq<(Name, Name)>, Fail> {
     let mut pairs = Vec::new(alloc);
-    for (left, right) in texts {
-        pairs.push((name(alloc, left)?, name(alloc, right)?))?;
+    for part in text.split_terminator(", ") {
+        pairs.push(pair(alloc, part)?)?;
     }
     Ok(Seq::from_vec(pairs))
 }
 
-fn edges(alloc: Global, texts: &[(&str, &str, &str)]) -> Result<Seq<(Name, Name, Name)>, Fail> {
+fn edge(alloc: Global, text: &str) -> Result<(Name, Name, Name), Fail> {
+    let (own, ends) = cut(text, " ");
+    let (from, to) = pair(alloc, ends)?;
+    Ok((name(alloc, own)?, from, to))
+}
+
+/// Parts such as `k E F`.
+fn edges(alloc: Global, text: &str) -> Result<Seq<(Name, Name, Name)>, Fail> {
     let mut edges = Vec::new(alloc);
-    for (text, from, to) in texts {
-        edges.push((name(alloc, text)?, name(alloc, from)?, name(alloc, to)?))?;
+    for part in text.split_terminator(", ") {
+        edges.push(edge(alloc, part)?)?;
     }
     Ok(Seq::from_vec(edges))
 }
 
-fn functions(
-    alloc: Global,
-    texts: &[(&str, Texts, &str)],
-) -> Result<Seq<(Name, Seq<Name>, Name)>, Fail> {
+fn function(alloc: Global, text: &str) -> Result<(Name, Seq<Name>, Name), Fail> {
+    let (own, ends) = cut(text, " : ");
+    let (args, result) = cut(ends, " -> ");
+    Ok((name(alloc, own)?, names(alloc, args)?, name(alloc, result)?))
+}
+
+/// Parts such as `plus : n n -> n`.
+fn functions(alloc: Global, text: &str) -> Result<Seq<(Name, Seq<Name>, Name)>, Fail> {
     let mut functions = Vec::new(alloc);
-    for (text, args, result_type) in texts {
-        functions.push((
-            name(alloc, text)?,
-            names(alloc, args)?,
-            name(alloc, result_type)?,
-        ))?;
+    for part in text.split_terminator(", ") {
+        functions.push(function(alloc, part)?)?;
     }
     Ok(Seq::from_vec(functions))
 }
 
-fn paths(alloc: Global, texts: &[(Texts, Texts)]) -> Result<Seq<(Seq<Name>, Seq<Name>)>, Fail> {
+fn path_eq(alloc: Global, text: &str) -> Result<(Seq<Name>, Seq<Name>), Fail> {
+    let (left, right) = cut(text, " = ");
+    Ok((names(alloc, left)?, names(alloc, right)?))
+}
+
+/// Parts such as `l m = m`.
+fn path_eqs(alloc: Global, text: &str) -> Result<Seq<(Seq<Name>, Seq<Name>)>, Fail> {
     let mut paths = Vec::new(alloc);
-    for (left, right) in texts {
-        paths.push((names(alloc, left)?, names(alloc, right)?))?;
+    for part in text.split_terminator(", ") {
+        paths.push(path_eq(alloc, part)?)?;
     }
     Ok(Seq::from_vec(paths))
 }
@@ -120,10 +163,21 @@ fn push_word(alloc: Global, terms: &mut Vec<Raw>, text: &str, args: usize) -> Re
     Ok(())
 }
 
-pub fn term(alloc: Global, words: &[(&str, usize)]) -> Result<Raw, Fail> {
+/// The same for a word with the number of its arguments, so many times.
+fn push_words(alloc: Global, terms: &mut Vec<Raw>, word: &str, times: usize) -> Result<(), Fail> {
+    let (text, args) = cut(word, "/");
+    let args = args.parse::<usize>().unwrap_or(0);
+    for _time in 0..times {
+        push_word(alloc, terms, text, args)?;
+    }
+    Ok(())
+}
+
+pub fn term(alloc: Global, text: &str) -> Result<Raw, Fail> {
     let mut terms = Vec::new(alloc);
-    for (text, args) in words {
-        push_word(alloc, &mut terms, text, *args)?;
+    for word in text.split_whitespace() {
+        let (word, times) = counted(word);
+        push_words(alloc, &mut terms, word, times)?;
     }
     match terms.pop() {
         Some(term) => Ok(term),
@@ -131,17 +185,23 @@ pub fn term(alloc: Global, words: &[(&str, usize)]) -> Result<Raw, Fail> {
     }
 }
 
-fn observations(alloc: Global, texts: &[(Words, Words)]) -> Result<Seq<ObsPart>, Fail> {
-    let mut observations = Vec::new(alloc);
-    for (left, right) in texts {
-        observations.push(ObsPart {
-            variable: name(alloc, "e")?,
-            entity: None,
-            left: term(alloc, left)?,
-            right: term(alloc, right)?,
-        })?;
+fn obs_eq(alloc: Global, text: &str) -> Result<ObsPart, Fail> {
+    let (left, right) = cut(text, " = ");
+    Ok(ObsPart {
+        variable: name(alloc, "e")?,
+        entity: None,
+        left: term(alloc, left)?,
+        right: term(alloc, right)?,
+    })
+}
+
+/// Parts such as `e v/1 = e l/1 v/1`.
+fn obs_eqs(alloc: Global, text: &str) -> Result<Seq<ObsPart>, Fail> {
+    let mut equations = Vec::new(alloc);
+    for part in text.split_terminator(", ") {
+        equations.push(obs_eq(alloc, part)?)?;
     }
-    Ok(Seq::from_vec(observations))
+    Ok(Seq::from_vec(equations))
 }
 
 /// The typeside of these parts, if they are few.
@@ -155,9 +215,9 @@ fn new_typeside(alloc: Global, parts: TypesideParts) -> Result<Typeside, TheoryR
 /// Two types with a constant each, and two functions.
 pub fn typeside(alloc: Global) -> Result<Rc<Typeside>, Fail> {
     let parts = TypesideParts {
-        types: names(alloc, &["s", "n"])?,
-        constants: pairs(alloc, &[("Al", "s"), ("zero", "n")])?,
-        functions: functions(alloc, &[("succ", &["n"], "n"), ("plus", &["n", "n"], "n")])?,
+        types: names(alloc, "s n")?,
+        constants: pairs(alloc, "Al s, zero n")?,
+        functions: functions(alloc, "succ : n -> n, plus : n n -> n")?,
     };
     Ok(Rc::new(alloc, new_typeside(alloc, parts)?)?)
 }
@@ -183,9 +243,9 @@ fn schema_parts(alloc: Global, shape: &Shape) -> Result<SchemaParts, Fail> {
     Ok(SchemaParts {
         entities: names(alloc, shape.entities)?,
         keys: edges(alloc, shape.keys)?,
-        path_eqs: paths(alloc, shape.path_eqs)?,
+        path_eqs: path_eqs(alloc, shape.path_eqs)?,
         attributes: edges(alloc, shape.attributes)?,
-        obs_eqs: observations(alloc, shape.obs_eqs)?,
+        obs_eqs: obs_eqs(alloc, shape.obs_eqs)?,
     })
 }
 
@@ -212,7 +272,7 @@ fn new_mapping(
     Mapping::new(alloc, source, target, parts)
 }
 
-pub fn mapping_between(
+fn mapping_between(
     alloc: Global,
     source: &Shape,
     target: &Shape,
@@ -224,86 +284,58 @@ pub fn mapping_between(
     Ok(new_mapping(alloc, source, target, parts))
 }
 
-fn made_image(alloc: Global, image: &Image) -> Result<ArrowImage, Fail> {
-    match image {
-        Image::Key(texts) => Ok(ArrowImage::Key(names(alloc, texts)?)),
-        Image::Path(texts) => Ok(ArrowImage::Path(names(alloc, texts)?)),
-        Image::Lambda(entity, words) => {
-            let entity = match entity {
-                Some(text) => Some(name(alloc, text)?),
-                None => None,
-            };
-            Ok(ArrowImage::Lambda(name(alloc, "e")?, entity, term(alloc, words)?))
-        }
+/// The entity of the variable e, and a term.
+fn lambda(alloc: Global, text: &str) -> Result<ArrowImage, Fail> {
+    let (entity, words) = cut(text, ". ");
+    let entity = if entity.is_empty() {
+        None
+    } else {
+        Some(name(alloc, entity)?)
+    };
+    Ok(ArrowImage::Lambda(name(alloc, "e")?, entity, term(alloc, words)?))
+}
+
+/// An image: `= l m` of a foreign key, `: l v`, `lambda G. e v/1` or `lambda . e v/1` of an attribute.
+fn image(alloc: Global, text: &str) -> Result<ArrowImage, Fail> {
+    let (kind, rest) = cut(text, " ");
+    if kind == "=" {
+        Ok(ArrowImage::Key(names(alloc, rest)?))
+    } else if kind == ":" {
+        Ok(ArrowImage::Path(names(alloc, rest)?))
+    } else {
+        lambda(alloc, rest)
     }
 }
 
-pub fn made_arrow(alloc: Global, arrow: &Arrow) -> Result<ArrowPart, Fail> {
+/// The block, the name and the image of a foreign key or an attribute.
+fn arrow(alloc: Global, text: &str) -> Result<ArrowPart, Fail> {
+    let (block, rest) = cut(text, " ");
+    let (own, rest) = cut(rest, " ");
     Ok(ArrowPart {
-        block: name(alloc, arrow.0)?,
-        name: name(alloc, arrow.1)?,
-        image: made_image(alloc, &arrow.2)?,
+        block: name(alloc, block)?,
+        name: name(alloc, own)?,
+        image: image(alloc, rest)?,
     })
 }
 
-pub fn arrows(alloc: Global, texts: &[Arrow]) -> Result<Vec<ArrowPart>, Fail> {
+fn arrows(alloc: Global, text: &str) -> Result<Seq<ArrowPart>, Fail> {
     let mut arrows = Vec::new(alloc);
-    for text in texts {
-        arrows.push(made_arrow(alloc, text)?)?;
+    for part in text.split_terminator(", ") {
+        arrows.push(arrow(alloc, whole(part))?)?;
     }
-    Ok(arrows)
+    Ok(Seq::from_vec(arrows))
 }
 
-pub fn mapping_parts(
+/// What becomes of parts of a mapping.
+pub fn mapping(
     alloc: Global,
-    entities: &[(&str, &str)],
-    arrows: Vec<ArrowPart>,
-) -> Result<MappingParts, Fail> {
-    Ok(MappingParts {
-        entities: pairs(alloc, entities)?,
-        arrows: Seq::from_vec(arrows),
-    })
-}
-
-pub const ENTITIES: &[(&str, &str)] = &[("E", "G"), ("F", "H")];
-
-// Right images of the foreign keys and attributes of `SOURCE`.
-pub const J: Arrow = Arrow("E", "j", Image::Key(&["l"]));
-
-pub const K: Arrow = Arrow("E", "k", Image::Key(&["l", "m"]));
-
-pub const W: Arrow = Arrow("E", "w", Image::Path(&["l", "v"]));
-
-pub const X: Arrow = Arrow("F", "x", Image::Lambda(Some("H"), &[("e", 0), ("y", 1)]));
-
-/// A term under a function or foreign key of one argument, so many times.
-pub fn repeated(
-    alloc: Global,
-    first: &[(&'static str, usize)],
-    text: &'static str,
-    times: usize,
-) -> Result<Raw, Fail> {
-    let mut words = first.to_vec(alloc)?;
-    for _time in 0..times {
-        words.push((text, 1))?;
-    }
-    term(alloc, words.as_slice())
-}
-
-/// An image of w: v of the variable e, under so many functions.
-pub fn tall_image(alloc: Global, functions: usize) -> Result<ArrowImage, Fail> {
-    let term = repeated(alloc, &[("e", 0), ("v", 1)], "succ", functions)?;
-    Ok(ArrowImage::Lambda(name(alloc, "e")?, None, term))
-}
-
-/// The foreign key l this many times, and then the last names.
-pub fn far_names(alloc: Global, keys: usize, last: &[&str]) -> Result<Seq<Name>, Fail> {
-    let mut names = Vec::new(alloc);
-    for _key in 0..keys {
-        names.push(name(alloc, "l")?)?;
-    }
-    for text in last {
-        names.push(name(alloc, text)?)?;
-    }
-    Ok(Seq::from_vec(names))
+    source: &Shape,
+    target: &Shape,
+    texts: (&str, &str),
+) -> Result<Result<Mapping, ArrowRefusal>, Fail> {
+    let parts = MappingParts {
+        entities: pairs(alloc, texts.0)?,
+        arrows: arrows(alloc, texts.1)?,
+    };
+    mapping_between(alloc, source, target, parts)
 }

@@ -2,29 +2,25 @@
 ghost use Rattle.std.specs.Prelude.{◌≡◌, IfOk};
 ghost use Rattle.cq_theory.specs.Presentation.{IsPresentation};
 
-use super::given::{
-    Arrow, ENTITIES, Image, J, K, SOURCE, Shape, TARGET, W, X, arrows, far_names, mapping_between,
-    mapping_parts, name, pairs, repeated, schema, tall_image, term, typeside,
-};
+use super::given::{ENTITIES, SOURCE, Shape, TARGET, mapping, pairs, schema, term, typeside};
 use crate::{Duty, Mapping};
-use cq_base::Seq;
+use cq_base::{Raw, Seq};
 use cq_theory::{
-    ArrowImage, ArrowPart, EntTerm, Equation, Presentation, PresentationParts, Schema, SizeRefusal,
-    Sort, TheoryRefusal, TypeTerm,
+    EntTerm, Equation, Presentation, PresentationParts, Schema, SizeRefusal, Sort, TheoryRefusal,
+    TypeTerm,
 };
 use std::alloc::{AllocError, Global};
 use std::test::Fail;
 
 /// A mapping that is not refused.
-fn mapping(
+fn made(
     alloc: Global,
     source: &Shape,
     target: &Shape,
-    entities: &[(&str, &str)],
-    arrows: Vec<ArrowPart>,
+    entities: &str,
+    arrows: &str,
 ) -> Result<Mapping, Fail> {
-    let parts = mapping_parts(alloc, entities, arrows)?;
-    match mapping_between(alloc, source, target, parts)? {
+    match mapping(alloc, source, target, (entities, arrows))? {
         Ok(mapping) => Ok(mapping),
         Err(_) => Err(Fail::from(AllocError)),
     }
@@ -83,81 +79,59 @@ fn is_attribute_duty(
     }
 }
 
-/// A mapping of foreign keys alone, and its one duty.
+/// Foreign keys and a path equation of a schema of one entity E, those of a schema of one entity G, images of the foreign
+/// keys, and the paths of the one duty.
 struct Loops {
-    source: Shape,
-    target: Shape,
-    arrows: &'static [Arrow],
+    source: (&'static str, &'static str),
+    target: (&'static str, &'static str),
+    arrows: &'static str,
     left: &'static [u32],
     right: &'static [u32],
 }
 
-const TO_L: Arrow = Arrow("E", "k", Image::Key(&["l"]));
-
-const J_TO_L: Arrow = Arrow("E", "j", Image::Key(&["l"]));
-
-const K_TO_M: Arrow = Arrow("E", "k", Image::Key(&["m"]));
-
-const TWO: Shape = Shape {
-    entities: &["G"],
-    keys: &[("l", "G", "G"), ("m", "G", "G")],
-    path_eqs: &[],
-    attributes: &[],
-    obs_eqs: &[],
-};
-
 static LOOPS: [Loops; 3] = [
     Loops {
-        source: Shape {
-            entities: &["E"],
-            keys: &[("k", "E", "E")],
-            path_eqs: &[(&["k"], &["E"])],
-            attributes: &[],
-            obs_eqs: &[],
-        },
-        target: Shape {
-            entities: &["G"],
-            keys: &[("l", "G", "G")],
-            path_eqs: &[(&["l", "l"], &["G"])],
-            attributes: &[],
-            obs_eqs: &[],
-        },
-        arrows: &[TO_L],
+        source: ("k E E", "k = E"),
+        target: ("l G G", "l l = G"),
+        arrows: "E k = l",
         left: &[0],
         right: &[],
     },
     Loops {
-        source: Shape {
-            entities: &["E"],
-            keys: &[("j", "E", "E"), ("k", "E", "E")],
-            path_eqs: &[(&["j", "k"], &["k", "j"])],
-            attributes: &[],
-            obs_eqs: &[],
-        },
-        target: TWO,
-        arrows: &[J_TO_L, K_TO_M],
+        source: ("j E E, k E E", "j k = k j"),
+        target: ("l G G, m G G", ""),
+        arrows: "E j = l, E k = m",
         left: &[0, 1],
         right: &[1, 0],
     },
     Loops {
-        source: Shape {
-            entities: &["E"],
-            keys: &[("j", "E", "E"), ("k", "E", "E")],
-            path_eqs: &[(&["j"], &["j"])],
-            attributes: &[],
-            obs_eqs: &[],
-        },
-        target: TWO,
-        arrows: &[J_TO_L, K_TO_M],
+        source: ("j E E, k E E", "j = j"),
+        target: ("l G G, m G G", ""),
+        arrows: "E j = l, E k = m",
         left: &[0],
         right: &[0],
     },
 ];
 
+fn one_entity(entities: &'static str, texts: (&'static str, &'static str)) -> Shape {
+    Shape {
+        entities,
+        keys: texts.0,
+        path_eqs: texts.1,
+        attributes: "",
+        obs_eqs: "",
+    }
+}
+
+fn duties_of(alloc: Global, mapping: &Mapping) -> Result<Vec<Duty>, Fail> {
+    Ok(mapping.duties(alloc)?)
+}
+
 fn has_duty_of(alloc: Global, loops: &Loops) -> Result<bool, Fail> {
-    let arrows = arrows(alloc, loops.arrows)?;
-    let made = mapping(alloc, &loops.source, &loops.target, &[("E", "G")], arrows)?;
-    let duties = made.duties(alloc)?;
+    let source = one_entity("E", loops.source);
+    let target = one_entity("G", loops.target);
+    let mapping = made(alloc, &source, &target, "E G", loops.arrows)?;
+    let duties = duties_of(alloc, &mapping)?;
     match duties.as_slice() {
         [duty] => Ok(is_path_duty(duty, 0, loops.left, loops.right)),
         _ => Ok(false),
@@ -168,18 +142,18 @@ fn has_duty_of(alloc: Global, loops: &Loops) -> Result<bool, Fail> {
 fn duties_of_foreign_keys(rt: HostRuntime) -> Result<(), Fail> {
     let alloc = rt.alloc();
     for loops in &LOOPS {
-        assert!(rt; has_duty_of(alloc, loops)?, "{}", loops.left.len());
+        assert!(rt; has_duty_of(alloc, loops)?, "{}", loops.source.1);
     }
     Ok(())
 }
 
 // `TARGET` with other names, and the entities and foreign keys in another order.
 const RENAMED: Shape = Shape {
-    entities: &["E", "F"],
-    keys: &[("j", "E", "E"), ("k", "E", "F")],
-    path_eqs: &[(&["j", "k"], &["k"])],
-    attributes: &[("w", "E", "n"), ("x", "F", "s")],
-    obs_eqs: &[(&[("e", 0), ("w", 1)], &[("e", 0), ("j", 1), ("w", 1)])],
+    entities: "E F",
+    keys: "j E E, k E F",
+    path_eqs: "j k = k",
+    attributes: "w E n, x F s",
+    obs_eqs: "e w/1 = e j/1 w/1",
 };
 
 /// An equation of paths and then one of the attribute behind paths, over one generator of G.
@@ -196,27 +170,31 @@ fn are_both_duties(duties: &[Duty], paths: (&[u32], &[u32]), attributes: (&[u32]
 #[test]
 fn duties_of_paths_and_then_of_terms(rt: HostRuntime) -> Result<(), Fail> {
     let alloc = rt.alloc();
-    let arrows = arrows(alloc, &[J, K, W, X])?;
-    let made = mapping(alloc, &RENAMED, &TARGET, ENTITIES, arrows)?;
-    let duties = made.duties(alloc)?;
+    let mapping = made(alloc, &RENAMED, &TARGET, ENTITIES, "j, k, w, x")?;
+    let duties = duties_of(alloc, &mapping)?;
     let paths = ([1, 1, 0].as_slice(), [1, 0].as_slice());
     let attributes = ([1].as_slice(), [1, 1].as_slice());
     assert!(rt; are_both_duties(duties.as_slice(), paths, attributes));
     Ok(())
 }
 
+/// The identity of `TARGET`.
+fn identity(alloc: Global) -> Result<Mapping, Fail> {
+    let schema = schema(alloc, typeside(alloc)?, &TARGET)?;
+    Ok(Mapping::identity(alloc, schema)?)
+}
+
 #[test]
 fn the_identity(rt: HostRuntime) -> Result<(), Fail> {
     let alloc = rt.alloc();
-    let schema = schema(alloc, typeside(alloc)?, &TARGET)?;
-    let identity = Mapping::identity(alloc, schema)?;
+    let identity = identity(alloc)?;
     assert!(rt; identity.entities.as_slice() == [0, 1].as_slice());
-    let duties = identity.duties(alloc)?;
+    let duties = duties_of(alloc, &identity)?;
     let paths = ([1, 0].as_slice(), [0].as_slice());
     let attributes = ([].as_slice(), [1].as_slice());
     assert!(rt; are_both_duties(duties.as_slice(), paths, attributes));
     let term = attribute_at(alloc, 0, 3, &[1, 0])?;
-    let image = identity.image_term(alloc, &term)?;
+    let image = image_of_term(alloc, &identity, &term)?;
     assert!(rt; is_attribute(&image, 0, 3, &[1, 0]));
     Ok(())
 }
@@ -259,15 +237,6 @@ fn is_sum_under_succ(term: &TypeTerm, generator: u32, path: &[u32]) -> bool {
     }
 }
 
-const W_TO_SUM: Arrow = Arrow(
-    "E",
-    "w",
-    Image::Lambda(
-        None,
-        &[("e", 0), ("l", 1), ("v", 1), ("zero", 0), ("plus", 2)],
-    ),
-);
-
 fn image_of_term(alloc: Global, mapping: &Mapping, term: &TypeTerm) -> Result<TypeTerm, Fail> {
     Ok(mapping.image_term(alloc, term)?)
 }
@@ -291,24 +260,20 @@ fn sends_application(alloc: Global, mapping: &Mapping) -> Result<bool, Fail> {
     Ok(is_sum_under_succ(&image, 3, &[1, 1]))
 }
 
-#[test]
-fn the_image_of_a_term_of_each_kind(rt: HostRuntime) -> Result<(), Fail> {
-    let alloc = rt.alloc();
-    let arrows = arrows(alloc, &[J, K, W_TO_SUM, X])?;
-    let made = mapping(alloc, &SOURCE, &TARGET, ENTITIES, arrows)?;
-    assert!(rt; keeps_symbols(alloc, &made)?);
-    assert!(rt; sends_attribute(alloc, &made)?);
-    assert!(rt; sends_application(alloc, &made)?);
-    Ok(())
+fn sends_path(alloc: Global, mapping: &Mapping) -> Result<bool, Fail> {
+    let path = mapping.image_path(alloc, &[0, 0, 1])?;
+    Ok(path.as_slice() == [1, 1, 1, 0].as_slice())
 }
 
 #[test]
-fn the_image_of_a_path(rt: HostRuntime) -> Result<(), Fail> {
+fn the_image_of_a_term_of_each_kind(rt: HostRuntime) -> Result<(), Fail> {
     let alloc = rt.alloc();
-    let arrows = arrows(alloc, &[J, K, W, X])?;
-    let made = mapping(alloc, &SOURCE, &TARGET, ENTITIES, arrows)?;
-    let path = made.image_path(alloc, &[0, 0, 1])?;
-    assert!(rt; path.as_slice() == [1, 1, 1, 0].as_slice());
+    let arrows = "j, k, E w lambda . e l/1 v/1 zero plus/2, x";
+    let mapping = made(alloc, &SOURCE, &TARGET, ENTITIES, arrows)?;
+    assert!(rt; keeps_symbols(alloc, &mapping)?);
+    assert!(rt; sends_attribute(alloc, &mapping)?);
+    assert!(rt; sends_application(alloc, &mapping)?);
+    assert!(rt; sends_path(alloc, &mapping)?);
     Ok(())
 }
 
@@ -326,37 +291,19 @@ fn new_presentation(
     Presentation::new(alloc, schema, parts)
 }
 
-/// A generator a of E; j so many times from a is a; and zero is so many functions at w of a.
-fn presentation_parts(
-    alloc: Global,
-    steps: usize,
-    functions: usize,
-) -> Result<PresentationParts, Fail> {
-    let mut equations = Vec::new(alloc);
-    let around = repeated(alloc, &[("a", 0)], "j", steps)?;
-    equations.push((around, term(alloc, &[("a", 0)])?))?;
-    let above = repeated(alloc, &[("a", 0), ("w", 1)], "succ", functions)?;
-    equations.push((term(alloc, &[("zero", 0)])?, above))?;
-    Ok(PresentationParts {
-        generators: pairs(alloc, &[("a", "E")])?,
-        equations: Seq::from_vec(equations),
-    })
+fn equation(alloc: Global, left: &str, right: &str) -> Result<(Raw, Raw), Fail> {
+    Ok((term(alloc, left)?, term(alloc, right)?))
 }
 
-/// The mapping of j to l so many times, and of w to so many functions at v.
-fn stretched(alloc: Global, keys: usize, functions: usize) -> Result<Mapping, Fail> {
-    let mut arrows = arrows(alloc, &[K, X])?;
-    arrows.push(ArrowPart {
-        block: name(alloc, "E")?,
-        name: name(alloc, "j")?,
-        image: ArrowImage::Key(far_names(alloc, keys, &[])?),
-    })?;
-    arrows.push(ArrowPart {
-        block: name(alloc, "E")?,
-        name: name(alloc, "w")?,
-        image: tall_image(alloc, functions)?,
-    })?;
-    mapping(alloc, &SOURCE, &TARGET, ENTITIES, arrows)
+/// A generator a of E, and two equations with this term on the left of the first and that on the right of the second.
+fn presentation_parts(alloc: Global, around: &str, above: &str) -> Result<PresentationParts, Fail> {
+    let mut equations = Vec::new(alloc);
+    equations.push(equation(alloc, around, "a")?)?;
+    equations.push(equation(alloc, "zero", above)?)?;
+    Ok(PresentationParts {
+        generators: pairs(alloc, "a E")?,
+        equations: Seq::from_vec(equations),
+    })
 }
 
 fn image_of(
@@ -389,19 +336,28 @@ fn told(image: &Result<Presentation, SizeRefusal>, keys: usize) -> &'static str 
     }
 }
 
+/// What becomes of a presentation under a mapping with these images of j and w.
+fn outcome(alloc: Global, arrows: &str, around: &str, above: &str) -> Result<&'static str, Fail> {
+    let mapping = made(alloc, &SOURCE, &TARGET, ENTITIES, arrows)?;
+    let parts = presentation_parts(alloc, around, above)?;
+    let image = image_of(alloc, &mapping, parts)?;
+    Ok(told(&image, 1023))
+}
+
+// 341 * 3 foreign keys and a generator are 1,024 symbols, and so are 1,000 + 22 functions, v and a generator.
+static AT_THE_LIMIT: [(&str, &str, &str, &str); 3] = [
+    ("l*341", "a j/1*3", "a w/1 succ/1*22", "Ok"),
+    ("l*256", "a j/1*4", "a w/1 succ/1*22", "TooLarge"),
+    ("l*341", "a j/1*3", "a w/1 succ/1*23", "TooLarge"),
+];
+
 #[test]
 fn a_presentation_at_the_limit_and_past_it(rt: HostRuntime) -> Result<(), Fail> {
     let alloc = rt.alloc();
-    // 341 * 3 foreign keys and a generator are 1,024 symbols, and so are 1,000 + 22 functions, v and a generator.
-    for (keys, steps, functions, wanted) in [
-        (341, 3, 22, "Ok"),
-        (256, 4, 22, "TooLarge"),
-        (341, 3, 23, "TooLarge"),
-    ] {
-        let mapping = stretched(alloc, keys, 1000)?;
-        let parts = presentation_parts(alloc, steps, functions)?;
-        let image = image_of(alloc, &mapping, parts)?;
-        assert!(rt; told(&image, 1023) == wanted, "{keys} {functions}");
+    for (keys, around, above, wanted) in &AT_THE_LIMIT {
+        let arrows = format!(in alloc; "E j = {keys}, k, E w lambda . e v/1 succ/1*1000, x")?;
+        let outcome = outcome(alloc, arrows.as_str(), around, above)?;
+        assert!(rt; outcome == *wanted, "{keys} {around} {above}");
     }
     Ok(())
 }
