@@ -10,7 +10,7 @@ use Rattle.cq_program.specs.declared.reason.ProgramRefusal.TheVariants as progra
 use Rattle.cq_program.specs.Checks.{Environment, Meant, Posed, posed_by}
 use Rattle.cq_program.specs.declared.environment.Entry.{Entry}
 use Rattle.cq_program.specs.Environment.{Refuses, environment_of, meant}
-use Rattle.cq_program.specs.Program.{by_rule, by_clash, by_limit, Follow}
+use Rattle.cq_program.specs.Program.{by_rule, by_failure, by_limit, Follow}
 use Rattle.cq_program.specs.Posing.{AddsDecl, RefusesDecl, RefusesProgram, Withholds}
 
 pub Follow-more : (env : Environment) (ds : List Decl) (d : Decl) (mid after : Environment) → Follow env ds mid → AddsDecl mid d after → Follow env (ds ++ d ∷ []) after
@@ -35,7 +35,7 @@ refuses_posing depth env d program_refusal.Memory refuses = tt
 pub refuses_model : (depth : ℕ) (env : Environment) (d : Decl) (posed : Posed) (answer : ProgramRefusal)
     → posed_by env d ≡ Ok posed → Withholds depth d.place posed answer → RefusesDecl depth env d answer
 refuses_model depth env d posed (program_refusal.Broken place reason) is withholds = elim withholds.1 [
-  | inl clashes ↦ by_clash posed is withholds.0 clashes
+  | inl fails ↦ by_failure posed is withholds.0 fails
   | inr exceeds ↦ by_limit posed is withholds.0 exceeds
 ]
 refuses_model depth env d posed (program_refusal.Read name cause) is withholds = absurd withholds

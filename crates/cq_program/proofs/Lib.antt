@@ -4,5 +4,8 @@ pub mod Listings
 pub mod Entries
 pub mod Given
 pub mod Poses
+pub mod Settled
 pub mod Following
+pub mod Unkept
+pub mod Limits
 pub mod Outlines

@@ -7,13 +7,17 @@ use Rattle.cq_syntax.specs.declared.part.Spot.{Spot}
 use Rattle.cq_syntax.specs.declared.literal.TypesideLit.{TypesideLit}
 use Rattle.cq_syntax.specs.declared.literal.SchemaLit.{SchemaLit}
 use Rattle.cq_syntax.specs.declared.literal.InstanceLit.{InstanceLit}
+use Rattle.cq_syntax.specs.declared.literal.MappingLit.{MappingLit}
 use Rattle.cq_syntax.specs.declared.program.SchemaExp.TheVariants as schema_exp
 use Rattle.cq_syntax.specs.declared.program.InstanceExp.TheVariants as instance_exp
+use Rattle.cq_syntax.specs.declared.program.MappingExp.TheVariants as mapping_exp
 use Rattle.cq_syntax.specs.declared.program.Body.{Body}
-use Rattle.cq_syntax.specs.declared.program.Body.TheVariants.{Typeside, Schema, Instance}
+use Rattle.cq_syntax.specs.declared.program.Body.TheVariants.{Typeside, Schema, Instance, Mapping}
 use Rattle.cq_syntax.specs.declared.program.Decl.{Decl}
 use Rattle.cq_theory.specs.declared.lookup.TheoryRefusal.{TheoryRefusal}
 use Rattle.cq_theory.specs.declared.lookup.TheoryRefusal.TheVariants as refusal
+use Rattle.cq_theory.specs.declared.lookup.ArrowRefusal.{ArrowRefusal}
+use Rattle.cq_theory.specs.declared.lookup.ArrowRefusal.TheVariants as arrow
 use Rattle.cq_theory.specs.declared.presentation.Presentation.{Presentation}
 use Rattle.cq_theory.specs.declared.parts.PresentationParts.{PresentationParts}
 use Rattle.cq_theory.specs.SchemaData.{SchemaData}
@@ -22,15 +26,24 @@ use Rattle.cq_theory.specs.TypesideParts.{typeside_fault, typeside_made}
 use Rattle.cq_theory.specs.SchemaParts.{schema_fault, schema_made}
 use Rattle.cq_theory.specs.Parts.{presentation_fault, presented}
 use Rattle.cq_model.specs.InstanceData.{InstanceData}
+use Rattle.cq_mapping.specs.MappingData.{MappingData}
+use Rattle.cq_mapping.specs.MappingParts.{mapping_fault, mapping_made}
 use Rattle.cq_program.specs.declared.reason.Reason.{Reason}
-use Rattle.cq_program.specs.declared.reason.Reason.TheVariants.{NameTaken, NameUnknown, WrongKind, Duplicate, Unknown, WrongCount, WrongSort, Reserved, TooLarge, NotBuilt}
-use Rattle.cq_program.specs.Parts.{typeside_parts, typeside_places, schema_parts, schema_places, instance_parts, instance_places}
+use Rattle.cq_program.specs.declared.reason.Reason.TheVariants.{NameTaken, NameUnknown, WrongKind, WrongSchema, Duplicate, Unknown, WrongCount, WrongSort, Reserved, TooLarge, Missing, NotBuilt}
+use Rattle.cq_program.specs.Parts.{typeside_parts, typeside_places, schema_parts, schema_places, instance_parts, instance_places, mapping_parts, mapping_places}
 
--- What a declared name stands for. A schema and an instance go with the name under which the schema is printed, that of its own declaration:
--- two names stand for one schema exactly where these are one.
+-- A schema, with the name under which it is printed, that of its own declaration, and the name of its typeside's declaration. Two names stand for
+-- one schema exactly where the printed names are one, and two schemas are over one typeside declaration exactly where the typesides' names are one.
+pub record SchemaMeant : Type 0 where
+  pub name : Name
+  pub typeside : Name
+  pub schema : SchemaData
+
+-- What a declared name stands for. An instance goes with the printed name of its schema, and a mapping with those of its source and its target.
 pub data Meant : Type 0 where
   typeside : TypesideData → Meant
-  schema : Name → SchemaData → Meant
+  schema : SchemaMeant → Meant
+  mapping : Name → Name → MappingData → Meant
   instance : Name → InstanceData → Meant
 
 -- the declared names in order, with what they stand for
@@ -54,19 +67,21 @@ and_then (Err broken) f = Err broken
 abbrev pub as_typeside : Place → Option Meant → Checked TypesideData
 as_typeside place None = Err (place, NameUnknown)
 as_typeside place (Some (typeside T)) = Ok T
-as_typeside place (Some (schema n S)) = Err (place, WrongKind)
+as_typeside place (Some (schema S)) = Err (place, WrongKind)
+as_typeside place (Some (mapping n m F)) = Err (place, WrongKind)
 as_typeside place (Some (instance n i)) = Err (place, WrongKind)
 
-abbrev pub as_schema : Place → Option Meant → Checked (Name × SchemaData)
+abbrev pub as_schema : Place → Option Meant → Checked SchemaMeant
 as_schema place None = Err (place, NameUnknown)
 as_schema place (Some (typeside T)) = Err (place, WrongKind)
-as_schema place (Some (schema n S)) = Ok (n, S)
+as_schema place (Some (schema S)) = Ok S
+as_schema place (Some (mapping n m F)) = Err (place, WrongKind)
 as_schema place (Some (instance n i)) = Err (place, WrongKind)
 
 abbrev pub typeside_used : Environment → Spot → Checked TypesideData
 typeside_used env spot = as_typeside spot.place (meant_by env spot.name)
 
-abbrev pub schema_used : Environment → Spot → Checked (Name × SchemaData)
+abbrev pub schema_used : Environment → Spot → Checked SchemaMeant
 schema_used env spot = as_schema spot.place (meant_by env spot.name)
 
 -- the place of part n of a declaration that stands at `place`
@@ -83,19 +98,33 @@ part_breach place places (refusal.Reserved n) = Some (place_of place places n, R
 part_breach place places (refusal.TooLarge n) = Some (place_of place places n, TooLarge)
 part_breach place places refusal.Memory = None
 
+-- the same of a mapping, whose missing parts are told at its declaration
+abbrev pub arrow_breach : Place → List Place → ArrowRefusal → Option (Place × Reason)
+arrow_breach place places (arrow.Duplicate n) = Some (place_of place places n, Duplicate)
+arrow_breach place places (arrow.Unknown n) = Some (place_of place places n, Unknown)
+arrow_breach place places (arrow.WrongCount n) = Some (place_of place places n, WrongCount)
+arrow_breach place places (arrow.WrongSort n) = Some (place_of place places n, WrongSort)
+arrow_breach place places (arrow.Reserved n) = Some (place_of place places n, Reserved)
+arrow_breach place places (arrow.TooLarge n) = Some (place_of place places n, TooLarge)
+arrow_breach place places (arrow.Missing name) = Some (place, Missing name)
+arrow_breach place places arrow.Memory = None
+
 abbrev pub broken_or : {A : Type 0} → A → Option (Place × Reason) → Checked A
 broken_or made None = Ok made
 broken_or made (Some broken) = Err broken
 
--- what the parts of a declaration give, or the first of them that breaks a rule with the least rule that it breaks
-abbrev pub of_parts : {A : Type 0} → Place → List Place → Option TheoryRefusal → A → Checked A
-of_parts place places fault made = broken_or made (option_and_then (part_breach place places) fault)
+-- what the parts of a declaration give, or the breach of their first fault
+abbrev pub of_parts : {A R : Type 0} → (R → Option (Place × Reason)) → Option R → A → Checked A
+of_parts breach fault made = broken_or made (option_and_then breach fault)
 
 unfoldable pub typeside_given : Place → TypesideLit → Checked TypesideData
-typeside_given place lit = of_parts place (typeside_places lit) (typeside_fault (typeside_parts lit)) (typeside_made (typeside_parts lit))
+typeside_given place lit = of_parts (part_breach place (typeside_places lit)) (typeside_fault (typeside_parts lit)) (typeside_made (typeside_parts lit))
 
 unfoldable pub schema_given : Place → TypesideData → SchemaLit → Checked SchemaData
-schema_given place T lit = of_parts place (schema_places lit) (schema_fault T (schema_parts lit)) (schema_made T (schema_parts lit))
+schema_given place T lit = of_parts (part_breach place (schema_places lit)) (schema_fault T (schema_parts lit)) (schema_made T (schema_parts lit))
+
+unfoldable pub mapping_given : Place → SchemaData → SchemaData → MappingLit → Checked MappingData
+mapping_given place S T lit = of_parts (arrow_breach place (mapping_places lit)) (mapping_fault S T (mapping_parts lit)) (mapping_made S T (mapping_parts lit))
 
 abbrev fault_over : SchemaData → PresentationParts → Option TheoryRefusal
 fault_over S parts = presentation_fault S parts.generators parts.equations
@@ -104,13 +133,15 @@ abbrev made_over : SchemaData → PresentationParts → Presentation
 made_over S parts = presented S parts.generators parts.equations
 
 unfoldable pub presentation_given : Place → SchemaData → InstanceLit → Checked Presentation
-presentation_given place S lit = of_parts place (instance_places lit) (fault_over S (instance_parts lit)) (made_over S (instance_parts lit))
+presentation_given place S lit = of_parts (part_breach place (instance_places lit)) (fault_over S (instance_parts lit)) (made_over S (instance_parts lit))
 
--- What a declaration poses whose names and parts break no rule: a theory, or a presentation over the schema of a printed name,
--- whose model is to be made.
+-- What a declaration poses whose names and parts break no rule: a theory; a mapping between schemas of printed names, whose duties are to be
+-- derived; the identity of a schema; or a presentation over a schema, whose model is to be made.
 pub data Posed : Type 0 where
   a_typeside : TypesideData → Posed
-  a_schema : Name → SchemaData → Posed
+  a_schema : SchemaMeant → Posed
+  a_mapping : Name → Name → MappingData → Posed
+  an_identity : Name → SchemaData → Posed
   a_presentation : Name → SchemaData → Presentation → Posed
 
 abbrev pub typeside_posed : Place → TypesideLit → Checked Posed
@@ -120,24 +151,43 @@ abbrev pub schema_posed : Environment → Place → Name → SchemaLit → Check
 schema_posed env place name lit =
     and_then (typeside_used env lit.typeside) (λ T.
     and_then (schema_given place T lit) (λ S.
-    Ok (a_schema name S)))
+    Ok (a_schema (record { name = name; typeside = lit.typeside.name; schema = S }))))
+
+-- The two schemas are over one typeside declaration, and then the parts are checked.
+abbrev pub mapping_between : Place → MappingLit → SchemaMeant → SchemaMeant → Checked Posed
+mapping_between place lit source target =
+    if same_name source.typeside target.typeside then and_then (mapping_given place source.schema target.schema lit) (λ F. Ok (a_mapping source.name target.name F))
+    else Err (lit.target.place, WrongSchema)
+
+abbrev pub mapping_posed : Environment → Place → MappingLit → Checked Posed
+mapping_posed env place lit =
+    and_then (schema_used env lit.source) (λ source.
+    and_then (schema_used env lit.target) (λ target.
+    mapping_between place lit source target))
+
+abbrev pub identity_posed : Environment → Spot → Checked Posed
+identity_posed env spot = and_then (schema_used env spot) (λ over. Ok (an_identity over.name over.schema))
 
 abbrev pub instance_posed : Environment → Place → InstanceLit → Checked Posed
 instance_posed env place lit =
     and_then (schema_used env lit.schema) (λ over.
-    and_then (presentation_given place over.1 lit) (λ P.
-    Ok (a_presentation over.0 over.1 P)))
+    and_then (presentation_given place over.schema lit) (λ P.
+    Ok (a_presentation over.name over.schema P)))
 
 -- the forms that are built
 abbrev pub is_built : Body → Bool
 is_built (Typeside lit) = true
 is_built (Schema (schema_exp.Literal lit)) = true
+is_built (Mapping (mapping_exp.Literal lit)) = true
+is_built (Mapping (mapping_exp.Identity spot)) = true
 is_built (Instance (instance_exp.Literal lit)) = true
 is_built _ = false
 
 abbrev pub body_posed : Environment → Place → Name → Body → Checked Posed
 body_posed env place name (Typeside lit) = typeside_posed place lit
 body_posed env place name (Schema (schema_exp.Literal lit)) = schema_posed env place name lit
+body_posed env place name (Mapping (mapping_exp.Literal lit)) = mapping_posed env place lit
+body_posed env place name (Mapping (mapping_exp.Identity spot)) = identity_posed env spot
 body_posed env place name (Instance (instance_exp.Literal lit)) = instance_posed env place lit
 body_posed env place name _ = Err (place, NotBuilt)
 

@@ -14,10 +14,20 @@ use Rattle.cq_syntax.specs.declared.part.ObsSyn.{ObsSyn}
 use Rattle.cq_syntax.specs.declared.literal.TypesideLit.{TypesideLit}
 use Rattle.cq_syntax.specs.declared.literal.SchemaLit.{SchemaLit}
 use Rattle.cq_syntax.specs.declared.literal.InstanceLit.{InstanceLit}
+use Rattle.cq_syntax.specs.declared.literal.KeyImage.{KeyImage}
+use Rattle.cq_syntax.specs.declared.literal.AttSyn.{AttSyn}
+use Rattle.cq_syntax.specs.declared.literal.AttSyn.TheVariants.{Path, Lambda}
+use Rattle.cq_syntax.specs.declared.literal.AttImage.{AttImage}
+use Rattle.cq_syntax.specs.declared.literal.MapBlock.{MapBlock}
+use Rattle.cq_syntax.specs.declared.literal.MappingLit.{MappingLit}
 use Rattle.cq_theory.specs.declared.parts.ObsPart.{ObsPart}
 use Rattle.cq_theory.specs.declared.parts.TypesideParts.{TypesideParts}
 use Rattle.cq_theory.specs.declared.parts.SchemaParts.{SchemaParts}
 use Rattle.cq_theory.specs.declared.parts.PresentationParts.{PresentationParts}
+use Rattle.cq_theory.specs.declared.parts.ArrowImage.{ArrowImage}
+use Rattle.cq_theory.specs.declared.parts.ArrowImage.TheVariants as image
+use Rattle.cq_theory.specs.declared.parts.ArrowPart.{ArrowPart}
+use Rattle.cq_theory.specs.declared.parts.MappingParts.{MappingParts}
 
 abbrev pub names_of : List Spot → List Name
 names_of spots = map (λ spot. spot.name) spots
@@ -44,6 +54,21 @@ observation_part e = record { variable = e.variable; entity = e.entity; left = e
 abbrev pub equation_part : EqSyn → Raw × Raw
 equation_part e = (e.left.raw, e.right.raw)
 
+-- the image of an attribute
+abbrev pub attribute_image : AttSyn → ArrowImage
+attribute_image (Path path) = image.Path path.names
+attribute_image (Lambda variable entity term) = image.Lambda variable entity term.raw
+
+-- an image of a foreign key or an attribute, in the block of an entity
+abbrev pub key_part : Name → KeyImage → ArrowPart
+key_part block k = record { block = block; name = k.name; image = image.Key k.image.names }
+
+abbrev pub attribute_part : Name → AttImage → ArrowPart
+attribute_part block a = record { block = block; name = a.name; image = attribute_image a.image }
+
+abbrev pub arrow_parts : MapBlock → List ArrowPart
+arrow_parts b = map (key_part b.entity) b.keys ++ map (attribute_part b.entity) b.attributes
+
 -- the place of each name of a group
 abbrev pub group_places : GroupSyn → List Place
 group_places g = places_of g.names
@@ -60,6 +85,10 @@ path_eq_place e = e.left.place
 
 abbrev pub equation_place : EqSyn → Place
 equation_place e = e.left.place
+
+-- an image stands at the name of its foreign key or attribute
+abbrev pub arrow_places : MapBlock → List Place
+arrow_places b = map (λ k. k.place) b.keys ++ map (λ a. a.place) b.attributes
 
 -- The parts that a literal gives, the places of these parts in the order in which they are numbered, and how many they are.
 unfoldable pub typeside_parts : TypesideLit → TypesideParts
@@ -98,3 +127,14 @@ instance_places i = flat_map group_places i.generators ++ map equation_place i.e
 
 abbrev pub instance_count : InstanceLit → ℕ
 instance_count i = sum_by (λ g. length g.names) i.generators + length i.equations
+
+-- the image of each block's entity, and then the images of foreign keys and attributes, block by block
+unfoldable pub mapping_parts : MappingLit → MappingParts
+mapping_parts m = record { entities = map (λ b. (b.entity, b.image)) m.blocks; arrows = flat_map arrow_parts m.blocks }
+
+-- the image of an entity stands at its block
+unfoldable pub mapping_places : MappingLit → List Place
+mapping_places m = map (λ b. b.place) m.blocks ++ flat_map arrow_places m.blocks
+
+abbrev pub mapping_count : MappingLit → ℕ
+mapping_count m = length m.blocks + sum_by (λ b. length b.keys + length b.attributes) m.blocks

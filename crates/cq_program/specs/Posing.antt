@@ -1,31 +1,46 @@
 -- What the code poses, as the definitions see it.
-use Rattle.std.specs.Prelude.{◌≡◌, ◌⊎◌, ℕ, List, [], ◌∷◌, ◌++◌}
+use Rattle.std.specs.Prelude.{◌≡◌, ◌⊎◌, ℕ, List, [], ◌∷◌, ◌++◌, Some}
 use Rattle.cq_base.specs.declared.place.Place.{Place}
 use Rattle.cq_syntax.specs.declared.program.Decl.{Decl}
 use Rattle.cq_syntax.specs.declared.program.Program.{Program}
 use Rattle.cq_theory.specs.Presentation.{IsPresentation}
+use Rattle.cq_mapping.specs.Mapping.{identity_of}
+use Rattle.cq_mapping.specs.Duties.{Preserves}
 use Rattle.cq_program.specs.declared.reason.Reason.TheVariants.{Inconsistent}
 use Rattle.cq_program.specs.declared.reason.ProgramRefusal.{ProgramRefusal}
 use Rattle.cq_program.specs.declared.reason.ProgramRefusal.TheVariants as program_refusal
 use Rattle.cq_program.specs.declared.posing.Statement.{Statement}
 use Rattle.cq_program.specs.declared.posing.Statement.TheVariants as statement
-use Rattle.cq_program.specs.Checks.{Environment, Meant, Posed, a_typeside, a_schema, a_presentation}
-use Rattle.cq_program.specs.Program.{Breach, Breaks, Clashes, Declares, Exceeds}
+use Rattle.cq_program.specs.Checks.{Environment, Meant, Posed, typeside, a_typeside, a_schema, a_mapping, an_identity, a_presentation, meant_by}
+use Rattle.cq_program.specs.Environment.{schema_meant}
+use Rattle.cq_program.specs.Program.{Breach, Breaks, Fails, Declares, Exceeds}
 
 abbrev pub posed_as : Statement → Posed
 posed_as (statement.Typeside t) = a_typeside t
-posed_as (statement.Schema n s) = a_schema n s
+posed_as (statement.Schema s) = a_schema (schema_meant s)
+posed_as (statement.Mapping n t F) = a_mapping n t F
+posed_as (statement.Identity n s) = an_identity n s.value
 posed_as (statement.Presentation n s P) = a_presentation n s.value P
 
 -- a presentation is one over its schema
 abbrev pub IsPosed : Statement → Type 0
 IsPosed (statement.Typeside t) = Unit {0}
-IsPosed (statement.Schema n s) = Unit {0}
+IsPosed (statement.Schema s) = Unit {0}
+IsPosed (statement.Mapping n t F) = Unit {0}
+IsPosed (statement.Identity n s) = Unit {0}
 IsPosed (statement.Presentation n s P) = IsPresentation s.value P
 
--- the refusal tells why no model is made, at the declaration's place, or want of memory
+-- what is posed is over what its names stand for: a schema over its typeside; an identity preserves equality
+abbrev pub IsGrounded : Environment → Posed → Type 0
+IsGrounded env (a_typeside T) = Unit {0}
+IsGrounded env (a_schema S) = meant_by env S.typeside ≡ Some (typeside S.schema.typeside)
+IsGrounded env (a_mapping n t F) = Unit {0}
+IsGrounded env (an_identity n S) = Preserves (identity_of S)
+IsGrounded env (a_presentation n S P) = Unit {0}
+
+-- the refusal tells why nothing is made of what is posed, at the declaration's place, or want of memory
 abbrev pub Withholds : ℕ → Place → Posed → ProgramRefusal → Type 0
-Withholds depth at posed (program_refusal.Broken place reason) = (place ≡ at) × (Clashes posed reason ⊎ Exceeds depth posed reason)
+Withholds depth at posed (program_refusal.Broken place reason) = (place ≡ at) × (Fails posed reason ⊎ Exceeds depth posed reason)
 Withholds depth at posed (program_refusal.Read name cause) = ⊥
 Withholds depth at posed program_refusal.Memory = Unit {0}
 

@@ -4,9 +4,10 @@ use Rattle.std.specs.List.{filter_map}
 use Rattle.cq_base.specs.declared.name.Name.{Name}
 use Rattle.cq_base.specs.declared.place.Place.{Place}
 use Rattle.cq_syntax.specs.declared.program.Body.{Body}
-use Rattle.cq_syntax.specs.declared.program.Body.TheVariants.{Typeside, Schema, Instance}
+use Rattle.cq_syntax.specs.declared.program.Body.TheVariants.{Typeside, Schema, Mapping, Instance}
 use Rattle.cq_syntax.specs.declared.program.SchemaExp.TheVariants as schema_exp
 use Rattle.cq_syntax.specs.declared.program.InstanceExp.TheVariants as instance_exp
+use Rattle.cq_syntax.specs.declared.program.MappingExp.TheVariants as mapping_exp
 use Rattle.cq_syntax.specs.declared.program.Decl.{Decl}
 use Rattle.cq_syntax.specs.declared.program.Program.{Program}
 use Rattle.cq_theory.specs.declared.presentation.Presentation.{Presentation}
@@ -17,9 +18,14 @@ use Rattle.cq_theory.specs.declared.value.Value.TheVariants.{Const}
 use Rattle.cq_model.specs.InstanceData.{InstanceData}
 use Rattle.cq_model.specs.Listed.{IsListed}
 use Rattle.cq_program.specs.declared.reason.Reason.{Reason}
-use Rattle.cq_program.specs.declared.reason.Reason.TheVariants.{Depth, TooManyRows, Inconsistent}
-use Rattle.cq_program.specs.Parts.{typeside_count, schema_count, instance_count}
-use Rattle.cq_program.specs.Checks.{Meant, typeside, schema, instance, Environment, Posed, a_typeside, a_schema, a_presentation, posed_by}
+use Rattle.cq_program.specs.declared.reason.Reason.TheVariants.{NotPreserved, DutyDepth, DutyRows, Depth, TooManyRows, Inconsistent}
+use Rattle.cq_mapping.specs.MappingData.{MappingData}
+use Rattle.cq_mapping.specs.Mapping.{identity_of}
+use Rattle.cq_mapping.specs.declared.duties.Duty.{Duty}
+use Rattle.cq_mapping.specs.Duties.{Preserves, duties_of, one_generator}
+use Rattle.cq_check.specs.Answers.{IsDerivedWithin, IsNotPreserved, IsTooDeepDuty, IsTooWideDuty}
+use Rattle.cq_program.specs.Parts.{typeside_count, schema_count, mapping_count, instance_count}
+use Rattle.cq_program.specs.Checks.{Meant, typeside, schema, mapping, instance, Environment, Posed, a_typeside, a_schema, a_mapping, an_identity, a_presentation, posed_by}
 
 -- the listed model of a presentation over a schema, which makes no two constants equal
 pub record IsModelOf (S : SchemaData) (P : Presentation) (i : InstanceData) : Type 0 where
@@ -28,10 +34,13 @@ pub record IsModelOf (S : SchemaData) (P : Presentation) (i : InstanceData) : Ty
   pub listed : IsListed i
   pub consistent : IsInconsistent S P → ⊥
 
--- what is posed is this: a theory itself, a presentation by its listed model
+-- What is posed is this: a theory itself, a mapping where each of its duties is derivable, a presentation by its listed model. The duties of an
+-- identity are equations of its schema, and so derivable.
 abbrev pub Stands : Posed → Meant → Type 0
 Stands (a_typeside T) m = m ≡ typeside T
-Stands (a_schema n S) m = m ≡ schema n S
+Stands (a_schema S) m = m ≡ schema S
+Stands (a_mapping n t F) m = (m ≡ mapping n t F) × Preserves F
+Stands (an_identity n S) m = m ≡ mapping n n (identity_of S)
 Stands (a_presentation n S P) m = (i : InstanceData) × (m ≡ instance n i) × IsModelOf S P i
 
 -- A presentation makes two constants equal: the least that equals a greater one and the least such greater one, whose texts the reason tells.
@@ -41,24 +50,46 @@ pub record TellsClash (S : SchemaData) (P : Presentation) (reason : Reason) : Ty
   pub equal : IsInconsistentAt S P least greater
   pub told : reason ≡ Inconsistent (value_text S.typeside (Const least)) (value_text S.typeside (Const greater))
 
--- what is posed breaks the rule that no two constants are equal
-abbrev pub Clashes : Posed → Reason → Type 0
-Clashes (a_typeside T) reason = ⊥
-Clashes (a_schema n S) reason = ⊥
-Clashes (a_presentation n S P) reason = TellsClash S P reason
+-- the reason tells the first duty of the mapping, by its number from 1, that isn't derivable
+abbrev pub TellsUnkept : MappingData → Reason → Type 0
+TellsUnkept F reason = (n : ℕ) × (reason ≡ NotPreserved n) × IsNotPreserved F n
 
--- the two limits of a model: its depth, and its number of rows
+-- what is posed breaks the rule that each duty of a mapping is derivable, or that no two constants are equal
+abbrev pub Fails : Posed → Reason → Type 0
+Fails (a_typeside T) reason = ⊥
+Fails (a_schema S) reason = ⊥
+Fails (a_mapping n t F) reason = TellsUnkept F reason
+Fails (an_identity n S) reason = ⊥
+Fails (a_presentation n S P) reason = TellsClash S P reason
+
+-- the two limits of a duty and of a model: the depth, and the number of rows
 abbrev pub IsLimit : Reason → Type 0
-IsLimit reason = (reason ≡ Depth) ⊎ (reason ≡ TooManyRows)
+IsLimit (DutyDepth n) = Unit {0}
+IsLimit (DutyRows n) = Unit {0}
+IsLimit Depth = Unit {0}
+IsLimit TooManyRows = Unit {0}
+IsLimit _ = ⊥
 
--- Which limit keeps the model of what is posed from being made within a depth. No rule is broken then. The depth gives the leave where
--- the presentation closes at no depth up to the given one; the limit on rows where at some depth up to it there are more classes than rows are allowed.
-abbrev pub Exceeds : ℕ → Posed → Reason → Type 0
-Exceeds depth (a_typeside T) reason = ⊥
-Exceeds depth (a_schema n S) reason = ⊥
-Exceeds depth (a_presentation n S P) reason =
+-- Which limit keeps the duty with number n from being decided within a depth, where those before it are derivable. The depth gives the leave where
+-- the duty isn't derived within it and its presentation closes at no depth up to it; the limit on rows where at some depth up to it there are more
+-- classes than rows are allowed, and the duty isn't derived within any lesser depth.
+abbrev pub ExceedsAtDuty : ℕ → MappingData → Reason → ℕ → Type 0
+ExceedsAtDuty depth F reason n = ((reason ≡ DutyDepth n) × IsTooDeepDuty F depth n) ⊎ ((reason ≡ DutyRows n) × IsTooWideDuty F depth n)
+
+-- Which limit keeps the model of a presentation from being made within a depth. The depth gives the leave where the presentation closes at no
+-- depth up to the given one; the limit on rows where at some depth up to it there are more classes than rows are allowed.
+abbrev pub ExceedsAtModel : ℕ → SchemaData → Presentation → Reason → Type 0
+ExceedsAtModel depth S P reason =
     ((reason ≡ Depth) × ((j : ℕ) → j ≤ depth → Closes S P j → ⊥))
     ⊎ ((reason ≡ TooManyRows) × (j : ℕ) × (j ≤ depth) × IsWide S P j)
+
+-- which limit is passed by what is posed; no rule is broken then
+abbrev pub Exceeds : ℕ → Posed → Reason → Type 0
+Exceeds depth (a_typeside T) reason = ⊥
+Exceeds depth (a_schema S) reason = ⊥
+Exceeds depth (a_mapping n t F) reason = (duty : ℕ) × ExceedsAtDuty depth F reason duty
+Exceeds depth (an_identity n S) reason = ⊥
+Exceeds depth (a_presentation n S P) reason = ExceedsAtModel depth S P reason
 
 -- the declaration meets its rules, and its name stands for m
 pub record Declares (env : Environment) (d : Decl) (m : Meant) : Type 0 where
@@ -66,10 +97,10 @@ pub record Declares (env : Environment) (d : Decl) (m : Meant) : Type 0 where
   pub checked : posed_by env d ≡ Ok posed
   pub stands : Stands posed m
 
--- the first rule that the declaration breaks: one of names and parts, or that of constants; or the limit that it passes
+-- the first rule that the declaration breaks: one of names and parts, or that of duties or of constants; or the limit that it passes
 pub data Breach (depth : ℕ) (env : Environment) (d : Decl) (place : Place) (reason : Reason) : Type 0 where
   by_rule : posed_by env d ≡ Err (place, reason) → Breach depth env d place reason
-  by_clash : (posed : Posed) → posed_by env d ≡ Ok posed → place ≡ d.place → Clashes posed reason → Breach depth env d place reason
+  by_failure : (posed : Posed) → posed_by env d ≡ Ok posed → place ≡ d.place → Fails posed reason → Breach depth env d place reason
   by_limit : (posed : Posed) → posed_by env d ≡ Ok posed → place ≡ d.place → Exceeds depth posed reason → Breach depth env d place reason
 
 -- the declarations, in order, meet their rules, and lead from one environment to another
@@ -85,7 +116,8 @@ pub record Listing : Type 0 where
 
 abbrev pub listing_named : Name → Meant → Option Listing
 listing_named name (typeside T) = None
-listing_named name (schema n S) = None
+listing_named name (schema S) = None
+listing_named name (mapping n t F) = None
 listing_named name (instance n i) = Some (record { name = name; schema = n; instance = i })
 
 abbrev pub listing_of : Name × Meant → Option Listing
@@ -107,10 +139,32 @@ pub record Breaks (depth : ℕ) (program : Program) (place : Place) (reason : Re
   pub follow : Follow [] before env
   pub breach : Breach depth env broken place reason
 
+-- A duty is derived within some depth up to the given one, and at no depth up to that one there are more classes than rows are allowed.
+abbrev pub IsDecided : ℕ → SchemaData → Duty → Type 0
+IsDecided depth S duty =
+    (j : ℕ) × (j ≤ depth) × IsDerivedWithin S (one_generator duty.schema_entity) duty.equation j
+    × ((i : ℕ) → i ≤ j → IsWide S (one_generator duty.schema_entity) i → ⊥)
+
+-- What is posed keeps the limits at a depth: each duty of a mapping is decided so; a presentation closes at some depth up to the given one, and
+-- has at no depth up to it more classes than rows are allowed.
+abbrev pub KeepsLimits : ℕ → Posed → Type 0
+KeepsLimits depth (a_typeside T) = Unit {0}
+KeepsLimits depth (a_schema S) = Unit {0}
+KeepsLimits depth (a_mapping n t F) = All (IsDecided depth F.target) (duties_of F)
+KeepsLimits depth (an_identity n S) = Unit {0}
+KeepsLimits depth (a_presentation n S P) = ((j : ℕ) × (j ≤ depth) × Closes S P j) × ((j : ℕ) → j ≤ depth → IsWide S P j → ⊥)
+
+-- the same of each declaration of a program, after those before it
+abbrev pub IsWithinLimits : ℕ → Program → Type 0
+IsWithinLimits depth program =
+    (before : List Decl) (d : Decl) (after : List Decl) (env : Environment) (posed : Posed)
+    → program.decls ≡ before ++ d ∷ after → Follow [] before env → posed_by env d ≡ Ok posed → KeepsLimits depth posed
+
 -- how many parts a declaration of a form that is built has
 abbrev pub part_count : Body → ℕ
 part_count (Typeside lit) = typeside_count lit
 part_count (Schema (schema_exp.Literal lit)) = schema_count lit
+part_count (Mapping (mapping_exp.Literal lit)) = mapping_count lit
 part_count (Instance (instance_exp.Literal lit)) = instance_count lit
 part_count _ = 0
 

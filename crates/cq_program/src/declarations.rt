@@ -2,7 +2,7 @@
 ghost use Rattle.std.specs.Prelude.{◌≡◌, ◌<◌, ◌≤◌, ◌-◌, ◌^◌, ◌++◌, [], IfOk, IfErr, OnOk, length, map};
 ghost use Rattle.std.specs.List.{filter_map, flat_map};
 ghost use Rattle.cq_program.specs.Program.{Declares, Follow, HasFewParts, Means, listing_of, part_count};
-ghost use Rattle.cq_program.specs.Environment.{environment_of, meant};
+ghost use Rattle.cq_program.specs.Environment.{AreSettled, IsSettled, environment_of, meant};
 ghost use Rattle.cq_program.specs.Posing.{AddsDecl, RefusesDecl, RefusesProgram};
 ghost use Rattle.cq_program.specs.Named.{listed_as, listings_in};
 
@@ -28,12 +28,15 @@ pub struct Named {
 /// The instances of a program in order, or the first rule that a declaration breaks, at its place.
 ///
 /// The declarations are taken in order. Each is checked in this order: its form is built (`NotBuilt`), its name is new
-/// (`NameTaken`), each name that it uses is declared (`NameUnknown`) and of the right kind (`WrongKind`), its parts
-/// break no rule (`Duplicate` to `TooLarge`, at the first such part), and its model has at most 200,000 rows at each
-/// depth up to the given one (`TooManyRows`), closes within it (`Depth`) and makes no two constants equal
-/// (`Inconsistent`, with the texts of the least such pair). The first two of these three are limits and no rules: each
-/// is told only where the presentation gives leave for it. Want of memory may come at any time. No form that is built
-/// reads files.
+/// (`NameTaken`), each name that it uses is declared (`NameUnknown`) and of the right kind (`WrongKind`), the two schemas
+/// of a mapping are over one typeside declaration (`WrongSchema`, at the second), its parts break no rule (`Duplicate`
+/// to `TooLarge`, at the first such part) and none is missing (`Missing`). Then the duties of a mapping literal are
+/// derived, in order: the first that isn't is not derivable (`NotPreserved`), or not decided within the depth
+/// (`DutyDepth`) or with 200,000 rows (`DutyRows`). The model of an instance has at most 200,000 rows at each depth up
+/// to the given one (`TooManyRows`), closes within it (`Depth`) and makes no two constants equal (`Inconsistent`, with
+/// the texts of the least such pair). `DutyDepth`, `DutyRows`, `Depth` and `TooManyRows` are limits and no rules: each is
+/// told only where the duty or the presentation gives leave for it. Want of memory may come at any time. No form that is
+/// built reads files.
 pub fn meaning<F: Folder>(
     alloc: Global,
     program: &Program,
@@ -73,13 +76,16 @@ fn declare(
 ) -> Result<Environment, ProgramRefusal>
     requires few { part_count decl.now.body < 2 ^ 32 }
     requires room { length env.entries.items < 2 ^ 32 - 1 }
+    requires settled { AreSettled (environment_of env.entries.items) }
     requires depth { depth ≤ 64 }
     ensures declares { IfOk result (λ after. AddsDecl (environment_of env.entries.items) decl.now (environment_of after.entries.items)) }
+    ensures settled { IfOk result (λ after. AreSettled (environment_of after.entries.items)) }
     ensures breaks { IfErr result (RefusesDecl depth (environment_of env.entries.items) decl.now) }
 {
     let meaning = judge(alloc, &env, decl, depth)?;
     let name = decl.name.clone()?;
-    Ok(env.with(name, meaning)?)
+    let after = env.with(name, meaning)?;
+    Ok(after)
 }
 
 /// What a declaration stands for.
@@ -90,8 +96,10 @@ fn judge(
     depth: u32,
 ) -> Result<Meaning, ProgramRefusal>
     requires few { part_count decl.now.body < 2 ^ 32 }
+    requires settled { AreSettled (environment_of env.now.entries.items) }
     requires depth { depth ≤ 64 }
     ensures declares { IfOk result (λ meaning. Declares (environment_of env.now.entries.items) decl.now (meant meaning)) }
+    ensures settled { IfOk result (λ meaning. IsSettled (environment_of env.now.entries.items) (meant meaning)) }
     ensures breaks { IfErr result (RefusesDecl depth (environment_of env.now.entries.items) decl.now) }
 {
     let statement = pose(alloc, env, decl)?;
@@ -130,6 +138,7 @@ fn push_instance(named: &mut Vec<Named>, entry: Entry) -> Result<(), AllocError>
             Ok(())
         }
         Meaning::Typeside(_) => Ok(()),
-        Meaning::Schema(_, _) => Ok(()),
+        Meaning::Schema(_) => Ok(()),
+        Meaning::Mapping(_, _, _) => Ok(()),
     }
 }

@@ -1,21 +1,33 @@
 //! The declared names in order, and what they stand for.
-ghost use Rattle.std.specs.Prelude.{◌≡◌, ◌<◌, ◌-◌, ◌^◌, ◌++◌, ◌∷◌, [], IfOk, length, is_some, option_map};
-ghost use Rattle.cq_program.specs.Checks.{meant_by, typeside_used, schema_used};
-ghost use Rattle.cq_program.specs.Environment.{Answers, entry_names, environment_of, meant};
+ghost use Rattle.std.specs.Prelude.{◌≡◌, ◌<◌, ◌-◌, ◌^◌, ◌++◌, ◌∷◌, [], Some, IfOk, length, is_some, option_map};
+ghost use Rattle.cq_program.specs.Checks.{meant_by, typeside, typeside_used, schema_used};
+ghost use Rattle.cq_program.specs.Environment.{Answers, entry_names, environment_of, meant, schema_meant};
 
 use crate::reason::{ProgramRefusal, Reason};
 use cq_base::{Name, Names};
+use cq_mapping::Mapping;
 use cq_model::Instance;
 use cq_syntax::Spot;
 use cq_theory::{Schema, Typeside};
 use std::alloc::{AllocError, Global};
 use std::rc::Rc;
 
-/// What a declared name stands for. A schema and an instance go with the name under which the schema is printed.
+/// A schema, with the name under which it is printed, that of its own declaration, and the name of its typeside's
+/// declaration.
+#[derive(Drop)]
+pub(crate) struct NamedSchema {
+    pub name: Name,
+    pub typeside: Name,
+    pub schema: Rc<Schema>,
+}
+
+/// What a declared name stands for. An instance goes with the name under which its schema is printed, and a mapping
+/// with those of its source and its target.
 #[derive(Drop)]
 pub(crate) enum Meaning {
     Typeside(Rc<Typeside>),
-    Schema(Name, Rc<Schema>),
+    Schema(NamedSchema),
+    Mapping(Name, Name, Rc<Mapping>),
     Instance(Name, Rc<Instance>),
 }
 
@@ -57,12 +69,14 @@ impl Environment {
 
     /// The typeside for which a used name stands.
     pub fn typeside(&self, used: &Spot) -> Result<Rc<Typeside>, ProgramRefusal>
-        ensures { Answers (λ typeside. typeside.value) result (typeside_used (environment_of self.now.entries.items) used.now) }
+        ensures answers { Answers (λ typeside. typeside.value) result (typeside_used (environment_of self.now.entries.items) used.now) }
+        ensures meant { IfOk result (λ found. meant_by (environment_of self.now.entries.items) used.now.name ≡ Some (typeside found.value)) }
     {
         match self.find(&used.name) {
             None => Err(ProgramRefusal::Broken(used.place, Reason::NameUnknown)),
             Some(Meaning::Typeside(typeside)) => Ok(typeside.clone()?),
-            Some(Meaning::Schema(_, _)) => Err(ProgramRefusal::Broken(
+            Some(Meaning::Schema(_)) => Err(ProgramRefusal::Broken(used.place, Reason::WrongKind)),
+            Some(Meaning::Mapping(_, _, _)) => Err(ProgramRefusal::Broken(
                 used.place,
                 Reason::WrongKind,
             )),
@@ -73,9 +87,9 @@ impl Environment {
         }
     }
 
-    /// The schema for which a used name stands, with its printed name.
-    pub fn schema(&self, used: &Spot) -> Result<(Name, Rc<Schema>), ProgramRefusal>
-        ensures { Answers (λ found. (found.0, found.1.value)) result (schema_used (environment_of self.now.entries.items) used.now) }
+    /// The schema for which a used name stands.
+    pub fn schema(&self, used: &Spot) -> Result<NamedSchema, ProgramRefusal>
+        ensures { Answers schema_meant result (schema_used (environment_of self.now.entries.items) used.now) }
     {
         match self.find(&used.name) {
             None => Err(ProgramRefusal::Broken(used.place, Reason::NameUnknown)),
@@ -83,7 +97,11 @@ impl Environment {
                 used.place,
                 Reason::WrongKind,
             )),
-            Some(Meaning::Schema(name, schema)) => Ok((name.clone()?, schema.clone()?)),
+            Some(Meaning::Schema(named)) => Ok(copy_named(named)?),
+            Some(Meaning::Mapping(_, _, _)) => Err(ProgramRefusal::Broken(
+                used.place,
+                Reason::WrongKind,
+            )),
             Some(Meaning::Instance(_, _)) => Err(ProgramRefusal::Broken(
                 used.place,
                 Reason::WrongKind,
@@ -107,4 +125,14 @@ impl Environment {
         entries.push(Entry { name, meaning })?;
         Ok(Environment { entries, names })
     }
+}
+
+fn copy_named(named: &NamedSchema) -> Result<NamedSchema, AllocError>
+    ensures { IfOk result (λ copy. schema_meant copy ≡ schema_meant named.now) }
+{
+    Ok(NamedSchema {
+        name: named.name.clone()?,
+        typeside: named.typeside.clone()?,
+        schema: named.schema.clone()?,
+    })
 }

@@ -1,13 +1,13 @@
 //! Whether declarations and parts can be counted by numbers of 32 bits.
 ghost use Rattle.std.specs.Prelude.{◌≡◌, ◌+◌, ◌-◌, ◌<◌, ◌≤◌, ◌^◌, ◌↔◌, All, IsTrue, length, sum_by};
 ghost use Rattle.std.specs.Option.{SomeIff};
-ghost use Rattle.cq_syntax.specs.declared.program.Body.TheVariants.{Instance};
+ghost use Rattle.cq_syntax.specs.declared.program.Body.TheVariants.{Mapping, Instance};
 ghost use Rattle.cq_program.specs.Program.{HasFewParts, part_count};
-ghost use Rattle.cq_program.specs.Parts.{typeside_count, schema_count, instance_count};
+ghost use Rattle.cq_program.specs.Parts.{typeside_count, schema_count, mapping_count, instance_count};
 
 use cq_syntax::{
-    Body, Decl, EdgeSyn, FunSyn, GroupSyn, InstanceExp, InstanceLit, Program, SchemaExp, SchemaLit,
-    TypesideLit,
+    Body, Decl, EdgeSyn, FunSyn, GroupSyn, InstanceExp, InstanceLit, MapBlock, MappingExp,
+    MappingLit, Program, SchemaExp, SchemaLit, TypesideLit,
 };
 
 /// Whether a program has fewer than 2^32 - 1 declarations, and each of them fewer than 2^32 parts, as every program in
@@ -33,7 +33,7 @@ fn has_few(body: &Body) -> bool
         Body::Schema(SchemaExp::GetSchema(_)) => true,
         Body::Instance(expression) => has_few_in_instance(expression),
         Body::Colimit(_) => true,
-        Body::Mapping(_) => true,
+        Body::Mapping(expression) => has_few_in_mapping(expression),
         Body::Query(_) => true,
         Body::Transform(_) => true,
     }
@@ -67,6 +67,25 @@ fn has_few_in_schema(literal: &SchemaLit) -> bool
         return false;
     };
     room_after(room, literal.obs_eqs.len()).is_some()
+}
+
+fn has_few_in_mapping(expression: &MappingExp) -> bool
+    ensures { IsTrue result ↔ (part_count (Mapping expression.now) < 2 ^ 32) }
+{
+    match expression {
+        MappingExp::Literal(literal) => has_few_in_blocks(literal),
+        MappingExp::Identity(_) => true,
+        MappingExp::GetMapping(_, _) => true,
+    }
+}
+
+fn has_few_in_blocks(literal: &MappingLit) -> bool
+    ensures { IsTrue result ↔ (mapping_count literal.now < 2 ^ 32) }
+{
+    let Some(room) = room_after(u32::MAX, literal.blocks.len()) else {
+        return false;
+    };
+    room_after_blocks(room, literal.blocks.as_slice()).is_some()
 }
 
 fn has_few_in_instance(expression: &InstanceExp) -> bool
@@ -115,6 +134,28 @@ fn room_after_groups(room: u32, groups: &[GroupSyn]) -> Option<u32>
         }
     }
     Some(left)
+}
+
+fn room_after_blocks(room: u32, blocks: &[MapBlock]) -> Option<u32>
+    ensures { SomeIff result (sum_by (λ b. length b.keys + length b.attributes) blocks.now ≤ room) (room - sum_by (λ b. length b.keys + length b.attributes) blocks.now) }
+{
+    let mut left = room;
+    for block in blocks {
+        match room_after_block(left, block) {
+            Some(room) => left = room,
+            None => return None,
+        }
+    }
+    Some(left)
+}
+
+fn room_after_block(room: u32, block: &MapBlock) -> Option<u32>
+    ensures { SomeIff result (length block.now.keys + length block.now.attributes ≤ room) (room - (length block.now.keys + length block.now.attributes)) }
+{
+    match room_after(room, block.keys.len()) {
+        Some(room) => room_after(room, block.attributes.len()),
+        None => None,
+    }
 }
 
 fn room_after_edges(room: u32, groups: &[EdgeSyn]) -> Option<u32>

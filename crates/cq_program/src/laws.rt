@@ -9,12 +9,20 @@ ghost use Rattle.cq_theory.specs.Closing.{IsInconsistent};
 ghost use Rattle.cq_theory.specs.Listed.{Lists};
 ghost use Rattle.cq_theory.specs.Tables.{Tables, Assignment};
 ghost use Rattle.cq_program.specs.declared.reason.Reason.{Reason};
-ghost use Rattle.cq_program.specs.Program.{Breaks, IsLimit, Listing, Means, TellsClash};
+ghost use Rattle.cq_program.specs.Program.{Breaks, IsLimit, IsWithinLimits, Listing, Means, TellsClash, TellsUnkept};
+ghost use Rattle.cq_mapping.specs.MappingData.{MappingData};
 
-/// A program that has a meaning breaks no rule; only the depth and the limit on rows can keep it from being made.
+/// A program that has a meaning breaks no rule; only the depth and the limit on rows can keep it from being made or a duty from being decided.
 pub fn means_unbroken()
     ensures { (depth : ℕ) (program : Program) (L : List Listing) (place : Place) (reason : Reason)
         → Means program L → Breaks depth program place reason → IsLimit reason }
+{}
+
+/// A program that has a meaning and keeps the limits at a depth breaks nothing at it: each of its presentations closes up to the depth and is never
+/// too wide, and each duty is derived within some depth up to it, up to which the duty's presentation isn't too wide.
+pub fn unbroken_within_limits()
+    ensures { (depth : ℕ) (program : Program) (L : List Listing) (place : Place) (reason : Reason)
+        → Means program L → IsWithinLimits depth program → Breaks depth program place reason → ⊥ }
 {}
 
 /// A program breaks one rule first, at one place and with one reason, where it isn't a limit that is told.
@@ -27,6 +35,11 @@ pub fn one_refusal()
 /// A presentation that makes constants equal tells one pair of them.
 pub fn one_clash()
     ensures { (S : SchemaData) (P : Presentation) (reason other : Reason) → TellsClash S P reason → TellsClash S P other → reason ≡ other }
+{}
+
+/// A mapping that doesn't preserve equality tells one duty, the first that isn't derivable.
+pub fn one_unkept()
+    ensures { (F : MappingData) (reason other : Reason) → TellsUnkept F reason → TellsUnkept F other → reason ≡ other }
 {}
 
 /// A presentation that has a listed model makes no constants equal: equal constants would mean one value.

@@ -6,19 +6,22 @@ ghost use Rattle.cq_theory.specs.declared.value.Value.TheVariants.{Const};
 ghost use Rattle.cq_program.specs.Program.{Stands};
 ghost use Rattle.cq_program.specs.Environment.{meant};
 ghost use Rattle.cq_program.specs.Posing.{IsPosed, TellsConstants, Withholds, posed_as};
-ghost use Rattle.cq_program.specs.Checks.{a_presentation, instance};
+ghost use Rattle.cq_program.specs.Checks.{a_mapping, an_identity, a_presentation, mapping, instance};
 
 use crate::environment::Meaning;
 use crate::posing::Statement;
 use crate::reason::{ProgramRefusal, Reason};
 use cq_base::{Name, Place, Seq};
+use cq_check::{CheckRefusal, check_mapping};
+use cq_mapping::Mapping;
 use cq_model::{BuildRefusal, Instance, build};
 use cq_theory::value_text::value_text;
 use cq_theory::{Presentation, Schema, Typeside, Value};
 use std::alloc::{AllocError, Global};
 use std::rc::Rc;
 
-/// What the declaration at a place stands for: a theory itself, a presentation by its listed model.
+/// What the declaration at a place stands for: a theory itself, a mapping that preserves equality itself, a presentation
+/// by its listed model.
 pub fn meaning_of(
     alloc: Global,
     place: Place,
@@ -32,11 +35,52 @@ pub fn meaning_of(
 {
     match statement {
         Statement::Typeside(typeside) => Ok(Meaning::Typeside(shared_typeside(alloc, typeside)?)),
-        Statement::Schema(name, schema) => Ok(Meaning::Schema(name, shared_schema(alloc, schema)?)),
+        Statement::Schema(schema) => Ok(Meaning::Schema(schema)),
+        Statement::Mapping(source, target, mapping) => {
+            checked_mapping(alloc, place, source, target, mapping, depth)
+        }
+        Statement::Identity(name, schema) => Ok(identity(alloc, name, schema)?),
         Statement::Presentation(name, schema, presentation) => {
             model_of(alloc, place, name, schema, presentation, depth)
         }
     }
+}
+
+/// A mapping, each of whose duties is derived up to a depth.
+fn checked_mapping(
+    alloc: Global,
+    place: Place,
+    source: Name,
+    target: Name,
+    mapping: Mapping,
+    depth: u32,
+) -> Result<Meaning, ProgramRefusal>
+    requires depth { depth ≤ 64 }
+    ensures stands { IfOk result (λ meaning. Stands (a_mapping source target mapping) (meant meaning)) }
+    ensures withholds { IfErr result (Withholds depth place (a_mapping source target mapping)) }
+{
+    match check_mapping(alloc, &mapping, depth) {
+        Ok(()) => Ok(shared_mapping(alloc, source, target, mapping)?),
+        Err(CheckRefusal::NotPreserved(duty)) => {
+            Err(ProgramRefusal::Broken(place, Reason::NotPreserved(duty)))
+        }
+        Err(CheckRefusal::Depth(duty)) => {
+            Err(ProgramRefusal::Broken(place, Reason::DutyDepth(duty)))
+        }
+        Err(CheckRefusal::TooManyRows(duty)) => {
+            Err(ProgramRefusal::Broken(place, Reason::DutyRows(duty)))
+        }
+        Err(CheckRefusal::Memory) => Err(ProgramRefusal::Memory),
+    }
+}
+
+/// The identity of a schema.
+fn identity(alloc: Global, name: Name, schema: Rc<Schema>) -> Result<Meaning, AllocError>
+    ensures { IfOk result (λ meaning. Stands (an_identity name schema.value) (meant meaning)) }
+{
+    let copy = name.clone()?;
+    let mapping = Mapping::identity(alloc, schema)?;
+    shared_mapping(alloc, copy, name, mapping)
 }
 
 /// The listed model of a presentation, made of rows up to a depth.
@@ -116,11 +160,16 @@ fn shared_typeside(alloc: Global, typeside: Typeside) -> Result<Rc<Typeside>, Al
     Ok(shared)
 }
 
-fn shared_schema(alloc: Global, schema: Schema) -> Result<Rc<Schema>, AllocError>
-    ensures { IfOk result (λ shared. shared.value ≡ schema) }
+fn shared_mapping(
+    alloc: Global,
+    source: Name,
+    target: Name,
+    made: Mapping,
+) -> Result<Meaning, AllocError>
+    ensures { IfOk result (λ meaning. meant meaning ≡ mapping source target made) }
 {
-    let shared = Rc::new(alloc, schema)?;
-    Ok(shared)
+    let shared = Rc::new(alloc, made)?;
+    Ok(Meaning::Mapping(source, target, shared))
 }
 
 fn shared_instance(alloc: Global, name: Name, model: Instance) -> Result<Meaning, AllocError>

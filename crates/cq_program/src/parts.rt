@@ -1,14 +1,17 @@
 //! The parts that literals give. A name in a group is a part of its own.
 ghost use Rattle.std.specs.Prelude.{◌≡◌, ◌++◌, IfOk, OnOk, map};
 ghost use Rattle.std.specs.List.{flat_map};
-ghost use Rattle.cq_program.specs.Parts.{names_of, group_parts, function_parts, edge_parts, path_eq_part, observation_part, equation_part, typeside_parts, schema_parts, instance_parts};
+ghost use Rattle.cq_program.specs.Parts.{names_of, group_parts, function_parts, edge_parts, path_eq_part, observation_part, equation_part, attribute_image, key_part, attribute_part, arrow_parts, typeside_parts, schema_parts, instance_parts, mapping_parts};
 
 use crate::raw::copy_raw;
 use cq_base::{Name, Raw, Seq};
 use cq_syntax::{
-    EdgeSyn, EqSyn, FunSyn, GroupSyn, InstanceLit, ObsSyn, PathEqSyn, SchemaLit, Spot, TypesideLit,
+    AttImage, AttSyn, EdgeSyn, EqSyn, FunSyn, GroupSyn, InstanceLit, KeyImage, MapBlock,
+    MappingLit, ObsSyn, PathEqSyn, SchemaLit, Spot, TypesideLit,
 };
-use cq_theory::{ObsPart, PresentationParts, SchemaParts, TypesideParts};
+use cq_theory::{
+    ArrowImage, ArrowPart, MappingParts, ObsPart, PresentationParts, SchemaParts, TypesideParts,
+};
 use std::alloc::{AllocError, Global};
 
 /// The parts of a typeside.
@@ -56,6 +59,108 @@ pub fn instance_parts(alloc: Global, literal: &InstanceLit) -> Result<Presentati
         generators,
         equations,
     })
+}
+
+/// The parts of a mapping.
+#[tactic(auto, unfolding(crate::specs::Parts::mapping_parts))]
+pub fn mapping_parts(alloc: Global, literal: &MappingLit) -> Result<MappingParts, AllocError>
+    ensures { IfOk result (λ parts. parts ≡ mapping_parts literal.now) }
+{
+    let entities = block_images(alloc, literal.blocks.as_slice())?;
+    let arrows = arrows_in(alloc, literal.blocks.as_slice())?;
+    Ok(MappingParts { entities, arrows })
+}
+
+fn block_images(alloc: Global, blocks: &[MapBlock]) -> Result<Seq<(Name, Name)>, AllocError>
+    ensures { IfOk result (λ parts. parts ≡ map (λ b. (b.entity, b.image)) blocks.now) }
+{
+    let mut parts = Vec::new(alloc);
+    for block in blocks {
+        parts.push((block.entity.clone()?, block.image.clone()?))?;
+    }
+    Ok(Seq::from_vec(parts))
+}
+
+fn arrows_in(alloc: Global, blocks: &[MapBlock]) -> Result<Seq<ArrowPart>, AllocError>
+    ensures { IfOk result (λ parts. parts ≡ flat_map arrow_parts blocks.now) }
+{
+    let mut parts = Vec::new(alloc);
+    for block in blocks {
+        push_arrows(alloc, &mut parts, block)?;
+    }
+    Ok(Seq::from_vec(parts))
+}
+
+fn push_arrows(
+    alloc: Global,
+    parts: &mut Vec<ArrowPart>,
+    block: &MapBlock,
+) -> Result<(), AllocError>
+    ensures { OnOk result (parts.new.items ≡ parts.old.items ++ arrow_parts block.now) }
+{
+    push_key_images(alloc, parts, &block.entity, block.keys.as_slice())?;
+    push_attribute_images(alloc, parts, &block.entity, block.attributes.as_slice())?;
+    Ok(())
+}
+
+fn push_key_images(
+    alloc: Global,
+    parts: &mut Vec<ArrowPart>,
+    block: &Name,
+    images: &[KeyImage],
+) -> Result<(), AllocError>
+    ensures { OnOk result (parts.new.items ≡ parts.old.items ++ map (key_part block.now) images.now) }
+{
+    for image in images {
+        let names = copy_names(alloc, image.image.names.as_slice())?;
+        parts.push(ArrowPart {
+            block: block.clone()?,
+            name: image.name.clone()?,
+            image: ArrowImage::Key(names),
+        })?;
+    }
+    Ok(())
+}
+
+fn push_attribute_images(
+    alloc: Global,
+    parts: &mut Vec<ArrowPart>,
+    block: &Name,
+    images: &[AttImage],
+) -> Result<(), AllocError>
+    ensures { OnOk result (parts.new.items ≡ parts.old.items ++ map (attribute_part block.now) images.now) }
+{
+    for image in images {
+        let sent = attribute_image(alloc, &image.image)?;
+        parts.push(ArrowPart {
+            block: block.clone()?,
+            name: image.name.clone()?,
+            image: sent,
+        })?;
+    }
+    Ok(())
+}
+
+fn attribute_image(alloc: Global, image: &AttSyn) -> Result<ArrowImage, AllocError>
+    ensures { IfOk result (λ sent. sent ≡ attribute_image image.now) }
+{
+    match image {
+        AttSyn::Path(path) => Ok(ArrowImage::Path(copy_names(alloc, path.names.as_slice())?)),
+        AttSyn::Lambda(variable, entity, term) => {
+            let entity = copy_optional(entity)?;
+            let raw = copy_raw(alloc, &term.raw)?;
+            Ok(ArrowImage::Lambda(variable.clone()?, entity, raw))
+        }
+    }
+}
+
+fn copy_optional(name: &Option<Name>) -> Result<Option<Name>, AllocError>
+    ensures { IfOk result (λ copy. copy ≡ name.now) }
+{
+    match name {
+        Some(name) => Ok(Some(name.clone()?)),
+        None => Ok(None),
+    }
 }
 
 fn names_in(alloc: Global, spots: &[Spot]) -> Result<Seq<Name>, AllocError>
@@ -171,13 +276,9 @@ fn observations_in(alloc: Global, equations: &[ObsSyn]) -> Result<Seq<ObsPart>, 
 fn observation_in(alloc: Global, equation: &ObsSyn) -> Result<ObsPart, AllocError>
     ensures { IfOk result (λ part. part ≡ observation_part equation.now) }
 {
-    let entity = match &equation.entity {
-        Some(entity) => Some(entity.clone()?),
-        None => None,
-    };
     Ok(ObsPart {
         variable: equation.variable.clone()?,
-        entity,
+        entity: copy_optional(&equation.entity)?,
         left: copy_raw(alloc, &equation.left.raw)?,
         right: copy_raw(alloc, &equation.right.raw)?,
     })

@@ -1,11 +1,12 @@
 //! The places of the parts of a literal, in the order in which the parts are numbered.
 ghost use Rattle.std.specs.Prelude.{◌≡◌, ◌++◌, IfOk, OnOk, map};
 ghost use Rattle.std.specs.List.{flat_map};
-ghost use Rattle.cq_program.specs.Parts.{places_of, group_places, function_places, edge_places, path_eq_place, equation_place, typeside_places, schema_places, instance_places};
+ghost use Rattle.cq_program.specs.Parts.{places_of, group_places, function_places, edge_places, path_eq_place, equation_place, arrow_places, typeside_places, schema_places, instance_places, mapping_places};
 
 use cq_base::Place;
 use cq_syntax::{
-    EdgeSyn, EqSyn, FunSyn, GroupSyn, InstanceLit, ObsSyn, PathEqSyn, SchemaLit, Spot, TypesideLit,
+    AttImage, EdgeSyn, EqSyn, FunSyn, GroupSyn, InstanceLit, KeyImage, MapBlock, MappingLit,
+    ObsSyn, PathEqSyn, SchemaLit, Spot, TypesideLit,
 };
 use std::alloc::{AllocError, Global};
 
@@ -43,6 +44,17 @@ pub fn instance_places(alloc: Global, literal: &InstanceLit) -> Result<Vec<Place
     let mut places = Vec::new(alloc);
     push_groups(&mut places, literal.generators.as_slice())?;
     push_equations(&mut places, literal.equations.as_slice())?;
+    Ok(places)
+}
+
+/// The places of the parts of a mapping.
+#[tactic(auto, unfolding(crate::specs::Parts::mapping_places))]
+pub fn mapping_places(alloc: Global, literal: &MappingLit) -> Result<Vec<Place>, AllocError>
+    ensures { IfOk result (λ places. places.items ≡ mapping_places literal.now) }
+{
+    let mut places = Vec::new(alloc);
+    push_blocks(&mut places, literal.blocks.as_slice())?;
+    push_arrows(&mut places, literal.blocks.as_slice())?;
     Ok(places)
 }
 
@@ -105,6 +117,50 @@ fn push_equations(places: &mut Vec<Place>, equations: &[EqSyn]) -> Result<(), Al
 {
     for equation in equations {
         places.push(equation.left.place)?;
+    }
+    Ok(())
+}
+
+fn push_blocks(places: &mut Vec<Place>, blocks: &[MapBlock]) -> Result<(), AllocError>
+    ensures { OnOk result (places.new.items ≡ places.old.items ++ map (λ b. b.place) blocks.now) }
+{
+    for block in blocks {
+        places.push(block.place)?;
+    }
+    Ok(())
+}
+
+fn push_arrows(places: &mut Vec<Place>, blocks: &[MapBlock]) -> Result<(), AllocError>
+    ensures { OnOk result (places.new.items ≡ places.old.items ++ flat_map arrow_places blocks.now) }
+{
+    for block in blocks {
+        push_block_arrows(places, block)?;
+    }
+    Ok(())
+}
+
+fn push_block_arrows(places: &mut Vec<Place>, block: &MapBlock) -> Result<(), AllocError>
+    ensures { OnOk result (places.new.items ≡ places.old.items ++ arrow_places block.now) }
+{
+    push_key_images(places, block.keys.as_slice())?;
+    push_attribute_images(places, block.attributes.as_slice())?;
+    Ok(())
+}
+
+fn push_key_images(places: &mut Vec<Place>, images: &[KeyImage]) -> Result<(), AllocError>
+    ensures { OnOk result (places.new.items ≡ places.old.items ++ map (λ k. k.place) images.now) }
+{
+    for image in images {
+        places.push(image.place)?;
+    }
+    Ok(())
+}
+
+fn push_attribute_images(places: &mut Vec<Place>, images: &[AttImage]) -> Result<(), AllocError>
+    ensures { OnOk result (places.new.items ≡ places.old.items ++ map (λ a. a.place) images.now) }
+{
+    for image in images {
+        places.push(image.place)?;
     }
     Ok(())
 }

@@ -2,34 +2,43 @@
 ghost use Rattle.std.specs.Prelude.{◌≡◌, ◌<◌, ◌^◌, IfOk, length};
 ghost use Rattle.cq_theory.specs.Presentation.{IsPresentation};
 ghost use Rattle.cq_program.specs.Program.{part_count};
-ghost use Rattle.cq_program.specs.Parts.{typeside_count, schema_count, instance_count};
-ghost use Rattle.cq_program.specs.Checks.{body_posed, instance_posed, is_built, part_breach, place_of, posed_by, presentation_given, schema_given, schema_posed, typeside_given, typeside_posed};
-ghost use Rattle.cq_program.specs.Environment.{Answers, Tells, environment_of};
-ghost use Rattle.cq_program.specs.Posing.{IsPosed, posed_as};
+ghost use Rattle.cq_program.specs.Parts.{typeside_count, schema_count, mapping_count, instance_count};
+ghost use Rattle.cq_program.specs.Checks.{arrow_breach, body_posed, identity_posed, instance_posed, is_built, mapping_given, mapping_posed, part_breach, place_of, posed_by, presentation_given, schema_given, schema_posed, typeside_given, typeside_posed};
+ghost use Rattle.cq_program.specs.Environment.{Answers, AreSettled, Tells, environment_of};
+ghost use Rattle.cq_program.specs.Posing.{IsGrounded, IsPosed, posed_as};
 
-use crate::environment::Environment;
-use crate::parts::{instance_parts, schema_parts, typeside_parts};
-use crate::places::{instance_places, schema_places, typeside_places};
+use crate::environment::{Environment, NamedSchema};
+use crate::parts::{instance_parts, mapping_parts, schema_parts, typeside_parts};
+use crate::places::{instance_places, mapping_places, schema_places, typeside_places};
 use crate::reason::{ProgramRefusal, Reason};
 use cq_base::{Name, Place};
-use cq_syntax::{Body, Decl, InstanceExp, InstanceLit, SchemaExp, SchemaLit, TypesideLit};
-use cq_theory::{Presentation, Schema, TheoryRefusal, Typeside};
-use std::alloc::Global;
+use cq_mapping::Mapping;
+use cq_syntax::{
+    Body, Decl, InstanceExp, InstanceLit, MappingExp, MappingLit, SchemaExp, SchemaLit, Spot,
+    TypesideLit,
+};
+use cq_theory::{ArrowRefusal, Presentation, Schema, TheoryRefusal, Typeside};
+use std::alloc::{AllocError, Global};
 use std::rc::Rc;
 
-/// What a declaration poses: a theory, or a presentation over the schema of a printed name, whose model is to be made.
+/// What a declaration poses: a theory; a mapping between schemas of printed names, whose duties are to be derived; the
+/// identity of the schema of a printed name; or a presentation over such a schema, whose model is to be made.
 #[derive(Drop)]
 pub(crate) enum Statement {
     Typeside(Typeside),
-    Schema(Name, Schema),
+    Schema(NamedSchema),
+    Mapping(Name, Name, Mapping),
+    Identity(Name, Rc<Schema>),
     Presentation(Name, Rc<Schema>, Presentation),
 }
 
 /// What a declaration poses, or the first rule of names and parts that it breaks.
 pub fn pose(alloc: Global, env: &Environment, decl: &Decl) -> Result<Statement, ProgramRefusal>
-    requires { part_count decl.now.body < 2 ^ 32 }
+    requires few { part_count decl.now.body < 2 ^ 32 }
+    requires settled { AreSettled (environment_of env.now.entries.items) }
     ensures posed { Answers posed_as result (posed_by (environment_of env.now.entries.items) decl.now) }
     ensures well_sorted { IfOk result IsPosed }
+    ensures grounded { IfOk result (λ statement. IsGrounded (environment_of env.now.entries.items) (posed_as statement)) }
 {
     if !is_built(&decl.body) {
         return Err(ProgramRefusal::Broken(decl.place, Reason::NotBuilt));
@@ -50,7 +59,9 @@ fn is_built(body: &Body) -> bool
         Body::Schema(SchemaExp::GetSchema(_)) => false,
         Body::Instance(expression) => matches!(expression, InstanceExp::Literal(_)),
         Body::Colimit(_) => false,
-        Body::Mapping(_) => false,
+        Body::Mapping(MappingExp::Literal(_)) => true,
+        Body::Mapping(MappingExp::Identity(_)) => true,
+        Body::Mapping(MappingExp::GetMapping(_, _)) => false,
         Body::Query(_) => false,
         Body::Transform(_) => false,
     }
@@ -63,13 +74,17 @@ fn pose_body(
     name: &Name,
     body: &Body,
 ) -> Result<Statement, ProgramRefusal>
-    requires { part_count body.now < 2 ^ 32 }
+    requires few { part_count body.now < 2 ^ 32 }
+    requires settled { AreSettled (environment_of env.now.entries.items) }
     ensures posed { Answers posed_as result (body_posed (environment_of env.now.entries.items) place name.now body.now) }
     ensures well_sorted { IfOk result IsPosed }
+    ensures grounded { IfOk result (λ statement. IsGrounded (environment_of env.now.entries.items) (posed_as statement)) }
 {
     match body {
         Body::Typeside(literal) => pose_typeside(alloc, place, literal),
         Body::Schema(SchemaExp::Literal(literal)) => pose_schema(alloc, env, place, name, literal),
+        Body::Mapping(MappingExp::Literal(literal)) => pose_mapping(alloc, env, place, literal),
+        Body::Mapping(MappingExp::Identity(used)) => pose_identity(env, used),
         Body::Instance(InstanceExp::Literal(literal)) => pose_instance(alloc, env, place, literal),
         _ => Err(ProgramRefusal::Broken(place, Reason::NotBuilt)),
     }
@@ -100,10 +115,53 @@ fn pose_schema(
     requires { schema_count literal.now < 2 ^ 32 }
     ensures posed { Answers posed_as result (schema_posed (environment_of env.now.entries.items) place name.now literal.now) }
     ensures well_sorted { IfOk result IsPosed }
+    ensures grounded { IfOk result (λ statement. IsGrounded (environment_of env.now.entries.items) (posed_as statement)) }
 {
     let typeside = env.typeside(&literal.typeside)?;
     let schema = schema_in(alloc, place, typeside, literal)?;
-    Ok(Statement::Schema(name.clone()?, schema))
+    Ok(Statement::Schema(NamedSchema {
+        name: name.clone()?,
+        typeside: literal.typeside.name.clone()?,
+        schema: shared_schema(alloc, schema)?,
+    }))
+}
+
+fn shared_schema(alloc: Global, schema: Schema) -> Result<Rc<Schema>, AllocError>
+    ensures { IfOk result (λ shared. shared.value ≡ schema) }
+{
+    let shared = Rc::new(alloc, schema)?;
+    Ok(shared)
+}
+
+fn pose_mapping(
+    alloc: Global,
+    env: &Environment,
+    place: Place,
+    literal: &MappingLit,
+) -> Result<Statement, ProgramRefusal>
+    requires few { mapping_count literal.now < 2 ^ 32 }
+    requires settled { AreSettled (environment_of env.now.entries.items) }
+    ensures posed { Answers posed_as result (mapping_posed (environment_of env.now.entries.items) place literal.now) }
+    ensures well_sorted { IfOk result IsPosed }
+    ensures grounded { IfOk result (λ statement. IsGrounded (environment_of env.now.entries.items) (posed_as statement)) }
+{
+    let source = env.schema(&literal.source)?;
+    let target = env.schema(&literal.target)?;
+    if source.typeside != target.typeside {
+        return Err(ProgramRefusal::Broken(literal.target.place, Reason::WrongSchema));
+    }
+    let mapping = mapping_in(alloc, place, source.schema, target.schema, literal)?;
+    Ok(Statement::Mapping(source.name, target.name, mapping))
+}
+
+fn pose_identity(env: &Environment, used: &Spot) -> Result<Statement, ProgramRefusal>
+    ensures posed { Answers posed_as result (identity_posed (environment_of env.now.entries.items) used.now) }
+    ensures well_sorted { IfOk result IsPosed }
+    ensures grounded { IfOk result (λ statement. IsGrounded (environment_of env.now.entries.items) (posed_as statement)) }
+{
+    let over = env.schema(used)?;
+    over.schema.is_well_sorted();
+    Ok(Statement::Identity(over.name, over.schema))
 }
 
 fn pose_instance(
@@ -116,9 +174,9 @@ fn pose_instance(
     ensures posed { Answers posed_as result (instance_posed (environment_of env.now.entries.items) place literal.now) }
     ensures well_sorted { IfOk result IsPosed }
 {
-    let (name, schema) = env.schema(&literal.schema)?;
-    let presentation = presentation_in(alloc, place, &schema, literal)?;
-    Ok(Statement::Presentation(name, schema, presentation))
+    let over = env.schema(&literal.schema)?;
+    let presentation = presentation_in(alloc, place, &over.schema, literal)?;
+    Ok(Statement::Presentation(over.name, over.schema, presentation))
 }
 
 /// The typeside of a literal, or the first part that breaks a rule.
@@ -148,7 +206,8 @@ fn schema_in(
     literal: &SchemaLit,
 ) -> Result<Schema, ProgramRefusal>
     requires { schema_count literal.now < 2 ^ 32 }
-    ensures { Answers (λ schema. schema) result (schema_given place typeside.value literal.now) }
+    ensures given { Answers (λ schema. schema) result (schema_given place typeside.value literal.now) }
+    ensures over { IfOk result (λ schema. schema.typeside ≡ typeside.value) }
 {
     let parts = schema_parts(alloc, literal)?;
     match Schema::new(alloc, typeside, parts) {
@@ -156,6 +215,28 @@ fn schema_in(
         Err(refusal) => {
             let places = schema_places(alloc, literal)?;
             Err(part_refusal(place, places.as_slice(), refusal))
+        }
+    }
+}
+
+/// The mapping of a literal between schemas of one typeside, or the first part that breaks a rule or is missing.
+fn mapping_in(
+    alloc: Global,
+    place: Place,
+    source: Rc<Schema>,
+    target: Rc<Schema>,
+    literal: &MappingLit,
+) -> Result<Mapping, ProgramRefusal>
+    requires typeside { source.value.typeside ≡ target.value.typeside }
+    requires few { mapping_count literal.now < 2 ^ 32 }
+    ensures { Answers (λ mapping. mapping) result (mapping_given place source.value target.value literal.now) }
+{
+    let parts = mapping_parts(alloc, literal)?;
+    match Mapping::new(alloc, source, target, parts) {
+        Ok(mapping) => Ok(mapping),
+        Err(refusal) => {
+            let places = mapping_places(alloc, literal)?;
+            Err(arrow_refusal(place, places.as_slice(), refusal))
         }
     }
 }
@@ -211,6 +292,40 @@ fn part_refusal(place: Place, places: &[Place], refusal: TheoryRefusal) -> Progr
             Reason::TooLarge,
         ),
         TheoryRefusal::Memory => ProgramRefusal::Memory,
+    }
+}
+
+/// The rule that a part of a mapping breaks, at the part's place, or the missing part, at the declaration's place.
+fn arrow_refusal(place: Place, places: &[Place], refusal: ArrowRefusal) -> ProgramRefusal
+    ensures { Tells result (arrow_breach place places.now refusal) }
+{
+    match refusal {
+        ArrowRefusal::Duplicate(part) => ProgramRefusal::Broken(
+            place_of(place, places, part),
+            Reason::Duplicate,
+        ),
+        ArrowRefusal::Unknown(part) => ProgramRefusal::Broken(
+            place_of(place, places, part),
+            Reason::Unknown,
+        ),
+        ArrowRefusal::WrongCount(part) => ProgramRefusal::Broken(
+            place_of(place, places, part),
+            Reason::WrongCount,
+        ),
+        ArrowRefusal::WrongSort(part) => ProgramRefusal::Broken(
+            place_of(place, places, part),
+            Reason::WrongSort,
+        ),
+        ArrowRefusal::Reserved(part) => ProgramRefusal::Broken(
+            place_of(place, places, part),
+            Reason::Reserved,
+        ),
+        ArrowRefusal::TooLarge(part) => ProgramRefusal::Broken(
+            place_of(place, places, part),
+            Reason::TooLarge,
+        ),
+        ArrowRefusal::Missing(name) => ProgramRefusal::Broken(place, Reason::Missing(name)),
+        ArrowRefusal::Memory => ProgramRefusal::Memory,
     }
 }
 

@@ -14,5 +14,6 @@ returns-in_err-env-clause-breaks c =
 pub loop-decl-preserved : goal.loop-decl-preserved
 loop-decl-preserved c =
     let inside : c.loop-decl.decl-index < length c.as_slice-decl-items.result.now = omega arith in
-    follows_more c.as_slice-decl-items.result.now c.loop-decl.decl-index c.decl-item.result c.loop-decl.env.entries.items c.in_ok-env.env.entries.items
-    inside c.decl-item.is c.loop-decl.invariant.0 c.loop-decl.invariant.1 c.in_ok-env.ensures.declares
+    let more = follows_more c.as_slice-decl-items.result.now c.loop-decl.decl-index c.decl-item.result c.loop-decl.env.entries.items c.in_ok-env.env.entries.items
+    inside c.decl-item.is c.loop-decl.invariant.0 c.loop-decl.invariant.1 c.in_ok-env.ensures.declares in
+    (more.0, more.1, c.in_ok-env.ensures.settled)

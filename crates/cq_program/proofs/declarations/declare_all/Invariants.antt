@@ -1,8 +1,8 @@
 use Rattle.std.proofs.Common.{◌≡◌, [], length, take}
-use Rattle.cq_program.specs.Environment.{environment_of}
+use Rattle.cq_program.specs.Environment.{AreSettled, environment_of}
 use Rattle.cq_program.specs.Program.{Follow}
 use Rattle.cq_program.proofs.declarations.declare_all.Given as goal
 
--- the declarations so far meet their rules, each with an entry
+-- the declarations so far meet their rules, each with an entry, and what their names stand for is settled
 abbrev pub invariant-loop-decl : goal.invariant-loop-decl
-invariant-loop-decl l = (Follow [] (take l.decl-index l.decl-items) (environment_of l.env.entries.items)) × (length l.env.entries.items ≡ l.decl-index)
+invariant-loop-decl l = (Follow [] (take l.decl-index l.decl-items) (environment_of l.env.entries.items)) × (length l.env.entries.items ≡ l.decl-index) × AreSettled (environment_of l.env.entries.items)

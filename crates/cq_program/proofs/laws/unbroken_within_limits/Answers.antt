@@ -1,0 +1,5 @@
+use Rattle.cq_program.proofs.Outlines.{unbroken_within_limits}
+use Rattle.cq_program.proofs.laws.unbroken_within_limits.Goals as goal
+
+pub returns : goal.returns
+returns c = unbroken_within_limits
