@@ -3,3 +3,4 @@ pub mod Examples
 pub mod Groups
 pub mod Numbers
 pub mod Typed
+pub mod FormedTables

@@ -1,4 +1,6 @@
 //! The pieces of a transcript, and the edges of each entity, on small data.
+mod given;
+
 use crate::edges::group_by_source;
 use crate::pieces::{push_heading, push_reference, push_term};
 use cq_base::{Name, Seq};
