@@ -1,32 +1,38 @@
 //! Names.
 ghost use Rattle.std.specs.Prelude.{◌≡◌, ◌<◌, ◌≤◌, ◌↔◌, IfOk, length, nat_eq, []};
 ghost use Rattle.std.specs.Hash as fed;
-ghost use Rattle.std.specs.Cmp.Lexicographic.{pointwise, nat_list_eq_equiv};
+ghost use Rattle.std.specs.Cmp.Lexicographic.{pointwise, nat_list_eq_equiv, slice_cmp, nat_list_cmp_total, texts_ties, texts_po};
+ghost use Rattle.std.specs.Ordering.{nat_cmp};
+ghost use Rattle.std.specs.Prelude.{Some};
+ghost use Rattle.std.proofs.Common.{refl};
 ghost use Rattle.std.specs.Cmp.{partial_equiv_from_equiv};
 ghost use Rattle.std.specs.Cmp.Rules.{hashing};
 ghost use Rattle.std.proofs.Common.{rules};
 
 use std::alloc::{AllocError, Global};
+use std::cmp::Ordering;
 use std::hash::{Hash, Hasher};
 use std::marker::Model;
+use std::rc::Rc;
 
 /// The most bytes of a name.
 pub const LONGEST: usize = 255;
 
-/// A text of at most 255 bytes. Contracts see it as its bytes.
+/// A text of at most 255 bytes of UTF-8, which copies share. Contracts see it as its bytes.
 #[derive(Drop)]
 pub struct Name {
-    text: String,
+    // None is the empty text, which takes no memory.
+    text: Option<Rc<String>>,
 }
 
 impl Model for Name {
-    ghost use Rattle.std.specs.Prelude.{ℕ, List, string_bytes, length, ◌≤◌};
+    ghost use Rattle.std.specs.Prelude.{ℕ, List, [], string_bytes, length, ◌≤◌, Some, None};
 
     ghost Value = { List ℕ };
 
-    ghost view = { λ name. string_bytes name.text };
+    ghost view = { λ name. elim name.text [ None ↦ [] | Some text ↦ string_bytes text.value ] };
 
-    ghost invariant = { λ name. length (string_bytes name.text) ≤ 255 };
+    ghost invariant = { λ name. length (elim name.text as (λ _. List ℕ) [ None ↦ [] | Some text ↦ string_bytes text.value ]) ≤ 255 };
 }
 
 /// Why a text could not be made a name.
@@ -57,16 +63,17 @@ impl Name {
             return Err(NameRefusal::Long);
         }
         let text = String::from_str(alloc, text)?;
-        Ok(Name { text })
+        match Rc::new(alloc, text) {
+            Ok(text) => Ok(Name { text: Some(text) }),
+            Err(_) => Err(NameRefusal::Memory),
+        }
     }
 
     /// The empty name, which takes no memory.
-    pub fn empty(alloc: Global) -> Name
+    pub fn empty() -> Name
         ensures { result ≡ [] }
     {
-        Name {
-            text: String::new(alloc),
-        }
+        Name { text: None }
     }
 
     /// The text of the name.
@@ -74,7 +81,10 @@ impl Name {
         ensures text { result.now ≡ self.now }
         ensures short { length self.now ≤ LONGEST }
     {
-        self.text.as_str()
+        match &self.text {
+            Some(text) => text.as_str(),
+            None => "",
+        }
     }
 }
 
@@ -82,9 +92,12 @@ impl Clone for Name {
     ghost is_clone = { λ name copy. copy ≡ name };
 
     fn clone(&self) -> Result<Name, AllocError> {
-        Ok(Name {
-            text: self.text.clone()?,
-        })
+        match &self.text {
+            Some(text) => Ok(Name {
+                text: Some(text.clone()?),
+            }),
+            None => Ok(Name::empty()),
+        }
     }
 }
 
@@ -109,5 +122,29 @@ impl Hash for Name {
 
     fn hash<H: Hasher>(&self, state: &mut H) {
         self.as_str().hash(state);
+    }
+}
+
+impl PartialOrd for Name {
+    ghost partial_cmp = { λ x y. Some (slice_cmp nat_cmp x y) };
+
+    ghost laws = { texts_po };
+
+    fn partial_cmp(&self, other: &Name) -> Option<Ordering> {
+        Some(self.cmp(other))
+    }
+}
+
+impl Ord for Name {
+    ghost cmp = { slice_cmp nat_cmp };
+
+    ghost total = { nat_list_cmp_total };
+
+    ghost matches_partial_cmp = { λ x y. refl };
+
+    ghost matches_eq = { λ x y. texts_ties x y };
+
+    fn cmp(&self, other: &Name) -> Ordering {
+        self.as_str().cmp(other.as_str())
     }
 }

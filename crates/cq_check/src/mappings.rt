@@ -42,7 +42,7 @@ fn target(mapping: &Mapping) -> &Schema
 fn over_one(alloc: Global, entity: u32) -> Result<Presentation, AllocError>
     ensures { IfOk result (λ made. made ≡ one_generator entity) }
 {
-    let generators = vec![in alloc; (Name::empty(alloc), Sort::Entity(entity))]?;
+    let generators = vec![in alloc; (Name::empty(), Sort::Entity(entity))]?;
     Ok(Presentation {
         generators: Seq::from_vec(generators),
         equations: Seq::from_vec(Vec::new(alloc)),
