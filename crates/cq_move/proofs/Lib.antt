@@ -1,2 +1,3 @@
 pub mod Normal
 pub mod Pulled
+pub mod Tests
