@@ -45,6 +45,9 @@ fn has_few_in_typeside(literal: &TypesideLit) -> bool
     let Some(room) = room_after(u32::MAX, literal.types.len()) else {
         return false;
     };
+    let Some(room) = room_after(room, literal.literals.iter().count()) else {
+        return false;
+    };
     let Some(room) = room_after_groups(room, literal.constants.as_slice()) else {
         return false;
     };
