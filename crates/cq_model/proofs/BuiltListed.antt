@@ -54,6 +54,7 @@ module _ (S : Schema) (P : Presentation) (m : Content) (rows : List ℕ) (schema
     record {
       initial = initial S P m rows schema presentation closed order names numbers places nodes equations types built flat closure consistent;
       names = names;
+      entities = built.numbered.names_entities;
       named = least_name S P m rows schema presentation closed order names numbers built.numbered places types flat;
       counted = counted;
       ordered = built.numbered.ordered;

@@ -30,3 +30,5 @@ pub mod Labels
 pub mod Every
 pub mod NodeLists
 pub mod OneModel
+pub mod Depths
+pub mod Finite

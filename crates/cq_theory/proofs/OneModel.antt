@@ -110,6 +110,10 @@ module _ (S : Schema) (P : Presentation) where
         (λ i j t u less at at'. m.ordered e i j t u less at at') (λ i j t u less at at'. n.ordered e i j t u less at at')
         (λ row t at. least_named N B n e t (name_least M A m e row t at)) (λ row t at. least_named M A m e t (name_least N B n e row t at))
 
+    -- so the lists of all names are equal too
+    pub same_lists_of_names : m.names ≡ n.names
+    same_lists_of_names = same_lists [] m.names n.names (m.entities ∙ sym n.entities) (λ e within. same_names e)
+
     same_count : (e : ℕ) → count_of M e ≡ count_of N e
     same_count e = sym (m.counted e) ∙ ap length (same_names e) ∙ n.counted e
 

@@ -11,6 +11,7 @@ pub mod Schema
 pub mod Derivation
 pub mod Tables
 pub mod Closing
+pub mod Finiteness
 pub mod Canonical
 pub mod Listed
 pub mod Homomorphism
