@@ -1,10 +1,11 @@
 //! Typesides: types, constants and functions.
-ghost use Rattle.std.specs.Prelude.{◌≡◌, ◌+◌, ◌<◌, ◌^◌, ◌⊎◌, length, slice_get, IfOk, IfErr, Some, None};
+ghost use Rattle.std.specs.Prelude.{◌≡◌, ◌+◌, ◌<◌, ◌^◌, ◌⊎◌, length, slice_get, option_map, IfOk, IfErr, Some, None};
 ghost use Rattle.cq_theory.specs.ValueText.{constant_name};
 ghost use Rattle.cq_theory.specs.TypesideParts.{typeside_fault, typeside_made, literals_count};
 ghost use Rattle.cq_base.specs.Names.{number_of};
-ghost use Rattle.cq_theory.specs.Typeside.{IsTypeside, constant_names, function_names};
+ghost use Rattle.cq_theory.specs.Typeside.{IsTypeside, constant_names, function_names, constant_type};
 
+use crate::constant::{Con, is_reserved};
 use crate::lookup::TheoryRefusal;
 use crate::lookup::typeside_parts::{add_constants, add_functions, add_types, find_open_type};
 use crate::parts::TypesideParts;
@@ -118,6 +119,32 @@ impl Typeside {
         ensures { result.now ≡ constant_name (slice_get self.now.constants constant) }
     {
         &self.constants.as_slice()[constant as usize].0
+    }
+
+    /// The type of a constant. A text has the open type, unless it is reserved or a declared constant has it.
+    pub fn type_of_constant(&self, constant: &Con) -> Option<u32>
+        ensures { result ≡ constant_type self.now constant.now }
+    {
+        match constant {
+            Con::Named(number) => self.type_of_declared(*number),
+            Con::Open(text) => {
+                if is_reserved(text) || self.constant_table.find(text).is_some() {
+                    None
+                } else {
+                    self.open_type
+                }
+            }
+        }
+    }
+
+    /// The type of a declared constant.
+    fn type_of_declared(&self, number: u32) -> Option<u32>
+        ensures { result ≡ option_map (λ constant. constant.1) (slice_get self.now.constants number) }
+    {
+        match self.constants.as_slice().get(number as usize) {
+            Some(constant) => Some(constant.1),
+            None => None,
+        }
     }
 
     /// The number of a function.

@@ -1,4 +1,4 @@
-use Rattle.std.proofs.Common.{◌∙◌}
+use Rattle.std.proofs.Common.{◌∙◌, ap, length, arith}
 use Rattle.cq_theory.proofs.MadeTypesides.{typeside_fault-refused, typeside_whole}
 use Rattle.cq_theory.proofs.typeside.Typeside.new.Goals as goal
 
@@ -17,3 +17,6 @@ returns-in-Err-clause-refused c =
     c.as_slice.ensures c.as_slice-2.ensures c.as_slice-3.ensures c.in_ok-type_table.ensures.ok.0 c.in_ok-type_table.ensures.ok.1 _ c.len.ensures
     c.in_ok-open_type.ensures.ok.0 c.in_ok-open_type.ensures.ok.2 c.in_ok-constant_table.ensures.accepted c.len-2.ensures
     c.in-Err.refusal c.in-Err.ensures.refused
+
+pub add_functions-requires : goal.add_functions-requires
+add_functions-requires c = omega (arith, c.requires, c.in_ok-open_type.ensures.ok.2, c.len.ensures, c.len-2.ensures, ap length c.as_slice-3.ensures)
