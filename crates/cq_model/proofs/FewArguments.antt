@@ -16,6 +16,7 @@ use Rattle.cq_theory.specs.declared.schema.ObsEq.{ObsEq}
 use Rattle.cq_theory.specs.SchemaData.{SchemaData as Schema}
 use Rattle.cq_theory.specs.declared.term.EntTerm.{EntTerm}
 use Rattle.cq_theory.specs.declared.term.TypeTerm.{TypeTerm}
+use Rattle.cq_theory.specs.declared.constant.Con.{Con}
 use Rattle.cq_theory.specs.declared.term.TypeTerm.TheVariants.{Gen, Const, Att, Fun}
 use Rattle.cq_theory.specs.declared.term.TypeTerm.TheOpen as layer
 use Rattle.cq_theory.specs.declared.term.TypeTerm.TheViews.{out-TypeTerm}
@@ -57,7 +58,7 @@ HasFewArguments t = (f : ℕ) (ts : List TypeTerm) → t ≡ Fun f ts → length
 no_gen : (n : ℕ) → HasFewArguments (Gen n)
 no_gen n f ts h = let layers : layer.Gen n ≡ layer.Fun f ts = sym (out-Gen n) ∙ ap out-TypeTerm h ∙ out-Fun f ts in cc
 
-no_const : (c : ℕ) → HasFewArguments (Const c)
+no_const : (c : Con) → HasFewArguments (Const c)
 no_const c f ts h = let layers : layer.Const c ≡ layer.Fun f ts = sym (out-Const c) ∙ ap out-TypeTerm h ∙ out-Fun f ts in cc
 
 no_att : (a : ℕ) (t : EntTerm) → HasFewArguments (Att a t)
@@ -81,7 +82,7 @@ subterms-Fun : (f : ℕ) (ts : List TypeTerm) → subterms (Fun f ts) ≡ flat_m
 subterms-Fun f ts = para-Fun (List TypeTerm) subterms_step f ts ∙ λ i. second_of_pairs ts i ++ Fun f (first_of_pairs ts i) ∷ []
 
 -- What g makes of a term of at most 1,024 symbols has subterms with few arguments, if g keeps applications.
-module _ (g : TypeTerm → TypeTerm) (on_gen : (n : ℕ) → g (Gen n) ≡ Gen n) (on_const : (c : ℕ) → g (Const c) ≡ Const c)
+module _ (g : TypeTerm → TypeTerm) (on_gen : (n : ℕ) → g (Gen n) ≡ Gen n) (on_const : (c : Con) → g (Const c) ≡ Const c)
     (on_att : (a : ℕ) (t : EntTerm) → (u : EntTerm) × (g (Att a t) ≡ Att a u)) (on_fun : (f : ℕ) (ts : List TypeTerm) → g (Fun f ts) ≡ Fun f (map g ts)) where
   abbrev AreFewBelow : TypeTerm → Type 0
   AreFewBelow t = symbols_of t ≤ 1024 → Every HasFewArguments (subterms (g t))

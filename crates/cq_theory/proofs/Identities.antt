@@ -2,10 +2,12 @@
 use Rattle.std.proofs.Common.{ℕ, zero, suc, true, List, [], ◌∷◌, Option, Some, ◌≡◌, ◌<◌, ◌+◌, map, length, get_or, refl, sym, ap, subst, ◌∙◌, arith}
 use Rattle.std.specs.Prelude.{slice_get, slice_index, slice_index_or, All}
 use Rattle.std.proofs.lemmas.Bool.{and_parts}
+use Rattle.std.proofs.lemmas.List.{length-map}
 use Rattle.std.proofs.lemmas.Option.{slice_get_within, slice_get-get_or}
 use Rattle.std.proofs.lemmas.List.Elements.{All-head, All-tail}
-use Rattle.std.proofs.lemmas.List.FromFn.{get_or-range_with_len, get_or-map-range_with_len, length-map-range_with_len}
+use Rattle.std.proofs.lemmas.List.FromFn.{get_or-range_with_len, get_or-map-range_with_len, length-map-range_with_len, length-range_with_len}
 use Rattle.cq_theory.specs.SchemaData.{SchemaData as Schema}
+use Rattle.cq_theory.specs.declared.constant.Con.TheVariants.{Named}
 use Rattle.cq_theory.specs.declared.value.Value.{Value}
 use Rattle.cq_theory.specs.declared.value.Value.TheVariants.{Const, Null}
 use Rattle.cq_theory.specs.declared.value.Entry.{Entry}
@@ -21,6 +23,17 @@ row_itself : (counts : List ℕ) (entity row : ℕ) → row < slice_index counts
 row_itself [] entity row h = absurd (omega arith)
 row_itself (count ∷ counts) zero row h = let here : 0 + row ≡ row = omega arith in get_or-range_with_len 0 count row 0 h ∙ here
 row_itself (count ∷ counts) (suc entity) row h = row_itself counts entity row h
+
+-- the list of an entity's rows is that below its count
+own_rows : (counts : List ℕ) (entity : ℕ) (images : List ℕ) → slice_get (map below counts) entity ≡ Some images → below (slice_index counts entity) ≡ images
+own_rows [] entity images h = cc
+own_rows (count ∷ counts) zero images h = cc
+own_rows (count ∷ counts) (suc entity) images h = own_rows counts entity images h
+
+all_below : (n : ℕ) → (length (below n) ≡ n) × All (λ row. row < n) (below n)
+all_below n =
+    let long : length (below n) ≡ n = length-range_with_len 0 n in
+    (long, λ k d within. let at : get_or (below n) k d ≡ 0 + k = get_or-range_with_len 0 n k d (omega (arith, long)) in omega (arith, at, long))
 
 plain_normal : (M : Tables) (v : Value) → IsPlain v → normal_of M v ≡ v
 plain_normal M (Const c) h = fold-Const Value (normal_step M) c
@@ -41,7 +54,7 @@ module _ (S : Schema) (M : Tables) (well : IsWellFormed S M) where
   type_in = value_type S M.algebra.nulls
 
   null_itself : (n : ℕ) → n < length M.algebra.nulls → image (Null n) ≡ Null n
-  null_itself n h = fold-Null Value (value_image_step S M M rows nulls) n ∙ get_or-map-range_with_len Null 0 (length M.algebra.nulls) n n (Const 0) h (omega arith)
+  null_itself n h = fold-Null Value (value_image_step S M M rows nulls) n ∙ get_or-map-range_with_len Null 0 (length M.algebra.nulls) n n (Const (Named 0)) h (omega arith)
 
   -- the image of a value that has a type is the value with its functions applied anew
   abbrev IsNormalized : Value → Type 0
@@ -90,7 +103,8 @@ module _ (S : Schema) (M : Tables) (well : IsWellFormed S M) where
 
   pub identity_is_homomorphism : IsHomomorphism S M M rows nulls
   identity_is_homomorphism = record {
-    in_range = λ entity row h. subst (λ r. r < count_of M entity) (sym (same_row entity row h)) h;
+    entities = length-map M.sheet.counts below ∙ well.entities;
+    each_row = λ entity images h. subst (λ (l : List ℕ). (length l ≡ count_of M entity) × All (λ row. row < count_of M entity) l) (own_rows M.sheet.counts entity images h) (all_below (count_of M entity));
     each_null = length-map-range_with_len Null 0 (length M.algebra.nulls);
     typed = λ n type h.
         let itself : image (Null n) ≡ Null n = null_itself n (slice_get_within M.algebra.nulls n type h) in (
@@ -103,7 +117,7 @@ module _ (S : Schema) (M : Tables) (well : IsWellFormed S M) where
         same_row edge.to (key_at M k row) next ∙ ap (key_at M k) (sym (same_row edge.from row within));
     cells = λ a edge h row within.
         let column = well.cell_columns a edge h in
-        let cell = column.1 row (Const 0) (subst (λ n. row < n) (sym column.0) within) in
+        let cell = column.1 row (Const (Named 0)) (subst (λ n. row < n) (sym column.0) within) in
         normalized (cell_at M a row) edge.to cell.0 ∙ cell.1 ∙ ap (cell_at M a) (sym (same_row edge.from row within));
     entries = entries_kept;
   }

@@ -1,5 +1,6 @@
 pub mod Derivations
 pub mod TypeTerms
+pub mod Constants
 pub mod Sound
 pub mod Closings
 pub mod Values
@@ -30,3 +31,5 @@ pub mod Labels
 pub mod Every
 pub mod NodeLists
 pub mod OneModel
+pub mod Depths
+pub mod Finite

@@ -1,3 +1,4 @@
+pub mod Constant
 pub mod TypesideData
 pub mod SchemaData
 pub mod EntTerm
@@ -11,6 +12,7 @@ pub mod Schema
 pub mod Derivation
 pub mod Tables
 pub mod Closing
+pub mod Finiteness
 pub mod Canonical
 pub mod Listed
 pub mod Homomorphism
