@@ -19,6 +19,7 @@ use Rattle.cq_theory.specs.declared.term.TypeTerm.{TypeTerm}
 use Rattle.cq_theory.specs.declared.term.TypeTerm.TheVariants as term
 use Rattle.cq_theory.specs.declared.term.Term.TheVariants.{Ent, Typ}
 use Rattle.cq_theory.specs.declared.value.Value.{Value}
+use Rattle.cq_theory.specs.declared.constant.Con.TheVariants.{Named}
 use Rattle.cq_theory.specs.declared.value.Value.TheVariants.{Const}
 use Rattle.cq_theory.specs.declared.value.Entry.{Entry}
 use Rattle.cq_theory.specs.Canonical.{below}
@@ -91,8 +92,8 @@ module _ (F : Mapping) (is : IsMapping F) (M : Tables) (well : IsWellFormed F.ta
   cell_is : (a row : ℕ) (edge : Edge) → slice_get S.attributes a ≡ Some edge → row < count_of M (entity_image F edge.from) → cell_at D a row ≡ value_of M (AtRow row ∷ []) (attribute_image F a)
   cell_is a row edge h inside =
       let here : 0 + row ≡ row = omega arith in
-      ap (λ (column : List Value). slice_index_or column row (Const 0)) (mapped_edge (cell_column F M) S.attributes a edge [] h)
-      ∙ get_or-map-range_with_len (λ r. value_of M (AtRow r ∷ []) (attribute_image F a)) 0 (count_of M (entity_image F edge.from)) row row (Const 0) inside here
+      ap (λ (column : List Value). slice_index_or column row (Const (Named 0))) (mapped_edge (cell_column F M) S.attributes a edge [] h)
+      ∙ get_or-map-range_with_len (λ r. value_of M (AtRow r ∷ []) (attribute_image F a)) 0 (count_of M (entity_image F edge.from)) row row (Const (Named 0)) inside here
 
   -- a path that is followed in the pulled-back tables is its image that is followed in the tables
   pub row_from-image : (path : List ℕ) (e target row : ℕ) → target_of S.keys path e ≡ Some target → row < count_of M (entity_image F e) → row_from D row path ≡ row_from M row (path_image F path)
