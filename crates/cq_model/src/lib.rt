@@ -16,12 +16,17 @@ pub mod nulls;
 pub mod numbers;
 pub mod places;
 pub mod reading;
+pub mod sizes;
+mod moving;
 mod standing;
+mod terms;
 pub mod transform;
-mod values;
+pub mod values;
 pub mod walk;
 
 pub use building::{BuildRefusal, build};
 pub use given::TablesRefusal;
 pub use instance::Instance;
+pub use moving::MoveRefusal;
+pub use standing::Standing;
 pub use transform::{Image, Transform};
