@@ -89,7 +89,7 @@ module _ (S : Schema) (P : Presentation) (m : Content) (rows : List ℕ) (schema
     presented = presentation;
     well_formed = well_formed S P m rows schema presentation closed order names numbers places nodes equations types built flat closure consistent;
     satisfies = (listed consistent).0.initial.holds.schema;
-    entries_fit = entries_few S P schema presentation (listed consistent).0.names M A (listed consistent).0;
+    entries_fit = entries_few S P schema presentation M A (listed consistent).0;
     entities = built.numbered.names_entities;
     counted = counted;
     assigned = (listed consistent).0.initial.holds.count;

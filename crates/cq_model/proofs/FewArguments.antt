@@ -1,8 +1,9 @@
 -- An entry of a listed model has at most 1,023 arguments, the most that a term of 1,024 symbols can have.
-use Rattle.std.proofs.Common.{ℕ, List, [], ◌∷◌, ◌++◌, Some, ◌≡◌, ◌≤◌, ◌+◌, ◌==◌, map, filter, length, sum, refl, sym, ap, subst, ◌∙◌, arith}
+use Rattle.std.proofs.Common.{ℕ, List, [], ◌∷◌, ◌++◌, Some, None, ◌≡◌, ◌≤◌, ◌+◌, ◌==◌, map, filter, length, sum, refl, sym, ap, subst, ◌∙◌, arith}
 use Rattle.std.specs.Prelude.{slice_get, All}
 use Rattle.std.specs.List.{flat_map, enumerate_from, filter_map}
 use Rattle.std.proofs.lemmas.List.{length-map}
+use Rattle.std.proofs.lemmas.List.Sums.{sum_by-cons}
 use Rattle.std.proofs.lemmas.Option.{same_Some}
 use Rattle.cq_base.specs.declared.name.Name.{Name}
 use Rattle.cq_theory.specs.declared.presentation.Presentation.{Presentation}
@@ -43,9 +44,12 @@ has_symbols = on_terms (λ t. 1 ≤ symbols_of t)
     (λ a t. omega (arith, fold-Att ℕ symbols_step a t))
     (λ f ts each. omega (arith, fold-Fun ℕ symbols_step f ts))
 
+sum_of : (t : TypeTerm) (ts : List TypeTerm) → sum (map symbols_of (t ∷ ts)) ≡ symbols_of t + sum (map symbols_of ts)
+sum_of t ts = sum_by-cons (λ n. n) (symbols_of t) (map symbols_of ts)
+
 few_args : (ts : List TypeTerm) → length ts ≤ sum (map symbols_of ts)
 few_args [] = omega arith
-few_args (t ∷ ts) = omega (arith, has_symbols t, few_args ts)
+few_args (t ∷ ts) = omega (arith, has_symbols t, few_args ts, sum_of t ts)
 
 -- an application has at most 1,023 arguments
 abbrev pub HasFewArguments : TypeTerm → Type 0
@@ -85,7 +89,7 @@ module _ (g : TypeTerm → TypeTerm) (on_gen : (n : ℕ) → g (Gen n) ≡ Gen n
 
   args_below : (ts : List TypeTerm) → sum (map symbols_of ts) ≤ 1023 → Each AreFewBelow ts → Every HasFewArguments (flat_map subterms (map g ts))
   args_below [] h each = tt
-  args_below (t ∷ ts) h each = Every-append HasFewArguments (subterms (g t)) (flat_map subterms (map g ts)) (each.0 (omega (arith, h))) (args_below ts (omega (arith, h)) each.1)
+  args_below (t ∷ ts) h each = Every-append HasFewArguments (subterms (g t)) (flat_map subterms (map g ts)) (each.0 (omega (arith, h, sum_of t ts))) (args_below ts (omega (arith, h, sum_of t ts)) each.1)
 
   few_below : (t : TypeTerm) → AreFewBelow t
   few_below = on_terms AreFewBelow
@@ -148,29 +152,29 @@ module _ (S : Schema) (P : Presentation) (schema : IsSchema S) (presentation : I
       (Every-flat_map HasFewArguments (equation_nodes S P names) P.equations few_in_equation))
       (Every-flat_map HasFewArguments (observation_nodes S P names) (below (length S.entities)) (λ n entity at. few_in_observations entity))
 
-  module _ (M : Tables) (A : Assignment) where
-    no_entry : (t : TypeTerm) (e : Entry) → node_entry S P M A t ≡ None → node_entry S P M A t ≡ Some e → length e.args ≤ 1023
-    no_entry t e none h = cc
+module _ (S : Schema) (P : Presentation) (schema : IsSchema S) (presentation : IsPresentation S P) (M : Tables) (A : Assignment) where
+  no_entry : (t : TypeTerm) (e : Entry) → node_entry S P M A t ≡ None → node_entry S P M A t ≡ Some e → length e.args ≤ 1023
+  no_entry t e none h = cc
 
-    function_entry : (f : ℕ) (ts : List TypeTerm) → node_entry S P M A (Fun f ts) ≡ Some (record { function = f; args = map (value_of M A) ts; value = value_of M A (Fun f ts) })
-    function_entry f ts = rw (out-Fun f ts, node_entry)
+  function_entry : (f : ℕ) (ts : List TypeTerm) → node_entry S P M A (Fun f ts) ≡ Some (record { function = f; args = map (value_of M A) ts; value = value_of M A (Fun f ts) })
+  function_entry f ts = rw (out-Fun f ts, node_entry)
 
-    -- the entry of a node has as many arguments as the node
-    entry_few : (t : TypeTerm) → HasFewArguments t → (e : Entry) → node_entry S P M A t ≡ Some e → length e.args ≤ 1023
-    entry_few = on_terms (λ t. HasFewArguments t → (e : Entry) → node_entry S P M A t ≡ Some e → length e.args ≤ 1023)
-        (λ n k e h. no_entry (Gen n) e (rw (out-Gen n, node_entry)) h)
-        (λ c k e h. no_entry (Const c) e (rw (out-Const c, node_entry)) h)
-        (λ a t k e h. no_entry (Att a t) e (rw (out-Att a t, node_entry)) h)
-        (λ f ts each k e h.
-        let made : Entry = record { function = f; args = map (value_of M A) ts; value = value_of M A (Fun f ts) } in
-        let same : made ≡ e = same_Some made e (sym (function_entry f ts) ∙ h) in
-        let size : length made.args ≡ length ts = length-map ts (value_of M A) in
-        let args : length made.args ≤ 1023 = omega (arith, size, k f ts refl) in
-        subst (λ (x : Entry). length x.args ≤ 1023) same args)
+  -- the entry of a node has as many arguments as the node
+  entry_few : (t : TypeTerm) → HasFewArguments t → (e : Entry) → node_entry S P M A t ≡ Some e → length e.args ≤ 1023
+  entry_few = on_terms (λ t. HasFewArguments t → (e : Entry) → node_entry S P M A t ≡ Some e → length e.args ≤ 1023)
+      (λ n k e h. no_entry (Gen n) e (rw (out-Gen n, node_entry)) h)
+      (λ c k e h. no_entry (Const c) e (rw (out-Const c, node_entry)) h)
+      (λ a t k e h. no_entry (Att a t) e (rw (out-Att a t, node_entry)) h)
+      (λ f ts each k e h.
+      let made : Entry = record { function = f; args = map (value_of M A) ts; value = value_of M A (Fun f ts) } in
+      let same : made ≡ e = same_Some made e (sym (function_entry f ts) ∙ h) in
+      let size : length made.args ≡ length ts = length-map ts (value_of M A) in
+      let args : length made.args ≤ 1023 = omega (arith, size, k f ts refl) in
+      subst (λ (x : Entry). length x.args ≤ 1023) same args)
 
-    pub entries_few : Lists S P M A → All (λ e. length e.args ≤ 1023) M.algebra.entries
-    entries_few lists = All_from (λ e. length e.args ≤ 1023) M.algebra.entries (λ n e at.
-        let there = subst (λ (l : List Entry). IsIn e l) (sym lists.entries) (record { place = n; is = at }) in
-        let kept = from_firsts (λ e. is_for e.function e.args) (filter_map (node_entry S P M A) (nodes S P lists.names)) e there in
-        let node = from_filter_map (node_entry S P M A) e (nodes S P lists.names) kept in
-        entry_few node.0 (Every-at HasFewArguments (nodes S P lists.names) node.1.place node.0 (few_in_nodes S P schema presentation lists.names) node.1.is) e node.2)
+  pub entries_few : Lists S P M A → All (λ e. length e.args ≤ 1023) M.algebra.entries
+  entries_few lists = All_from (λ e. length e.args ≤ 1023) M.algebra.entries (λ n e at.
+      let there = subst (λ (l : List Entry). IsIn e l) (sym lists.entries) (record { place = n; is = at }) in
+      let kept = from_firsts (λ e. is_for e.function e.args) (filter_map (node_entry S P M A) (nodes S P lists.names)) e there in
+      let node = from_filter_map (node_entry S P M A) e (nodes S P lists.names) kept in
+      entry_few node.0 (Every-at HasFewArguments (nodes S P lists.names) node.1.place node.0 (few_in_nodes S P schema presentation lists.names) node.1.is) e node.2)
