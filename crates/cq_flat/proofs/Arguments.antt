@@ -1,13 +1,15 @@
 -- Arguments are earlier nodes, and equal keys make nodes equal.
 use Rattle.std.proofs.Common.{◌≡◌, ℕ, ◌+◌, ◌<◌, ◌≤◌, List, [], ◌∷◌, length, Some, sym, ◌∙◌, ap, arith, map, inl, inr}
 use Rattle.std.proofs.lemmas.Bool.{cases_lt}
-use Rattle.std.proofs.lemmas.Option.{slice_get_within}
+use Rattle.std.proofs.lemmas.Option.{slice_get_within, same_Some}
 use Rattle.std.proofs.lemmas.List.Elements.{All-head, All-tail, All-weaker}
 use Rattle.std.specs.Prelude.{All, slice_get}
+use Rattle.cq_theory.specs.declared.constant.Con.{Con}
+use Rattle.cq_theory.specs.declared.constant.Con.TheVariants.{Named, Open}
 use Rattle.cq_flat.specs.declared.node.Node.{Node}
 use Rattle.cq_flat.specs.declared.node.Node.TheVariants.{Leaf, Const, Fun}
 use Rattle.cq_flat.specs.Nodes.{HasEarlierArguments, HasArgumentsBelow}
-use Rattle.cq_flat.specs.Keys.{key_of}
+use Rattle.cq_flat.specs.Keys.{key_of, con_key}
 use Rattle.cq_flat.specs.Partition.{Has}
 use Rattle.cq_flat.specs.Congruence.{Congruent, AllCongruent, symmetric, transitive, constants, functions, none, more}
 use Rattle.cq_flat.specs.Closing.{AreSound}
@@ -62,16 +64,27 @@ module _ (nodes : List Node) (early : HasEarlierArguments nodes) where
         (transitive (s x (All-head (λ z. z < length nodes) x xs p)) (rw h (symmetric (s' y (All-head (λ z. z < length nodes) y ys q)))))
         (equal_args xs ys (All-tail (λ z. z < length nodes) x xs p) (All-tail (λ z. z < length nodes) y ys q) t)
 
+    -- the keys of constants tell them apart, also from functions
+    con_key-one : (c d : Con) → con_key c ≡ con_key d → c ≡ d
+    con_key-one (Named m) (Named n) h = let same : m ≡ n = cc in ap Named same
+    con_key-one (Named m) (Open t) h = cc
+    con_key-one (Open s) (Named n) h = cc
+    con_key-one (Open s) (Open t) h = let same : s ≡ t = cc in ap Open same
+
+    no_function : (c : Con) (f : ℕ) (args : List ℕ) → con_key c ≡ 0 ∷ 1 ∷ f ∷ args → ⊥
+    no_function (Named n) f args h = cc
+    no_function (Open t) f args h = cc
+
     -- two nodes have one key, each under classes that are sound
     pub equal_keys : (a b : ℕ) (x y : Node) (key : List ℕ) → slice_get nodes a ≡ Some x → slice_get nodes b ≡ Some y → key_of class x ≡ Some key → key_of class' y ≡ Some key → Congruent nodes equations a b
     equal_keys a b Leaf y key ia ib e f = absurd (cc)
     equal_keys a b (Const c) Leaf key ia ib e f = absurd (cc)
     equal_keys a b (Const c) (Const d) key ia ib e f =
-        let h : c ≡ d = cc in
+        let h : c ≡ d = con_key-one c d (same_Some (con_key c) (con_key d) (e ∙ sym f)) in
         constants d (ia ∙ ap (λ z. Some (Const z)) h) ib
-    equal_keys a b (Const c) (Fun g ys) key ia ib e f = absurd (cc)
+    equal_keys a b (Const c) (Fun g ys) key ia ib e f = absurd (no_function c g (map class' ys) (same_Some (con_key c) (0 ∷ 1 ∷ g ∷ map class' ys) (e ∙ sym f)))
     equal_keys a b (Fun g xs) Leaf key ia ib e f = absurd (cc)
-    equal_keys a b (Fun g xs) (Const d) key ia ib e f = absurd (cc)
+    equal_keys a b (Fun g xs) (Const d) key ia ib e f = absurd (no_function d g (map class xs) (same_Some (con_key d) (0 ∷ 1 ∷ g ∷ map class xs) (f ∙ sym e)))
     equal_keys a b (Fun g xs) (Fun h ys) key ia ib e f =
         let i : g ≡ h = cc in
         let m : map class xs ≡ map class' ys = cc in

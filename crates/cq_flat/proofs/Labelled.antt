@@ -2,24 +2,25 @@
 use Rattle.std.proofs.Common.{◌≡◌, ◌≢◌, ℕ, ◌<◌, List, length, get_or, Option, Some, None, sym, ◌∙◌, ap, refl, arith, ◌⊎◌, inl, inr, ⊎_elim}
 use Rattle.std.proofs.lemmas.Option.{slice_get_within, get_or_from_slice_get}
 use Rattle.std.specs.Prelude.{slice_get}
+use Rattle.cq_theory.specs.declared.constant.Con.{Con}
 use Rattle.cq_theory.specs.declared.value.Value.{Value}
 use Rattle.cq_theory.specs.declared.value.Value.TheVariants.{Const, Null}
 use Rattle.cq_theory.specs.Tables.{IsPlain}
 use Rattle.cq_flat.specs.Labels.{AreApart, AreClassValues, AreLabelled}
 use Rattle.cq_flat.specs.Values.{AreLabels}
 
-module _ (classes : List ℕ) (least : List (Option ℕ)) (n : ℕ) (labels : List (Option ℕ)) (nulls : List ℕ) (values : List Value) (s : AreLabelled classes least n labels nulls values) where
+module _ (classes : List ℕ) (least : List (Option Con)) (n : ℕ) (labels : List (Option ℕ)) (nulls : List ℕ) (values : List Value) (s : AreLabelled classes least n labels nulls values) where
   class : ℕ → ℕ
   class a = get_or classes a 0
 
-  least_at : ℕ → Option ℕ
+  least_at : ℕ → Option Con
   least_at a = get_or least (get_or classes a 0) None
 
   -- a constant, or a null with the label of its class
-  cases : (a : ℕ) → a < n → ((c : ℕ) × (get_or least (get_or classes a 0) None ≡ Some c) × (slice_get values a ≡ Some (Const c)))
+  cases : (a : ℕ) → a < n → ((c : Con) × (get_or least (get_or classes a 0) None ≡ Some c) × (slice_get values a ≡ Some (Const c)))
       ⊎ ((l : ℕ) × (get_or labels (get_or classes a 0) None ≡ Some l) × (slice_get values a ≡ Some (Null l)) × (get_or least (get_or classes a 0) None ≡ None))
   cases a h = by (get_or least (get_or classes a 0) None) refl where
-    by : (o : Option ℕ) → get_or least (get_or classes a 0) None ≡ o → ((c : ℕ) × (get_or least (get_or classes a 0) None ≡ Some c) × (slice_get values a ≡ Some (Const c)))
+    by : (o : Option Con) → get_or least (get_or classes a 0) None ≡ o → ((c : Con) × (get_or least (get_or classes a 0) None ≡ Some c) × (slice_get values a ≡ Some (Const c)))
         ⊎ ((l : ℕ) × (get_or labels (get_or classes a 0) None ≡ Some l) × (slice_get values a ≡ Some (Null l)) × (get_or least (get_or classes a 0) None ≡ None))
     by None e = let o = s.null a h e in inr (o.0, o.1, o.2, e)
     by (Some c) e = inl (c, e, s.constant a c h e)
@@ -83,7 +84,7 @@ module _ (classes : List ℕ) (least : List (Option ℕ)) (n : ℕ) (labels : Li
         k.2 ∙ ap (λ z. Some (Null z)) j ∙ sym m.2)
         (cases a la)
 
-    is_constant : (a c : ℕ) → a < n → slice_get values a ≡ Some (Const c) → get_or least (get_or classes a 0) None ≡ Some c
+    is_constant : (a : ℕ) (c : Con) → a < n → slice_get values a ≡ Some (Const c) → get_or least (get_or classes a 0) None ≡ Some c
     is_constant a c l v = ⊎_elim
         (λ k. let i : Some (Const k.0) ≡ Some (Const c) = sym k.2 ∙ v in let j : k.0 ≡ c = cc in k.1 ∙ ap Some j)
         (λ k. let i : Some (Null k.0) ≡ Some (Const c) = sym k.2 ∙ v in absurd (cc))

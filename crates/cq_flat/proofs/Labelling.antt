@@ -7,6 +7,7 @@ use Rattle.std.proofs.lemmas.List.Elements.{filter_map-append}
 use Rattle.std.proofs.lemmas.List.Folds.{list_any-append}
 use Rattle.std.specs.Prelude.{slice_get, nat_eq}
 use Rattle.std.specs.List.{filter_map, list_any, range_with_len}
+use Rattle.cq_theory.specs.declared.constant.Con.{Con}
 use Rattle.cq_theory.specs.declared.value.Value.{Value}
 use Rattle.cq_theory.specs.declared.value.Value.TheVariants.{Const, Null}
 use Rattle.cq_theory.specs.Listed.{firsts, null_label}
@@ -14,11 +15,11 @@ use Rattle.cq_flat.specs.Labels.{AreLabelled, GivesLabel}
 use Rattle.cq_flat.proofs.Firsts.{firsts_push, slice_get-left, slice_get-last}
 use Rattle.cq_flat.proofs.Joining.{range_more}
 
-module _ (classes : List ℕ) (least : List (Option ℕ)) where
+module _ (classes : List ℕ) (least : List (Option Con)) where
   abbrev class : ℕ → ℕ
   class a = get_or classes a 0
 
-  abbrev least_of : ℕ → Option ℕ
+  abbrev least_of : ℕ → Option Con
   least_of k = get_or least k None
 
   pub labelled_none : AreLabelled classes least 0 (replicate (length classes) None) [] []
@@ -44,7 +45,7 @@ module _ (classes : List ℕ) (least : List (Option ℕ)) where
     labels_of v = filter_map-append null_label values (v ∷ [])
 
     -- the class has a constant
-    pub labelled_constant : (c : ℕ) → least_of (class n) ≡ Some c → AreLabelled classes least (n + 1) labels nulls (values ++ Const c ∷ [])
+    pub labelled_constant : (c : Con) → least_of (class n) ≡ Some c → AreLabelled classes least (n + 1) labels nulls (values ++ Const c ∷ [])
     labelled_constant c e = record {
       count = s.count;
       made = length_push values (Const c) ∙ ap (λ z. z + 1) s.made;
@@ -77,7 +78,7 @@ module _ (classes : List ℕ) (least : List (Option ℕ)) where
     module _ (labels' : List (Option ℕ)) (nulls' : List ℕ) (own : ℕ) (e : least_of (class n) ≡ None)
         (kept : (k l : ℕ) → get_or labels k None ≡ Some l → get_or labels' k None ≡ Some l)
         (here : get_or labels' (class n) None ≡ Some own) where
-      constant_null : (a c : ℕ) → a < n + 1 → least_of (class a) ≡ Some c → slice_get (values ++ Null own ∷ []) a ≡ Some (Const c)
+      constant_null : (a : ℕ) (c : Con) → a < n + 1 → least_of (class a) ≡ Some c → slice_get (values ++ Null own ∷ []) a ≡ Some (Const c)
       constant_null a c l h = elim (cases_lt a n) as (λ _. slice_get (values ++ Null own ∷ []) a ≡ Some (Const c)) [
         | inl m ↦ slice_get-left values (Null own ∷ []) a (Const c) (s.constant a c m h)
         | inr g ↦

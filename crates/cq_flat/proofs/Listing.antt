@@ -9,6 +9,8 @@ use Rattle.std.proofs.lemmas.Option.{slice_get_within, get_or_from_slice_get}
 use Rattle.std.specs.Prelude.{slice_get, nat_eq, is_some, All}
 use Rattle.std.specs.List.{filter_map, list_any, enumerate_from}
 use Rattle.std.specs.Cmp.Lexicographic.{pointwise}
+use Rattle.cq_theory.specs.declared.constant.Con.TheVariants.{Named}
+use Rattle.cq_theory.proofs.Constants.{same_con_itself, same_con_other}
 use Rattle.cq_theory.specs.declared.value.Value.{Value}
 use Rattle.cq_theory.specs.declared.value.Value.TheVariants.{Const, Null}
 use Rattle.cq_theory.specs.declared.value.Entry.{Entry}
@@ -24,12 +26,12 @@ use Rattle.cq_flat.proofs.Arguments.{args_within}
 use Rattle.cq_flat.proofs.Firsts.{firsts_push}
 
 same_itself : (v : Value) → IsPlain v → same_plain v v ≡ true
-same_itself (Const c) p = eq-eqb c c refl
+same_itself (Const c) p = same_con_itself c
 same_itself (Null n) p = eq-eqb n n refl
 same_itself _ p = absurd p
 
 same_other : (v w : Value) → IsPlain v → IsPlain w → v ≢ w → same_plain v w ≡ false
-same_other (Const c) (Const d) p q n = ne_eqb c d (λ e. n (ap Const e))
+same_other (Const c) (Const d) p q n = same_con_other c d (λ e. n (ap Const e))
 same_other (Const c) (Null m) p q n = refl
 same_other (Null k) (Const d) p q n = refl
 same_other (Null k) (Null m) p q n = ne_eqb k m (λ e. n (ap Null e))
@@ -49,7 +51,7 @@ enumerate_more {X} xs i x e =
 
 module _ (nodes : List Node) (classes : List ℕ) (values : List Value) where
   abbrev key_at : ℕ → List ℕ → List ℕ
-  key_at f args = 1 ∷ f ∷ map (λ a. get_or classes a 0) args
+  key_at f args = 0 ∷ 1 ∷ f ∷ map (λ a. get_or classes a 0) args
 
   abbrev test_at : ℕ → List ℕ → Entry → Bool
   test_at f args e = nat_eq f e.function && all_same_plain e.args (map (value_at values) args)
@@ -61,7 +63,7 @@ module _ (nodes : List Node) (classes : List ℕ) (values : List Value) where
   pub record IsListing (n : ℕ) (table : List (List ℕ × ℕ)) (entries : List Entry) : Type 0 where
     pub entries_are : entries ≡ firsts (λ e. is_for e.function e.args) (filter_map (entry_of values) (take n (enumerate_from 0 nodes)))
     pub known : (f : ℕ) (args : List ℕ) → All (λ a. a < length nodes) args
-        → is_some (found table (1 ∷ f ∷ map (λ a. get_or classes a 0) args))
+        → is_some (found table (0 ∷ 1 ∷ f ∷ map (λ a. get_or classes a 0) args))
         ≡ list_any (λ e. nat_eq f e.function && all_same_plain e.args (map (value_at values) args)) (filter_map (entry_of values) (take n (enumerate_from 0 nodes)))
 
   pub listing_none : IsListing 0 [] []
@@ -81,7 +83,7 @@ module _ (nodes : List Node) (early : HasEarlierArguments nodes) (classes : List
   sofar = sofar_at nodes classes values
 
   plain_at : (a : ℕ) → a < length nodes → IsPlain (value_at values a)
-  plain_at a l = v.plain a (Const 0) (omega (arith, l, v.values_count))
+  plain_at a l = v.plain a (Const (Named 0)) (omega (arith, l, v.values_count))
 
   tests_agree : (a b : ℕ) → a < length nodes → b < length nodes → nat_eq (class a) (class b) ≡ same_plain (value_at values a) (value_at values b)
   tests_agree a b la lb = elim (cases_eq (class a) (class b)) as (λ _. nat_eq (class a) (class b) ≡ same_plain (value_at values a) (value_at values b)) [

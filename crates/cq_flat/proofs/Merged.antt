@@ -10,7 +10,7 @@ use Rattle.cq_flat.specs.declared.node.Node.{Node}
 use Rattle.cq_flat.specs.declared.node.Node.TheVariants.{Leaf, Const, Fun}
 use Rattle.cq_flat.specs.declared.closing.Closing.{Closing}
 use Rattle.cq_flat.specs.Nodes.{HasEarlierArguments, AreSides}
-use Rattle.cq_flat.specs.Keys.{key_of}
+use Rattle.cq_flat.specs.Keys.{key_of, con_key}
 use Rattle.cq_flat.specs.Partition.{Has, joined}
 use Rattle.cq_flat.specs.Congruence as congruent
 use Rattle.cq_flat.specs.Congruence.{Congruent, AllCongruent}
@@ -150,7 +150,7 @@ module _ (nodes : List Node) (early : HasEarlierArguments nodes) (equations : Li
     tabled_node a (Const d) is = inr (tabled_same a (Const d) is refl)
     tabled_node a (Fun f args) is = ⊎_elim
         (λ o. inl (rw o.2 at (c.shape.uses.listed a f o.0 args is o.1)))
-        (λ o. inr (tabled_same a (Fun f args) is (ap (λ zs. Some (1 ∷ f ∷ zs)) o)))
+        (λ o. inr (tabled_same a (Fun f args) is (ap (λ zs. Some (0 ∷ 1 ∷ f ∷ zs)) o)))
         (arguments args (args_within nodes early a f args is))
 
     tabled_between : (a : ℕ) → Has (get_or old.uses from []) a ⊎ Tabled a
@@ -275,9 +275,9 @@ module _ (nodes : List Node) (equations : List (ℕ × ℕ)) (s : Closing) (c : 
     one_class (congruent.symmetric d) = sym (one_class d)
     one_class (congruent.transitive d f) = one_class d ∙ one_class f
     one_class (congruent.given {a} {b} i h) = now (c.given a b (i, slice_get_within equations i (a, b) h, get_or_from_slice_get equations i (a, b) (a, b) h))
-    one_class (congruent.constants {a} {b} d ia ib) = one_key a b (Const d) (Const d) (0 ∷ d ∷ []) ia ib refl refl
+    one_class (congruent.constants {a} {b} d ia ib) = one_key a b (Const d) (Const d) (con_key d) ia ib refl refl
     one_class (congruent.functions {a} {b} {xs} {ys} f ia ib h) =
-        one_key a b (Fun f xs) (Fun f ys) (1 ∷ f ∷ map (class_in s) xs) ia ib refl (ap (λ zs. Some (1 ∷ f ∷ zs)) (sym (one_list h)))
+        one_key a b (Fun f xs) (Fun f ys) (0 ∷ 1 ∷ f ∷ map (class_in s) xs) ia ib refl (ap (λ zs. Some (0 ∷ 1 ∷ f ∷ zs)) (sym (one_list h)))
 
     one_list : {xs ys : List ℕ} → AllCongruent nodes equations xs ys → map (class_in s) xs ≡ map (class_in s) ys
     one_list congruent.none = refl

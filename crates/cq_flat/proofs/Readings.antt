@@ -1,5 +1,5 @@
 -- What is read of classes that are exact.
-use Rattle.std.proofs.Common.{◌≡◌, ℕ, ◌<◌, ◌≤◌, List, length, get_or, Option, Some, None, sym, ◌∙◌, ap, refl, arith, inl, inr, ⊎_elim}
+use Rattle.std.proofs.Common.{◌≡◌, ℕ, ◌<◌, ◌≤◌, List, length, get_or, Option, Some, None, sym, ◌∙◌, ap, subst, refl, arith, inl, inr, ⊎_elim}
 use Rattle.std.proofs.lemmas.Bool.{cases_lt}
 use Rattle.std.proofs.lemmas.List.{get_or_default, get_or_past}
 use Rattle.std.proofs.lemmas.Option.{slice_get_within, slice_get-get_or, same_Some}
@@ -7,6 +7,10 @@ use Rattle.std.specs.Prelude.{slice_get, All}
 use Rattle.cq_theory.specs.declared.value.Value.{Value}
 use Rattle.cq_theory.specs.declared.value.Value.TheVariants as value
 use Rattle.cq_theory.specs.Tables.{IsPlain}
+use Rattle.cq_theory.specs.declared.constant.Con.{Con}
+use Rattle.cq_theory.specs.declared.constant.Con.TheVariants.{Named}
+use Rattle.cq_theory.specs.Constant.{IsLesser, IsAtMost}
+use Rattle.cq_theory.proofs.Constants.{lesser-at_most, at_most-both, at_most-transitive, at_most-not_lesser, at_most-lesser, at_most-unless}
 use Rattle.cq_flat.specs.declared.node.Node.{Node}
 use Rattle.cq_flat.specs.declared.node.Node.TheVariants.{Const}
 use Rattle.cq_flat.specs.Congruence.{Congruent, symmetric, constants}
@@ -28,11 +32,11 @@ module _ (nodes : List Node) (equations : List (ℕ × ℕ)) (classes : List ℕ
   one_class : (a b : ℕ) → a < length nodes → b < length nodes → Congruent nodes equations a b → class a ≡ class b
   one_class a b la lb c = (x.exact a b la lb).1 c
 
-  module _ (least : List (Option ℕ)) (s : AreLeast nodes classes (length nodes) least) where
-    abbrev least_of : ℕ → Option ℕ
+  module _ (least : List (Option Con)) (s : AreLeast nodes classes (length nodes) least) where
+    abbrev least_of : ℕ → Option Con
     least_of k = get_or least k None
 
-    least_within : (k c : ℕ) → least_of k ≡ Some c → k < length nodes
+    least_within : (k : ℕ) (c : Con) → least_of k ≡ Some c → k < length nodes
     least_within k c e = elim (cases_lt k (length nodes)) as (λ _. k < length nodes) [
       | inl l ↦ l
       | inr g ↦ let i : None ≡ Some c = sym (get_or_past least k None (omega (arith, g, s.count))) ∙ e in absurd (cc)
@@ -45,30 +49,30 @@ module _ (nodes : List Node) (equations : List (ℕ × ℕ)) (classes : List ℕ
         sym p.2 ∙ one_class p.0 q.0 (slice_get_within nodes p.0 (Const c) p.1) (slice_get_within nodes q.0 (Const c) q.1) (constants c p.1 q.1) ∙ q.2
 
     -- the least constant of a node's class, and the constants that are equal to the node
-    constant_of : (a c : ℕ) → a < length nodes → least_of (class a) ≡ Some c → HasConstant nodes equations a c
+    constant_of : (a : ℕ) (c : Con) → a < length nodes → least_of (class a) ≡ Some c → HasConstant nodes equations a c
     constant_of a c l e =
         let o = (s.each (class a) (x.within a l)).held c e in
         record { at = o.0; is = o.1; equal = (x.exact a o.0 l (slice_get_within nodes o.0 (Const c) o.1)).0 (sym o.2) }
 
-    below_constant : (a d : ℕ) → a < length nodes → HasConstant nodes equations a d → (c : ℕ) × (least_of (class a) ≡ Some c) × (c ≤ d)
+    below_constant : (a : ℕ) (d : Con) → a < length nodes → HasConstant nodes equations a d → (c : Con) × (least_of (class a) ≡ Some c) × IsAtMost c d
     below_constant a d l h =
         let b = slice_get_within nodes h.at (Const d) h.is in
         (s.each (class a) (x.within a l)).least h.at d b h.is (sym (one_class a h.at l b h.equal))
 
-    least_constant : (a c : ℕ) → a < length nodes → least_of (class a) ≡ Some c → IsLeastConstant nodes equations a c
+    least_constant : (a : ℕ) (c : Con) → a < length nodes → least_of (class a) ≡ Some c → IsLeastConstant nodes equations a c
     least_constant a c l e = record {
       has = constant_of a c l e;
       least = λ d h.
           let o = below_constant a d l h in
           let i : Some o.0 ≡ Some c = sym o.1 ∙ e in
           let j : o.0 ≡ c = cc in
-          omega (arith, o.2, j);
+          subst (λ z. IsAtMost z d) j o.2;
     }
 
-    constant_least : (a c : ℕ) → a < length nodes → IsLeastConstant nodes equations a c → least_of (class a) ≡ Some c
+    constant_least : (a : ℕ) (c : Con) → a < length nodes → IsLeastConstant nodes equations a c → least_of (class a) ≡ Some c
     constant_least a c l h =
         let o = below_constant a c l h.has in
-        let i : o.0 ≡ c = omega (arith, o.2, h.least o.0 (constant_of a o.0 l o.1)) in
+        let i : o.0 ≡ c = at_most-both o.0 c o.2 (h.least o.0 (constant_of a o.0 l o.1)) in
         o.1 ∙ ap Some i
 
     module _ (values : List Value) (v : AreClassValues classes least values) where
@@ -89,7 +93,7 @@ module _ (nodes : List Node) (equations : List (ℕ × ℕ)) (classes : List ℕ
       all_plain k d l = v.plain k (get_or values k d) (slice_get-get_or values k d l)
 
       at : (a : ℕ) → a < length nodes → slice_get values a ≡ Some (value_at values a)
-      at a l = slice_get-get_or values a (value.Const 0) (omega (arith, l, v.count, x.count))
+      at a l = slice_get-get_or values a (value.Const (Named 0)) (omega (arith, l, v.count, x.count))
 
       pub values_serve : AreValuesOf (length nodes) classes values
       values_serve = record {
@@ -102,14 +106,14 @@ module _ (nodes : List Node) (equations : List (ℕ × ℕ)) (classes : List ℕ
       }
 
     -- the least constant of the class of two equal constants
-    record Shared (c d : ℕ) (h : AreEqualConstants nodes equations c d) : Type 0 where
-      shared : ℕ
+    record Shared (c d : Con) (h : AreEqualConstants nodes equations c d) : Type 0 where
+      shared : Con
       of_left : least_of (class h.left) ≡ Some shared
       of_right : least_of (class h.right) ≡ Some shared
-      le_left : shared ≤ c
-      le_right : shared ≤ d
+      le_left : IsAtMost shared c
+      le_right : IsAtMost shared d
 
-    share : (c d : ℕ) (h : AreEqualConstants nodes equations c d) → Shared c d h
+    share : (c d : Con) (h : AreEqualConstants nodes equations c d) → Shared c d h
     share c d h =
         let ll = slice_get_within nodes h.left (Const c) h.left_is in
         let lr = slice_get_within nodes h.right (Const d) h.right_is in
@@ -118,16 +122,16 @@ module _ (nodes : List Node) (equations : List (ℕ × ℕ)) (classes : List ℕ
         let q = (s.each (class h.left) (x.within h.left ll)).least h.right d lr h.right_is (sym one) in
         let i : Some q.0 ≡ Some p.0 = sym q.1 ∙ p.1 in
         let j : q.0 ≡ p.0 = cc in
-        record { shared = p.0; of_left = p.1; of_right = ap least_of (sym one) ∙ p.1; le_left = p.2; le_right = omega (arith, q.2, j) }
+        record { shared = p.0; of_left = p.1; of_right = ap least_of (sym one) ∙ p.1; le_left = p.2; le_right = subst (λ z. IsAtMost z d) j q.2 }
 
-    no_clash : IsExcess nodes classes least (length nodes) None → (c d : ℕ) → AreEqualConstants nodes equations c d → c ≡ d
+    no_clash : IsExcess nodes classes least (length nodes) None → (c d : Con) → AreEqualConstants nodes equations c d → c ≡ d
     no_clash none c d h =
         let o = share c d h in
-        let l : c ≤ o.shared = ⊎_elim (λ g. absurd (none h.left o.shared c (slice_get_within nodes h.left (Const c) h.left_is) (h.left_is, o.of_left, g))) (λ g. g) (cases_lt o.shared c) in
-        let r : d ≤ o.shared = ⊎_elim (λ g. absurd (none h.right o.shared d (slice_get_within nodes h.right (Const d) h.right_is) (h.right_is, o.of_right, g))) (λ g. g) (cases_lt o.shared d) in
-        omega (arith, l, r, o.le_left, o.le_right)
+        let l : IsAtMost c o.shared = at_most-unless c o.shared (λ g. none h.left o.shared c (slice_get_within nodes h.left (Const c) h.left_is) (h.left_is, o.of_left, g)) in
+        let r : IsAtMost d o.shared = at_most-unless d o.shared (λ g. none h.right o.shared d (slice_get_within nodes h.right (Const d) h.right_is) (h.right_is, o.of_right, g)) in
+        at_most-both c o.shared l o.le_left ∙ sym (at_most-both d o.shared r o.le_right)
 
-    some_clash : (p : ℕ × ℕ) → IsLeastExcess nodes classes least (length nodes) p → IsLeastClash nodes equations p
+    some_clash : (p : Con × Con) → IsLeastExcess nodes classes least (length nodes) p → IsLeastClash nodes equations p
     some_clash p e =
         let within = slice_get_within nodes e.node (Const p.1) e.exceeds.0 in
         let h = constant_of e.node p.0 within e.exceeds.1 in
@@ -136,14 +140,14 @@ module _ (nodes : List Node) (equations : List (ℕ × ℕ)) (classes : List ℕ
           equal = record { left = h.at; right = e.node; left_is = h.is; right_is = e.exceeds.0; equal = symmetric h.equal };
           least = λ c d l q.
               let o = share c d q in
-              let m = e.least q.right o.shared d (slice_get_within nodes q.right (Const d) q.right_is) (q.right_is, o.of_right, omega (arith, o.le_left, l)) in
-              ⊎_elim (λ f. omega (arith, f, o.le_left)) (λ f. omega (arith, f.0, o.le_left)) m;
+              let m = e.least q.right o.shared d (slice_get_within nodes q.right (Const d) q.right_is) (q.right_is, o.of_right, at_most-lesser o.shared c d o.le_left l) in
+              ⊎_elim (λ f. at_most-transitive p.0 o.shared c (lesser-at_most p.0 o.shared f) o.le_left) (λ f. subst (λ z. IsAtMost z c) (sym f.0) o.le_left) m;
           next = λ d l q.
               let o = share p.0 d q in
-              let m = e.least q.right o.shared d (slice_get_within nodes q.right (Const d) q.right_is) (q.right_is, o.of_right, omega (arith, o.le_left, l)) in
-              ⊎_elim (λ f. absurd (omega (arith, f, o.le_left))) (λ f. f.1) m;
+              let m = e.least q.right o.shared d (slice_get_within nodes q.right (Const d) q.right_is) (q.right_is, o.of_right, at_most-lesser o.shared p.0 d o.le_left l) in
+              ⊎_elim (λ f. absurd (at_most-not_lesser o.shared p.0 o.le_left f)) (λ f. f.1) m;
         }
 
-    pub clash_holds : (clash : Option (ℕ × ℕ)) → IsExcess nodes classes least (length nodes) clash → IsClash nodes equations clash
+    pub clash_holds : (clash : Option (Con × Con)) → IsExcess nodes classes least (length nodes) clash → IsClash nodes equations clash
     clash_holds None e = no_clash e
     clash_holds (Some p) e = some_clash p e

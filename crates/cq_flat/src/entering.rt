@@ -1,12 +1,13 @@
 //! Nodes are looked up by their keys.
 ghost use Rattle.std.specs.Prelude.{◌≡◌, ◌<◌, ℕ, [], ◌∷◌, length, map, All, IfOk, OnOk, slice_index};
-ghost use Rattle.cq_flat.specs.Keys.{key_of};
+ghost use Rattle.cq_flat.specs.Keys.{key_of, con_key};
 ghost use Rattle.cq_flat.specs.Nodes.{HasEarlierArguments, HasArgumentsBelow};
 ghost use Rattle.cq_flat.specs.Partition.{Has};
 ghost use Rattle.cq_flat.specs.Closing.{Enters};
 
 use crate::key::{Key, Table};
 use crate::node::Node;
+use cq_theory::Con;
 use smallvec::SmallVec;
 use std::alloc::{AllocError, Global};
 
@@ -17,18 +18,23 @@ pub fn key(alloc: Global, classes: &[u64], node: &Node) -> Result<Option<Key>, A
 {
     match node {
         Node::Leaf => Ok(None),
-        Node::Const(constant) => Ok(Some(constant_key(alloc, *constant)?)),
+        Node::Const(constant) => Ok(Some(constant_key(alloc, constant)?)),
         Node::Fun(function, args) => {
             Ok(Some(function_key(alloc, classes, *function, args.as_slice())?))
         }
     }
 }
 
-fn constant_key(alloc: Global, constant: u32) -> Result<Key, AllocError>
-    ensures { IfOk result (λ key. key ≡ 0 ∷ constant ∷ []) }
+fn constant_key(alloc: Global, constant: &Con) -> Result<Key, AllocError>
+    ensures { IfOk result (λ key. key ≡ con_key constant.now) }
 {
-    let numbers = SmallVec::from_array(alloc, [0, u64::from(constant)])?;
-    Ok(Key::new(numbers))
+    match constant {
+        Con::Named(number) => {
+            let numbers = SmallVec::from_array(alloc, [0, u64::from(*number)])?;
+            Ok(Key::of_numbers(numbers))
+        }
+        Con::Open(text) => Ok(Key::of_text(text.clone()?)),
+    }
 }
 
 /// The key of a function, where nodes have these classes.
@@ -39,7 +45,7 @@ pub fn function_key(
     args: &[u64],
 ) -> Result<Key, AllocError>
     requires { All (λ arg. arg < length classes.now) args.now }
-    ensures { IfOk result (λ key. key ≡ 1 ∷ function ∷ map (slice_index classes.now) args.now) }
+    ensures { IfOk result (λ key. key ≡ 0 ∷ 1 ∷ function ∷ map (slice_index classes.now) args.now) }
 {
     let mut numbers = SmallVec::new(alloc);
     numbers.push(1)?;
@@ -47,7 +53,7 @@ pub fn function_key(
     for arg in args {
         numbers.push(classes[*arg as usize])?;
     }
-    Ok(Key::new(numbers))
+    Ok(Key::of_numbers(numbers))
 }
 
 /// Puts a node into the table at its key. The node that was there waits to be joined with it.

@@ -1,5 +1,5 @@
 //! The closure of a list of nodes, as it is read.
-ghost use Rattle.std.specs.Prelude.{◌≡◌, ◌<◌, ◌↔◌, IfOk, IsTrue, length, slice_get, Some};
+ghost use Rattle.std.specs.Prelude.{◌≡◌, ◌<◌, ◌↔◌, IfOk, IsTrue, length, slice_get, option_map, Some};
 
 use crate::closing::close_classes;
 use crate::constants::{clash_of, least_constants};
@@ -8,7 +8,7 @@ use crate::labels::values_of;
 use crate::node::Node;
 use crate::numbers::{are_sides, has_earlier_arguments};
 use cq_base::Seq;
-use cq_theory::{Entry, Value};
+use cq_theory::{Con, Entry, Value};
 use std::alloc::{AllocError, Global};
 use std::marker::Model;
 
@@ -18,7 +18,7 @@ pub struct Flat {
     values: Seq<Value>,
     nulls: Seq<u64>,
     entries: Seq<Entry>,
-    clash: Option<(u32, u32)>,
+    clash: Option<(Con, Con)>,
 }
 
 impl Model for Flat {
@@ -62,7 +62,7 @@ impl Flat {
             classes.as_slice(),
             values.as_slice(),
         )?;
-        let clash = clash_of(nodes.as_slice(), classes.as_slice(), least.as_slice());
+        let clash = clash_of(nodes.as_slice(), classes.as_slice(), least.as_slice())?;
         Ok(Flat {
             values: Seq::from_vec(values),
             nulls: Seq::from_vec(nulls),
@@ -78,7 +78,7 @@ impl Flat {
         has_earlier_arguments(nodes) && are_sides(nodes.len() as u64, equations)
     }
 
-    /// The value of a node: the least constant that is equal to it, or else its null.
+    /// The value of a node: the least constant, in the order of constants, that is equal to it, or else its null.
     pub fn value(&self, node: u64) -> &Value
         requires { node < length self.now.values }
         ensures { slice_get self.now.values node ≡ Some result.now }
@@ -101,11 +101,14 @@ impl Flat {
         self.entries.as_slice()
     }
 
-    /// The least constant that is equal to a greater one, and the least such greater one. None
-    /// exactly where no two different constants are equal.
-    pub fn clash(&self) -> Option<(u32, u32)>
-        ensures { result ≡ self.now.clash }
+    /// The least constant, in the order of constants, that is equal to a greater one, and the least such greater one. None
+    /// exactly where no two different constants are equal. It takes no memory.
+    pub fn clash(&self) -> Option<(&Con, &Con)>
+        ensures { option_map (λ pair. (pair.0.now, pair.1.now)) result ≡ self.now.clash }
     {
-        self.clash
+        match &self.clash {
+            Some(pair) => Some((&pair.0, &pair.1)),
+            None => None,
+        }
     }
 }

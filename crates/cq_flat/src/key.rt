@@ -2,41 +2,53 @@
 ghost use Rattle.std.specs.Prelude.{◌≡◌, ℕ, List, [], ◌∷◌, Some, IfOk, OnOk, nat_eq, if◌then◌else◌};
 ghost use Rattle.std.specs.Cmp.Lexicographic.{pointwise, nat_list_eq_equiv};
 ghost use Rattle.std.specs.Cmp.{partial_equiv_from_equiv};
-ghost use Rattle.std.specs.Cmp.Rules.{hashing};
-ghost use Rattle.std.specs.Hash as fed;
-ghost use Rattle.std.proofs.Common.{rules};
 
+use cq_base::Name;
 use smallvec::SmallVec;
 use std::alloc::{AllocError, Global};
 use std::collections::HashMap;
 use std::hash::{Hash, Hasher};
 use std::marker::Model;
 
-/// A list of numbers, by which nodes are looked up. That of a constant, or of a function of one argument, needs no allocation.
+/// By which nodes are looked up: a list of numbers, or a text. Contracts see a list, whose first number tells which of the two it is.
+/// The key of a constant, or of a function of one argument, needs no allocation.
 #[derive(Drop)]
 pub struct Key {
-    numbers: SmallVec<u64, 3>,
+    content: Content,
+}
+
+#[derive(Drop)]
+enum Content {
+    Numbers(SmallVec<u64, 3>),
+    Text(Name),
 }
 
 impl Model for Key {
-    ghost use Rattle.std.specs.Prelude.{ℕ, List};
+    ghost use Rattle.std.specs.Prelude.{ℕ, List, ◌∷◌};
+    ghost use Rattle.cq_flat.specs.declared.key.Content.TheVariants.{Numbers, Text};
 
     ghost Value = { List ℕ };
 
-    ghost view = { λ key. key.numbers.items };
+    ghost view = { λ key. elim key.content [ Numbers numbers ↦ 0 ∷ numbers.items | Text text ↦ 1 ∷ text ] };
 }
 
 impl Key {
-    pub fn new(numbers: SmallVec<u64, 3>) -> Key
-        ensures { result ≡ numbers.items }
+    /// The key of these numbers.
+    pub fn of_numbers(numbers: SmallVec<u64, 3>) -> Key
+        ensures { result ≡ 0 ∷ numbers.items }
     {
-        Key { numbers }
+        Key {
+            content: Content::Numbers(numbers),
+        }
     }
 
-    pub fn as_slice(&self) -> &[u64]
-        ensures { result.now ≡ self.now }
+    /// The key of this text.
+    pub fn of_text(text: Name) -> Key
+        ensures { result ≡ 1 ∷ text }
     {
-        self.numbers.as_slice()
+        Key {
+            content: Content::Text(text),
+        }
     }
 }
 
@@ -46,7 +58,16 @@ impl PartialEq for Key {
     ghost laws = { partial_equiv_from_equiv nat_list_eq_equiv };
 
     fn eq(&self, other: &Key) -> bool {
-        self.as_slice() == other.as_slice()
+        match &self.content {
+            Content::Numbers(numbers) => match &other.content {
+                Content::Numbers(others) => numbers.as_slice() == others.as_slice(),
+                Content::Text(_) => false,
+            },
+            Content::Text(text) => match &other.content {
+                Content::Numbers(_) => false,
+                Content::Text(second) => text == second,
+            },
+        }
     }
 }
 
@@ -55,12 +76,17 @@ impl Eq for Key {
 }
 
 impl Hash for Key {
-    ghost hash_input = { λ key. fed.slice fed.u64 key };
+    ghost use Rattle.cq_flat.specs.Keys.{fed_key, fed_key-alike};
 
-    ghost respects_eq = { Prim.search (hashing, rules) };
+    ghost hash_input = { fed_key };
+
+    ghost respects_eq = { fed_key-alike };
 
     fn hash<H: Hasher>(&self, state: &mut H) {
-        self.as_slice().hash(state);
+        match &self.content {
+            Content::Numbers(numbers) => numbers.as_slice().hash(state),
+            Content::Text(text) => text.hash(state),
+        }
     }
 }
 

@@ -3,7 +3,7 @@ ghost use Rattle.std.specs.Prelude.{◌≡◌, ◌<◌, ℕ, length, All, IfOk};
 ghost use Rattle.cq_flat.specs.Labels.{AreApart, AreClassValues, GivesLabel};
 ghost use Rattle.cq_flat.specs.Values.{AreLabels};
 
-use cq_theory::Value;
+use cq_theory::{Con, Value};
 use std::alloc::{AllocError, Global};
 
 /// The values of the nodes of these classes, and the first node of each null. Labels are given in
@@ -11,7 +11,7 @@ use std::alloc::{AllocError, Global};
 pub fn values_of(
     alloc: Global,
     classes: &[u64],
-    least: &[Option<u32>],
+    least: &[Option<Con>],
 ) -> Result<(Vec<Value>, Vec<u64>), AllocError>
     requires count { length least.now ≡ length classes.now }
     requires within { All (λ class. class < length classes.now) classes.now }
@@ -23,8 +23,8 @@ pub fn values_of(
     let mut nulls = Vec::new(alloc);
     let mut values = Vec::with_capacity(alloc, classes.len())?;
     for (node, class) in classes.iter().enumerate() {
-        if let Some(constant) = least[*class as usize] {
-            values.push(Value::Const(constant))?;
+        if let Some(constant) = &least[*class as usize] {
+            values.push(Value::Const(constant.clone()?))?;
             continue;
         }
         let label = label_of(&mut labels, &mut nulls, *class, node as u64)?;

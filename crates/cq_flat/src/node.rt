@@ -1,13 +1,13 @@
 //! Nodes: the ground terms whose equality is decided.
 use cq_base::Seq;
+use cq_theory::Con;
 
 /// A node is named by its place in a list of nodes.
 #[derive(Drop)]
 pub enum Node {
     /// A value of which nothing else is known.
     Leaf,
-    /// A constant, by its number.
-    Const(u32),
+    Const(Con),
     /// A function, by its number, of earlier nodes.
     Fun(u32, Seq<u64>),
 }

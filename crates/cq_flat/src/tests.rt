@@ -2,8 +2,8 @@
 ghost use Rattle.std.specs.Prelude.{◌≡◌, ◌≤◌, length, IfOk};
 
 use crate::{Flat, Node};
-use cq_base::Seq;
-use cq_theory::Value;
+use cq_base::{Name, Seq};
+use cq_theory::{Con, Value};
 use std::alloc::{AllocError, Global};
 use std::process::Abort;
 use std::test::Fail;
@@ -24,9 +24,52 @@ struct Told {
     clash: Option<(u32, u32)>,
 }
 
+// Five constants in their order: two declared ones, and three texts.
+
+fn constant(alloc: Global, number: u64) -> Result<Con, AllocError> {
+    match number {
+        0 => Ok(Con::Named(0)),
+        1 => Ok(Con::Named(1)),
+        2 => text(alloc, "Ann"),
+        3 => text(alloc, "Zed"),
+        _ => text(alloc, "Zeda"),
+    }
+}
+
+fn text(alloc: Global, content: &str) -> Result<Con, AllocError> {
+    match Name::new(alloc, content) {
+        Ok(name) => Ok(Con::Open(name)),
+        Err(_) => Err(AllocError),
+    }
+}
+
+fn number_of(constant: &Con) -> u32 {
+    match constant {
+        Con::Named(number) => *number,
+        Con::Open(text) => number_of_text(text.as_str()),
+    }
+}
+
+fn number_of_text(content: &str) -> u32 {
+    if content == "Ann" {
+        2
+    } else if content == "Zed" {
+        3
+    } else {
+        4
+    }
+}
+
+fn numbers_of(clash: Option<(&Con, &Con)>) -> Option<(u32, u32)> {
+    match clash {
+        Some((least, greater)) => Some((number_of(least), number_of(greater))),
+        None => None,
+    }
+}
+
 fn plain_of(value: &Value) -> Plain {
     match value {
-        Value::Const(constant) => Plain::Const(*constant),
+        Value::Const(constant) => Plain::Const(number_of(constant)),
         Value::Null(label) => Plain::Null(*label),
         Value::Fun(_, _) => Plain::Built,
     }
@@ -65,7 +108,7 @@ fn read(alloc: Global, flat: &Flat, count: u64) -> Result<Told, AllocError>
         values,
         nulls: flat.nulls().to_vec(alloc)?,
         entries,
-        clash: flat.clash(),
+        clash: numbers_of(flat.clash()),
     })
 }
 
@@ -118,7 +161,7 @@ fn unite_alike(nodes: &[Node], classes: &mut Vec<u64>) {
 
 fn are_alike(node: &Node, other: &Node, classes: &[u64]) -> bool {
     match (node, other) {
-        (Node::Const(constant), Node::Const(second)) => constant == second,
+        (Node::Const(constant), Node::Const(second)) => number_of(constant) == number_of(second),
         (Node::Fun(function, args), Node::Fun(second, others)) => {
             function == second && are_equal(args.as_slice(), others.as_slice(), classes)
         }
@@ -186,7 +229,8 @@ fn least_in(nodes: &[Node], classes: &[u64], class: u64) -> Option<u32> {
     for (node, content) in nodes.iter().enumerate() {
         if let Node::Const(constant) = content {
             if class_of(classes, node as u64) == class {
-                least = Some(least.map_or(*constant, |other| other.min(*constant)));
+                let number = number_of(constant);
+                least = Some(least.map_or(number, |other| other.min(number)));
             }
         }
     }
@@ -241,7 +285,7 @@ fn slow_clash(nodes: &[Node], classes: &[u64]) -> Option<(u32, u32)> {
 
 fn lesser(clash: Option<(u32, u32)>, node: &Node, other: &Node) -> Option<(u32, u32)> {
     if let (Node::Const(constant), Node::Const(second)) = (node, other) {
-        let (constant, second) = (*constant, *second);
+        let (constant, second) = (number_of(constant), number_of(second));
         let (first, next) = clash.unwrap_or((u32::MAX, u32::MAX));
         let is_less = constant < first || (constant == first && second < next);
         if constant < second && is_less {
@@ -266,8 +310,8 @@ fn node_from(alloc: Global, state: &mut u64, node: u64) -> Result<Node, AllocErr
         return Ok(Node::Leaf);
     }
     if kind == 1 {
-        let constant = next(state) % 3;
-        return Ok(Node::Const(constant as u32));
+        let number = next(state) % 5;
+        return Ok(Node::Const(constant(alloc, number)?));
     }
     let first = next(state) % node;
     let second = next(state) % node;
@@ -311,18 +355,37 @@ fn two_constants_clash(rt: HostRuntime) -> Result<(), Fail> {
     let alloc = rt.alloc();
     let nodes = vec![in alloc;
         Node::Leaf,
-        Node::Const(0),
+        Node::Const(constant(alloc, 0)?),
         fun(alloc, 0, &[1])?,
-        Node::Const(1),
+        Node::Const(constant(alloc, 1)?),
         Node::Leaf,
         fun(alloc, 0, &[4])?,
-        Node::Const(2),
+        Node::Const(constant(alloc, 2)?),
         Node::Leaf,
-        Node::Const(0),
+        Node::Const(constant(alloc, 0)?),
     ]?;
     let equations = vec![in alloc; (0, 4), (0, 7), (2, 3), (5, 6), (7, 8)]?;
     let found = closed(&rt, alloc, nodes, equations)?;
     assert_eq!(rt; found.clash, Some((1, 2)));
+    Ok(())
+}
+
+// "Zed" and "Ann", each twice, are made equal: the lesser text stands first, and one text has one class.
+#[test]
+fn two_texts_clash_in_the_order_of_their_bytes(rt: HostRuntime) -> Result<(), Fail> {
+    let alloc = rt.alloc();
+    let nodes = vec![in alloc;
+        Node::Const(constant(alloc, 3)?),
+        Node::Leaf,
+        Node::Const(constant(alloc, 2)?),
+        Node::Const(constant(alloc, 3)?),
+        Node::Const(constant(alloc, 2)?),
+    ]?;
+    let equations = vec![in alloc; (0, 1), (1, 2)]?;
+    let found = closed(&rt, alloc, nodes, equations)?;
+    let ann = Plain::Const(2);
+    assert_eq!(rt; found.values.as_slice(), [ann, ann, ann, ann, ann].as_slice());
+    assert_eq!(rt; found.clash, Some((2, 3)));
     Ok(())
 }
 
@@ -331,9 +394,9 @@ fn two_constants_clash(rt: HostRuntime) -> Result<(), Fail> {
 fn a_null_is_the_value_of_two_functions(rt: HostRuntime) -> Result<(), Fail> {
     let alloc = rt.alloc();
     let nodes = vec![in alloc;
-        Node::Const(0),
+        Node::Const(constant(alloc, 0)?),
         fun(alloc, 0, &[0])?,
-        Node::Const(1),
+        Node::Const(constant(alloc, 1)?),
         fun(alloc, 0, &[2])?,
     ]?;
     let equations = vec![in alloc; (1, 3)]?;

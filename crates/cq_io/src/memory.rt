@@ -1,11 +1,14 @@
-//! A folder and a sink in memory, for tests. Each is told which of its calls fail.
+//! A folder, a sink and exporters in memory, for tests. Each is told which of its calls fail.
 
 ghost use Rattle.std.specs.Prelude.{◌≡◌, ◌++◌, ◌∷◌, [], ◌≤◌, ℕ, List, map, IfOk, OnOk, OnErr, IfErr, Some, vec_len, vec_capacity};
 ghost use Rattle.cq_io.specs.Content.{file_of, find_file};
 ghost use Rattle.cq_io.specs.Failing.{is_empty, spare_room};
 ghost use Rattle.std.specs.Option.{option_copied};
 
+use crate::exporter::{Exporter, PutRefusal};
 use crate::folder::{Folder, ReadRefusal};
+use crate::format::Format;
+use crate::keep::keep;
 use crate::sink::{Failed, Sink};
 use std::alloc::{AllocError, Global};
 
@@ -151,6 +154,55 @@ impl Sink for MemSink {
     }
 }
 
+/// Files of one format in memory. `failing` are the numbers, from 0, of the puts that fail.
+#[derive(Drop)]
+pub struct MemExporter {
+    alloc: Global,
+    format: Format,
+    kept: Vec<(String, Vec<u8>)>,
+    failing: Vec<u64>,
+    puts: u64,
+    faults: u64,
+}
+
+impl MemExporter {
+    /// An exporter that took no file yet.
+    pub fn new(alloc: Global, format: Format, failing: Vec<u64>) -> Result<MemExporter, AllocError>
+        ensures { IfOk result (λ exporter. ⟦<MemExporter as Exporter>⟧.account exporter ≡ record { format = format; held = []; steady = is_empty failing.items; faults = 0 }) }
+    {
+        Ok(MemExporter {
+            alloc,
+            format,
+            kept: Vec::new(alloc),
+            failing,
+            puts: 0,
+            faults: 0,
+        })
+    }
+}
+
+impl Exporter for MemExporter {
+    ghost account = { λ s. record { format = s.format; held = map file_of s.kept.items; steady = is_empty s.failing.items; faults = s.faults } };
+
+    fn format(&self) -> Format {
+        self.format
+    }
+
+    fn kept(&self) -> &[(String, Vec<u8>)] {
+        self.kept.as_slice()
+    }
+
+    fn put(&mut self, name: &str, bytes: &[u8]) -> Result<(), PutRefusal> {
+        let number = self.puts;
+        self.puts = self.puts.saturating_add(1);
+        if self.failing.contains(&number) {
+            self.faults = self.faults.saturating_add(1);
+            return Err(PutRefusal::Failed);
+        }
+        keep(self.alloc, &mut self.kept, name, bytes)
+    }
+}
+
 #[cfg(test)]
 mod tests {
     use super::*;
@@ -176,6 +228,22 @@ mod tests {
         assert_eq!(rt; sink.write_all(b"cd"), Err(Failed));
         assert_eq!(rt; sink.write_all(b"efg"), Err(Failed));
         assert!(rt; sink.bytes() == b"abef".as_slice());
+        Ok(())
+    }
+
+    #[test]
+    fn an_exporter_keeps_what_it_takes(rt: HostRuntime) -> Result<(), Fail> {
+        let alloc = rt.alloc();
+        let failing = Vec::from_slice(alloc, &[1])?;
+        let mut exporter = MemExporter::new(alloc, Format::Cql, failing)?;
+        assert_eq!(rt; exporter.put("I.cql", b"first"), Ok(()));
+        assert_eq!(rt; exporter.put("J.cql", b"lost"), Err(PutRefusal::Failed));
+        assert_eq!(rt; exporter.put("K.cql", b""), Ok(()));
+        assert_eq!(rt; exporter.format(), Format::Cql);
+        let kept = exporter.kept();
+        assert_eq!(rt; kept.len(), 2);
+        assert!(rt; kept[0].0.as_str() == "I.cql" && kept[0].1.as_slice() == b"first".as_slice());
+        assert!(rt; kept[1].0.as_str() == "K.cql" && kept[1].1.is_empty());
         Ok(())
     }
 }

@@ -1,11 +1,14 @@
-//! The real folder and sink: the working directory and standard output.
+//! The real folder, sink and exporter: the working directory, standard output, and folders of files.
 
 ghost use Rattle.std.specs.Prelude.{◌≡◌, ◌≤◌, ◌<◌, ◌++◌, [], ℕ, List, None, map, codes, string_bytes, IfOk, IsErrOf, vec_len, Bool, false};
 ghost use Rattle.std.specs.declared.option.Option.{Option};
 ghost use Rattle.cq_io.specs.Counts.{Rose};
-ghost use Rattle.cq_io.specs.Content.{file_of};
+ghost use Rattle.cq_io.specs.Content.{file_of, path_of};
 
+use crate::exporter::{Exporter, PutRefusal};
 use crate::folder::{Folder, ReadRefusal};
+use crate::format::Format;
+use crate::keep::copy_of;
 use crate::sink::{Failed, Sink};
 use std::alloc::{AllocError, Global};
 use std::io::{ErrorKind, Read, Write};
@@ -73,33 +76,24 @@ fn read_file<R: Files>(
     ensures { IfOk result (λ bytes. vec_len bytes ≤ limit) }
 {
     match fs::open(rt, name) {
-        Ok(mut file) => read_up_to(&mut file, alloc, limit),
+        Ok(file) => read_up_to(file, alloc, limit),
         Err(error) if error.kind() == ErrorKind::NotFound => Err(ReadRefusal::Absent),
         Err(_) => Err(ReadRefusal::Failed),
     }
 }
 
-/// Reads to the end, which is a read that gives nothing. No more is taken than one piece past the limit.
-fn read_up_to<S: Read>(source: &mut S, alloc: Global, limit: u64) -> Result<Vec<u8>, ReadRefusal>
+/// Reads to the end, and no more than one byte past the limit. A read that a signal interrupts is tried again.
+fn read_up_to<S: Read + Drop>(source: S, alloc: Global, limit: u64) -> Result<Vec<u8>, ReadRefusal>
     ensures { IfOk result (λ bytes. vec_len bytes ≤ limit) }
 {
     let mut bytes = Vec::new(alloc);
-    let mut piece = [0u8; 4096];
-    for _ in 0..u64::MAX {
-        let Ok(count) = source.read(&mut piece) else {
-            return Err(ReadRefusal::Failed);
-        };
-        if count == 0 {
-            return Ok(bytes);
-        }
-        if (bytes.len() as u64) + (count as u64) > limit {
-            return Err(ReadRefusal::TooLong);
-        }
-        if bytes.extend_from_slice(&piece[..count]).is_err() {
-            return Err(ReadRefusal::Memory);
-        }
+    let mut source = source.take(limit.saturating_add(1));
+    match source.read_to_end(&mut bytes) {
+        Ok(_) if bytes.len() as u64 <= limit => Ok(bytes),
+        Ok(_) => Err(ReadRefusal::TooLong),
+        Err(error) if error.kind() == ErrorKind::OutOfMemory => Err(ReadRefusal::Memory),
+        Err(_) => Err(ReadRefusal::Failed),
     }
-    Err(ReadRefusal::Failed)
 }
 
 /// Standard output. It tells no content.
@@ -126,24 +120,94 @@ impl<R: Print> Sink for StdSink<R> {
     ghost faults = { λ s. s.faults };
 
     fn write_all(&mut self, bytes: &[u8]) -> Result<(), Failed> {
-        let answer = write_pieces(&mut io::writer(&self.rt), bytes);
-        if answer.is_err() {
-            self.faults = self.faults.saturating_add(1);
+        match io::writer(&self.rt).write_all(bytes) {
+            Ok(()) => Ok(()),
+            Err(_) => {
+                self.faults = self.faults.saturating_add(1);
+                Err(Failed)
+            }
         }
-        answer
     }
 }
 
-/// Writes piece by piece. A write that takes nothing is an error.
-fn write_pieces<W: Write>(writer: &mut W, bytes: &[u8]) -> Result<(), Failed> {
-    let mut rest = bytes;
-    while !rest.is_empty() {
-        match writer.write(rest) {
-            Ok(count) if count > 0 => rest = &rest[count..],
-            _ => return Err(Failed),
-        }
+/// A folder into which files are written. It keeps a copy of each file whose write succeeded, for which it
+/// takes the memory before it writes; what the disk holds is not told.
+#[derive(Drop)]
+pub struct DirExporter<R> {
+    rt: R,
+    alloc: Global,
+    format: Format,
+    dir: String,
+    kept: Vec<(String, Vec<u8>)>,
+    faults: u64,
+}
+
+impl<R: Files + Drop> DirExporter<R> {
+    /// An exporter that took no file yet, for files below the folder `dir`. An empty `dir` is the working directory.
+    pub fn new(
+        rt: R,
+        alloc: Global,
+        format: Format,
+        dir: &str,
+    ) -> Result<DirExporter<R>, AllocError>
+        ensures { IfOk result (λ exporter. ⟦<DirExporter<R> as Exporter>⟧.account exporter ≡ record { format = format; held = []; steady = false; faults = 0 }) }
+    {
+        Ok(DirExporter {
+            rt,
+            alloc,
+            format,
+            dir: String::from_str(alloc, dir)?,
+            kept: Vec::new(alloc),
+            faults: 0,
+        })
     }
-    Ok(())
+}
+
+impl<R: Files + Drop> Exporter for DirExporter<R> {
+    ghost account = { λ s. record { format = s.format; held = map file_of s.kept.items; steady = false; faults = s.faults } };
+
+    fn format(&self) -> Format {
+        self.format
+    }
+
+    fn kept(&self) -> &[(String, Vec<u8>)] {
+        self.kept.as_slice()
+    }
+
+    /// Makes the folders that the file needs, and writes it; `Failed` where either fails.
+    fn put(&mut self, name: &str, bytes: &[u8]) -> Result<(), PutRefusal> {
+        let Ok(path) = path_in(self.alloc, self.dir.as_str(), name) else {
+            return Err(PutRefusal::Memory);
+        };
+        let copy = copy_of(self.alloc, &mut self.kept, name, bytes)?;
+        if write_file(&self.rt, path.as_str(), bytes).is_err() {
+            self.faults = self.faults.saturating_add(1);
+            return Err(PutRefusal::Failed);
+        }
+        self.kept.push(copy).unwrap();
+        Ok(())
+    }
+}
+
+/// The path of a file below a folder.
+fn path_in(alloc: Global, dir: &str, name: &str) -> Result<String, AllocError>
+    ensures { IfOk result (λ path. string_bytes path ≡ path_of dir.now name.now) }
+{
+    if dir.is_empty() {
+        return String::from_str(alloc, name);
+    }
+    let mut path = String::from_str(alloc, dir)?;
+    path.push_str("/")?;
+    path.push_str(name)?;
+    Ok(path)
+}
+
+/// Makes the folders that the file needs, and writes it.
+fn write_file<R: Files>(rt: &R, path: &str, bytes: &[u8]) -> io::Result<()> {
+    if let Some((folder, _)) = path.rsplit_once('/') {
+        fs::create_dir_all(rt, folder)?;
+    }
+    fs::write(rt, path, bytes)
 }
 
 #[cfg(test)]
@@ -154,15 +218,14 @@ mod tests {
     #[test]
     fn the_working_directory_is_read_up_to_a_limit(rt: HostRuntime) -> Result<(), Fail> {
         let alloc = rt.alloc();
-        let mut written = fs::create(&rt, "five")?;
-        assert_eq!(rt; write_pieces(&mut written, b"12345"), Ok(()));
-        fs::create_dir_all(&rt, "folder")?;
+        fs::create_dir_all(&rt, "out/read/folder")?;
+        fs::write(&rt, "out/read/five", b"12345")?;
         let mut folder = DirFolder::new(rt, alloc);
-        let whole = folder.read("five", 5)?;
+        let whole = folder.read("out/read/five", 5)?;
         assert!(rt; whole.as_slice() == b"12345".as_slice());
-        assert!(rt; matches!(&folder.read("five", 4), Err(ReadRefusal::TooLong)));
-        assert!(rt; matches!(&folder.read("none", 4), Err(ReadRefusal::Absent)));
-        assert!(rt; matches!(&folder.read("folder", 4), Err(ReadRefusal::Failed)));
+        assert!(rt; matches!(&folder.read("out/read/five", 4), Err(ReadRefusal::TooLong)));
+        assert!(rt; matches!(&folder.read("out/read/none", 4), Err(ReadRefusal::Absent)));
+        assert!(rt; matches!(&folder.read("out/read/folder", 4), Err(ReadRefusal::Failed)));
         Ok(())
     }
 
@@ -171,5 +234,24 @@ mod tests {
         let mut out = StdSink::new(rt);
         assert_eq!(rt; out.write_all(b"written\n"), Ok(()));
         assert_eq!(rt; out.write_all(b""), Ok(()));
+    }
+
+    #[test]
+    fn exported_files_are_read_back(rt: HostRuntime) -> Result<(), Fail> {
+        let alloc = rt.alloc();
+        let mut exporter = DirExporter::new(rt, alloc, Format::Csv, "out/exported/csv")?;
+        assert_eq!(rt; exporter.put("I/E.csv", b"id\n1\n"), Ok(()));
+        assert_eq!(rt;
+            exporter.put("I/E.csv/F.csv", b"id\n"),
+            Err(PutRefusal::Failed)
+        );
+        assert_eq!(rt; exporter.put("J/E.csv", b"id\n"), Ok(()));
+        assert_eq!(rt; exporter.kept().len(), 2);
+        let mut folder = DirFolder::new(rt, alloc);
+        let first = folder.read("out/exported/csv/I/E.csv", 100)?;
+        let second = folder.read("out/exported/csv/J/E.csv", 100)?;
+        assert!(rt; first.as_slice() == b"id\n1\n".as_slice());
+        assert!(rt; second.as_slice() == b"id\n".as_slice());
+        Ok(())
     }
 }

@@ -14,6 +14,8 @@ use Rattle.cq_model.specs.declared.places.Places.{Places}
 use Rattle.cq_model.specs.Closed.{AreClosed}
 use Rattle.cq_model.specs.NodeTerms.{node_terms}
 use Rattle.cq_model.specs.Built.{IsClosureOf, IsBuilt, tables_of}
+use Rattle.cq_theory.specs.declared.constant.Con.{Con}
+use Rattle.cq_theory.specs.declared.constant.Con.TheVariants.{Named}
 use Rattle.cq_theory.specs.declared.presentation.Presentation.{Presentation}
 use Rattle.cq_theory.specs.SchemaData.{SchemaData as Schema}
 use Rattle.cq_theory.specs.Schema.{IsSchema}
@@ -37,7 +39,7 @@ use Rattle.cq_model.proofs.BuiltNodes as nodes_say
 use Rattle.cq_model.proofs.BuiltNodes.{at_place, one_type}
 
 -- a plain value is a constant or a null
-pub plain_cases : (v : Value) → IsPlain v → ((c : ℕ) × (v ≡ value.Const c)) ⊎ ((n : ℕ) × (v ≡ value.Null n))
+pub plain_cases : (v : Value) → IsPlain v → ((c : Con) × (v ≡ value.Const c)) ⊎ ((n : ℕ) × (v ≡ value.Null n))
 plain_cases (value.Const c) plain = inl (c, refl)
 plain_cases (value.Null n) plain = inr (n, refl)
 plain_cases _ plain = absurd plain
@@ -77,7 +79,7 @@ module _ (S : Schema) (P : Presentation) (m : Content) (rows : List ℕ) (schema
   derives = nodes_say.congruent_derives S P m rows schema presentation closed order names numbers places nodes equations types built flat closure
 
   pub valued : (p : ℕ) → p < length nodes → slice_get flat.values p ≡ Some (value_here p)
-  valued p h = slice_get-get_or flat.values p (value.Const 0) (omega (arith, closure.values.count))
+  valued p h = slice_get-get_or flat.values p (value.Const (Named 0)) (omega (arith, closure.values.count))
 
   pub value_plain : (p : ℕ) → p < length nodes → IsPlain (value_here p)
   value_plain p h = closure.values.plain p (value_here p) (valued p h)
@@ -92,14 +94,14 @@ module _ (S : Schema) (P : Presentation) (m : Content) (rows : List ℕ) (schema
       cc
 
   -- the node of the constant that is a node's value
-  pub record IsConstantOf (p c : ℕ) : Type 0 where
+  pub record IsConstantOf (p : ℕ) (c : Con) : Type 0 where
     pub at : ℕ
     pub within : at < length nodes
     pub is : slice_get nodes at ≡ Some (node.Const c)
     pub term_is : slice_get T at ≡ Some (term.Const c)
     pub equal : Congruent nodes equations p at
 
-  pub constant_of : (p c : ℕ) → p < length nodes → value_here p ≡ value.Const c → IsConstantOf p c
+  pub constant_of : (p : ℕ) (c : Con) → p < length nodes → value_here p ≡ value.Const c → IsConstantOf p c
   constant_of p c l e =
       let has = ((closure.values.constant p c l).0 (valued p l ∙ ap (λ v. Some v) e)).has in
       let within : has.at < length nodes = slice_get_within nodes has.at (node.Const c) has.is in

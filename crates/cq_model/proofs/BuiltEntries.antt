@@ -3,6 +3,7 @@ use Rattle.std.proofs.Common.{ℕ, zero, suc, Bool, true, false, not, cond, List
 use Rattle.std.specs.Prelude.{slice_get, find, All}
 use Rattle.std.specs.List.{filter_map, cons_option, enumerate_from}
 use Rattle.std.proofs.lemmas.List.Elements.{All-head, All-tail}
+use Rattle.cq_theory.proofs.Constants.{same_con_true, same_con_itself}
 use Rattle.cq_theory.specs.declared.value.Value.{Value}
 use Rattle.cq_theory.specs.declared.value.Value.TheVariants.{Const, Null}
 use Rattle.cq_theory.specs.declared.value.Entry.{Entry}
@@ -169,7 +170,7 @@ module _ {X : Type 0} (same : X → X → Bool) where
 
 -- Values and entries.
 same_plain_equal : (v w : Value) → same_plain v w ≡ true → v ≡ w
-same_plain_equal (Const c) (Const d) h = ap Const (eqb-true c d h)
+same_plain_equal (Const c) (Const d) h = ap Const (same_con_true c d h)
 same_plain_equal (Null n) (Null m) h = ap Null (eqb-true n m h)
 same_plain_equal (Const c) (Null m) h = cc
 same_plain_equal (Null n) (Const d) h = cc
@@ -188,7 +189,7 @@ all_same_plain_equal (v ∷ vs) (w ∷ ws) h =
     λ i. first i ∷ rest i
 
 same_plain_itself : (v : Value) → IsPlain v → same_plain v v ≡ true
-same_plain_itself (Const c) p = eq-eqb c c refl
+same_plain_itself (Const c) p = same_con_itself c
 same_plain_itself (Null n) p = eq-eqb n n refl
 same_plain_itself _ p = absurd p
 

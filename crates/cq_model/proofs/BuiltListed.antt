@@ -10,6 +10,7 @@ use Rattle.cq_model.specs.Closed.{AreClosed}
 use Rattle.cq_model.specs.InstanceData.{IsName, IsInstance}
 use Rattle.cq_model.specs.LeastNames.{rows_at, terms_at}
 use Rattle.cq_model.specs.Built.{IsClosureOf, IsBuilt, tables_of, assignment_of}
+use Rattle.cq_theory.specs.declared.constant.Con.{Con}
 use Rattle.cq_theory.specs.declared.presentation.Presentation.{Presentation}
 use Rattle.cq_theory.specs.declared.schema.Edge.{Edge}
 use Rattle.cq_theory.specs.SchemaData.{SchemaData as Schema}
@@ -93,5 +94,5 @@ module _ (S : Schema) (P : Presentation) (m : Content) (rows : List ℕ) (schema
         All_from (IsName (record { schema = S; presentation = P; names = names; tables = M; assignment = A })) ts (λ n t at. name_ground e n ts t found at));
   }
 
-  pub inconsistent : (c d : ℕ) → flat.clash ≡ Some (c, d) → IsInconsistentAt S P c d
+  pub inconsistent : (c d : Con) → flat.clash ≡ Some (c, d) → IsInconsistentAt S P c d
   inconsistent c d clash = inconsistent_at S P m rows schema presentation closed order names numbers places nodes equations types built flat closure c d clash

@@ -17,6 +17,8 @@ use Rattle.cq_model.specs.Closed.{AreClosed}
 use Rattle.cq_model.specs.LeastNames.{rows_at, terms_at}
 use Rattle.cq_model.specs.NodeTerms.{equation_sides, row_sides, entity_sides, given_sides, node_terms, cell_place, StandsAt, StandsFor, EachStands}
 use Rattle.cq_model.specs.Built.{IsClosureOf, IsBuilt, cell_column, standing, tables_of, assignment_of}
+use Rattle.cq_theory.specs.declared.constant.Con.{Con}
+use Rattle.cq_theory.specs.declared.constant.Con.TheVariants.{Named}
 use Rattle.cq_theory.specs.declared.presentation.Equation.{Equation}
 use Rattle.cq_theory.specs.declared.presentation.Equation.TheVariants.{Ent as EntEquation, Typ as TypEquation}
 use Rattle.cq_theory.specs.declared.presentation.Presentation.{Presentation}
@@ -108,8 +110,8 @@ module _ (S : Schema) (P : Presentation) (m : Content) (rows : List ℕ) (schema
   cell_is : (a : ℕ) (edge : Edge) (r : ℕ) → slice_get S.attributes a ≡ Some edge → live_of m r ≡ true → edge.from ≡ row_entity m r → cell_at M a (slice_index numbers r) ≡ value_here (cell_place places r a)
   cell_is a edge r h live from =
       let place : slice_get (rows_at order edge.from) (slice_index numbers r) ≡ Some r = ap (λ e. slice_get (rows_at order e) (slice_index numbers r)) from ∙ built.numbered.all r live in
-      ap (λ column. slice_index_or column (slice_index numbers r) (value.Const 0)) (cells_are a edge h)
-      ∙ get_or_from_slice_get (map (λ r. value_here (cell_place places r a)) (rows_at order edge.from)) (slice_index numbers r) (value_here (cell_place places r a)) (value.Const 0)
+      ap (λ column. slice_index_or column (slice_index numbers r) (value.Const (Named 0))) (cells_are a edge h)
+      ∙ get_or_from_slice_get (map (λ r. value_here (cell_place places r a)) (rows_at order edge.from)) (slice_index numbers r) (value_here (cell_place places r a)) (value.Const (Named 0))
       (get-map (λ r. value_here (cell_place places r a)) (rows_at order edge.from) (slice_index numbers r) r place)
 
   -- an entity term names a row of its entity
@@ -145,7 +147,7 @@ module _ (S : Schema) (P : Presentation) (m : Content) (rows : List ℕ) (schema
 
   -- Equal values from derivations, where a constant of a node means the node's value. Without a clash a constant means itself; with one,
   -- the least constant that is equal to it.
-  module _ (constants : ℕ → Value) (agree : (p c : ℕ) → slice_get nodes p ≡ Some (node.Const c) → constants c ≡ value_at flat.values p) where
+  module _ (constants : Con → Value) (agree : (p : ℕ) (c : Con) → slice_get nodes p ≡ Some (node.Const c) → constants c ≡ value_at flat.values p) where
     abbrev pub with_step : layer.TypeTerm-F Value → Value
     with_step (layer.Gen n) = value_in (slice_index_or A n (AtRow 0))
     with_step (layer.Const c) = constants c
@@ -172,7 +174,7 @@ module _ (S : Schema) (P : Presentation) (m : Content) (rows : List ℕ) (schema
         let place : p ≡ slice_index places.generators n = subst (λ l. StandsAt m rows places T l p) (out-Gen n) stands in
         fold-Gen Value with_step n ∙ ap value_in (type_generator n type (typed_generator S G n type sort)) ∙ ap value_here (sym place)
 
-    constant_value_is : (c : ℕ) → HasValue (term.Const c)
+    constant_value_is : (c : Con) → HasValue (term.Const c)
     constant_value_is c p type sort stands =
         let is : slice_get T p ≡ Some (term.Const c) = subst (λ l. StandsAt m rows places T l p) (out-Const c) stands in
         fold-Const Value with_step c

@@ -16,6 +16,7 @@ use Rattle.cq_model.specs.Closed.{AreClosed}
 use Rattle.cq_model.specs.LeastNames.{rows_at, terms_at}
 use Rattle.cq_model.specs.NodeTerms.{equation_sides, row_sides, entity_sides, given_sides, node_terms, cell_place, StandsAt, StandsFor, EachStands, IsNodeAt}
 use Rattle.cq_model.specs.Built.{IsClosureOf, IsBuilt}
+use Rattle.cq_theory.specs.declared.constant.Con.{Con}
 use Rattle.cq_theory.specs.declared.presentation.Equation.{Equation}
 use Rattle.cq_theory.specs.declared.presentation.Equation.TheVariants.{Ent as EntEquation, Typ as TypEquation}
 use Rattle.cq_theory.specs.declared.presentation.Presentation.{Presentation}
@@ -67,7 +68,7 @@ from_layer t l h = closed t ∙ ap roll-TypeTerm h
 
 -- Which term has a node of a kind.
 module _ (m : Content) (rows : List ℕ) (places : Places) (T : List TypeTerm) where
-  pub constant_node : (p c : ℕ) (t : TypeTerm) → IsNodeAt m rows places T p (out-TypeTerm t) (node.Const c) → t ≡ term.Const c
+  pub constant_node : (p : ℕ) (c : Con) (t : TypeTerm) → IsNodeAt m rows places T p (out-TypeTerm t) (node.Const c) → t ≡ term.Const c
   constant_node p c t h = from_layer t (layer.Const c) (go (out-TypeTerm t) h) ∙ term.rolls-Const c
     where
       go : (l : layer.TypeTerm-F TypeTerm) → IsNodeAt m rows places T p l (node.Const c) → l ≡ layer.Const c
@@ -145,7 +146,7 @@ module _ (S : Schema) (P : Presentation) (m : Content) (rows : List ℕ) (schema
       let type = at_place types p (omega (arith, slice_get_within T p t h, built.types_are.count)) in
       (type.0, built.types_are.each p type.0 t h type.1)
 
-  pub constant_at : (p c : ℕ) (t : TypeTerm) → slice_get T p ≡ Some t → slice_get nodes p ≡ Some (node.Const c) → t ≡ term.Const c
+  pub constant_at : (p : ℕ) (c : Con) (t : TypeTerm) → slice_get T p ≡ Some t → slice_get nodes p ≡ Some (node.Const c) → t ≡ term.Const c
   constant_at p c t h h' = constant_node m rows places T p c t (built.nodes_are.each p t (node.Const c) h h')
 
   pub function_at : (p f : ℕ) (ps : List ℕ) (t : TypeTerm) → slice_get T p ≡ Some t → slice_get nodes p ≡ Some (node.Fun f ps)
@@ -153,7 +154,7 @@ module _ (S : Schema) (P : Presentation) (m : Content) (rows : List ℕ) (schema
   function_at p f ps t h h' = function_node m rows places T p f ps t (built.nodes_are.each p t (node.Fun f ps) h h')
 
   -- the node of a constant, and that of an application
-  pub constant_place : (p c : ℕ) → slice_get T p ≡ Some (term.Const c) → slice_get nodes p ≡ Some (node.Const c)
+  pub constant_place : (p : ℕ) (c : Con) → slice_get T p ≡ Some (term.Const c) → slice_get nodes p ≡ Some (node.Const c)
   constant_place p c h =
       let content = at_place nodes p (node_within p (term.Const c) h) in
       content.1 ∙ ap (λ n. Some n) (subst (λ l. IsNodeAt m rows places T p l content.0) (out-Const c) (built.nodes_are.each p (term.Const c) content.0 h content.1))
@@ -301,7 +302,7 @@ module _ (S : Schema) (P : Presentation) (m : Content) (rows : List ℕ) (schema
       (Derives-symmetric S P (Typ g.left) (Typ t) (stands_derives g.left t a sorts.0.0 sorts.0.1 g.stands left))
       (Derives-transitive S P (Typ g.left) (Typ g.right) (Typ u) equal (stands_derives g.right u b sorts.1.0 sorts.1.1 g.stands' right))
 
-  from_constants : (a b c : ℕ) (t u : TypeTerm) → slice_get nodes a ≡ Some (node.Const c) → slice_get nodes b ≡ Some (node.Const c) → slice_get T a ≡ Some t → slice_get T b ≡ Some u → Derives S P (Typ t) (Typ u)
+  from_constants : (a b : ℕ) (c : Con) (t u : TypeTerm) → slice_get nodes a ≡ Some (node.Const c) → slice_get nodes b ≡ Some (node.Const c) → slice_get T a ≡ Some t → slice_get T b ≡ Some u → Derives S P (Typ t) (Typ u)
   from_constants a b c t u e f left right =
       let same : t ≡ u = constant_at a c t left e ∙ sym (constant_at b c u right f) in
       let ground = node_ground a t left in

@@ -3,6 +3,8 @@ use Rattle.std.proofs.Common.{ℕ, true, List, [], ◌∷◌, Option, Some, None
 use Rattle.std.specs.Prelude.{slice_get, option_and_then, option_map, All}
 use Rattle.std.proofs.lemmas.Option.{option_and_then_some}
 use Rattle.cq_base.specs.declared.name.Name.{Name}
+use Rattle.cq_theory.proofs.Constants.{constant_type-within}
+use Rattle.cq_theory.specs.declared.constant.Con.{Con}
 use Rattle.cq_theory.specs.declared.presentation.Presentation.{Presentation}
 use Rattle.cq_theory.specs.declared.presentation.Sort.{Sort}
 use Rattle.cq_theory.specs.declared.presentation.Sort.TheVariants.{Plain, Entity}
@@ -24,7 +26,7 @@ use Rattle.cq_model.proofs.Lists.{All_at}
 pub out-Gen : (n : ℕ) → out-TypeTerm (Gen n) ≡ layer.Gen n
 out-Gen n = ap out-TypeTerm (sym (rolls-Gen n)) ∙ out-roll-TypeTerm (layer.Gen n)
 
-pub out-Const : (c : ℕ) → out-TypeTerm (Const c) ≡ layer.Const c
+pub out-Const : (c : Con) → out-TypeTerm (Const c) ≡ layer.Const c
 out-Const c = ap out-TypeTerm (sym (rolls-Const c)) ∙ out-roll-TypeTerm (layer.Const c)
 
 pub out-Fun : (f : ℕ) (ts : List TypeTerm) → out-TypeTerm (Fun f ts) ≡ layer.Fun f ts
@@ -90,9 +92,7 @@ module _ (S : Schema) (P : Presentation) (schema : IsSchema S) (presentation : I
       let g = type_at_some (slice_get P.generators n) type (typed_generator S P.generators n type h) in
       subst (IsSort S) g.2 (All_at (λ (g : Name × Sort). IsSort S g.1) P.generators n g.0 presentation.generators g.1))
       (λ c type h.
-      let constant = option_map_some (λ (constant : Name × ℕ). constant.1) (slice_get S.typeside.constants c) type (sym (fold-Const (Option ℕ) (type_step S P.generators) c) ∙ h) in
-      subst (λ type. type < length S.typeside.types) constant.2
-      (All_at (λ (constant : Name × ℕ). constant.1 < length S.typeside.types) S.typeside.constants c constant.0 schema.typeside.constants constant.1))
+      constant_type-within S.typeside schema.typeside c type (sym (fold-Const (Option ℕ) (type_step S P.generators) c) ∙ h))
       (λ a t type h.
       let cell = typed_cell S P.generators a t type h in
       subst (λ type. type < length S.typeside.types) cell.to

@@ -13,6 +13,10 @@ use Rattle.cq_model.specs.Closed.{AreClosed}
 use Rattle.cq_model.specs.LeastNames.{rows_at}
 use Rattle.cq_model.specs.NodeTerms.{node_terms, cell_place, StandsAt, StandsFor, EachStands}
 use Rattle.cq_model.specs.Built.{IsClosureOf, IsBuilt, tables_of, assignment_of}
+use Rattle.cq_theory.specs.Constant.{IsAtMost}
+use Rattle.cq_theory.proofs.Constants.{at_most-itself}
+use Rattle.cq_theory.specs.declared.constant.Con.{Con}
+use Rattle.cq_theory.specs.declared.constant.Con.TheVariants.{Named}
 use Rattle.cq_theory.specs.declared.presentation.Presentation.{Presentation}
 use Rattle.cq_theory.specs.declared.presentation.Sort.TheVariants.{Plain}
 use Rattle.cq_theory.specs.declared.schema.Edge.{Edge}
@@ -233,18 +237,18 @@ module _ (S : Schema) (P : Presentation) (m : Content) (rows : List ℕ) (schema
 
     -- What terms mean, without a clash.
 
-    constants_differ : (c d : ℕ) → AreEqualConstants nodes equations c d → c ≡ d
-    constants_differ = MatchOption-at_none ((c d : ℕ) → AreEqualConstants nodes equations c d → c ≡ d) (IsLeastClash nodes equations) consistent closure.clash
+    constants_differ : (c d : Con) → AreEqualConstants nodes equations c d → c ≡ d
+    constants_differ = MatchOption-at_none ((c d : Con) → AreEqualConstants nodes equations c d → c ≡ d) (IsLeastClash nodes equations) consistent closure.clash
 
     -- a constant is its own value
-    agree : (p c : ℕ) → slice_get nodes p ≡ Some (node.Const c) → value.Const c ≡ value_here p
+    agree : (p : ℕ) (c : Con) → slice_get nodes p ≡ Some (node.Const c) → value.Const c ≡ value_here p
     agree p c h =
         let within = slice_get_within nodes p (node.Const c) h in
         let least : IsLeastConstant nodes equations p c = record {
           has = record { at = p; is = h; equal = congruent.reflexive p within };
-          least = λ d has. let same : c ≡ d = constants_differ c d (record { left = p; right = has.at; left_is = h; right_is = has.is; equal = has.equal }) in omega arith;
+          least = λ d has. let same : c ≡ d = constants_differ c d (record { left = p; right = has.at; left_is = h; right_is = has.is; equal = has.equal }) in subst (IsAtMost c) same (at_most-itself c);
         } in
-        sym (get_or_from_slice_get flat.values p (value.Const c) (value.Const 0) ((closure.values.constant p c within).1 least))
+        sym (get_or_from_slice_get flat.values p (value.Const c) (value.Const (Named 0)) ((closure.values.constant p c within).1 least))
 
     abbrev value_with_constants : TypeTerm → Value
     value_with_constants = meanings_say.value_with S P m rows schema presentation closed order names numbers places nodes equations types built flat closure value.Const agree
@@ -277,12 +281,12 @@ module _ (S : Schema) (P : Presentation) (m : Content) (rows : List ℕ) (schema
     pub node_values : map (value_of M A) T ≡ flat.values
     node_values = same_lists (map (value_of M A) T) flat.values (length-map T (value_of M A) ∙ sym built.nodes_are.count ∙ sym closure.values.count) (λ p v w h h'.
         let t : (t : TypeTerm) × (slice_get T p ≡ Some t) × (value_of M A t ≡ v) = get-map_from (value_of M A) T p v h in
-        sym t.2 ∙ node_value p t.0 t.1 ∙ get_or_from_slice_get flat.values p w (value.Const 0) h')
+        sym t.2 ∙ node_value p t.0 t.1 ∙ get_or_from_slice_get flat.values p w (value.Const (Named 0)) h')
 
     -- a value as a term
     abbrev term_step : value_layer.Value-F TypeTerm → TypeTerm
     term_step (value_layer.Const c) = term.Const c
-    term_step (value_layer.Null n) = slice_index_or T (slice_index flat.nulls n) (term.Const 0)
+    term_step (value_layer.Null n) = slice_index_or T (slice_index flat.nulls n) (term.Const (Named 0))
     term_step (value_layer.Fun f args) = term.Fun f args
 
     abbrev pub term_in : Value → TypeTerm
@@ -301,7 +305,7 @@ module _ (S : Schema) (P : Presentation) (m : Content) (rows : List ℕ) (schema
               let at = closure_says.null_of S P m rows schema presentation closed order names numbers places nodes equations types built flat closure p null.0 l null.1 in
               let u = term_at at.at at.within in
               let is : term_in (value_here p) ≡ u.0 = ap term_in null.1 ∙ values_say.fold-Null TypeTerm term_step null.0
-              ∙ ap (λ k. slice_index_or T k (term.Const 0)) (get_or_from_slice_get flat.nulls null.0 at.at 0 at.first) ∙ get_or_from_slice_get T at.at u.0 (term.Const 0) u.1 in
+              ∙ ap (λ k. slice_index_or T k (term.Const (Named 0))) (get_or_from_slice_get flat.nulls null.0 at.at 0 at.first) ∙ get_or_from_slice_get T at.at u.0 (term.Const (Named 0)) u.1 in
               subst (Equal t) (sym is) (congruent_equal_terms at.equal t u.0 h u.1)
         ]
 

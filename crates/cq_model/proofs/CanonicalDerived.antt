@@ -5,6 +5,7 @@ use Rattle.std.specs.List.{flat_map, enumerate_from}
 use Rattle.std.proofs.lemmas.Bool.{and_parts, eq-eqb, cases_lt}
 use Rattle.std.proofs.lemmas.List.{get_or_past, append-nil}
 use Rattle.std.proofs.lemmas.Option.{option_and_then_some, slice_get-get_or}
+use Rattle.cq_theory.specs.declared.constant.Con.{Con}
 use Rattle.cq_theory.specs.declared.presentation.Equation.{Equation}
 use Rattle.cq_theory.specs.declared.presentation.Presentation.{Presentation}
 use Rattle.cq_theory.specs.declared.presentation.Sort.{Sort}
@@ -162,7 +163,7 @@ module _ (S : Schema) (M : Tables) (schema : IsSchema S) (well : IsWellFormed S 
       let is : term.Gen n ≡ as_term (value_of M A (term.Gen n)) = ap term.Gen at.2 ∙ sym (ap as_term means ∙ values.fold-Null TypeTerm (value_term_step S M) at.0) in
       derives_same (term.Gen n) (term.Gen n) (as_term (value_of M A (term.Gen n))) (reflexive (term.Gen n) type h) is
 
-  const_valued : (c : ℕ) → IsValued (term.Const c)
+  const_valued : (c : Con) → IsValued (term.Const c)
   const_valued c type h =
       let is : term.Const c ≡ as_term (value_of M A (term.Const c)) = sym (ap as_term (fold-Const Value (value_step M A) c) ∙ values.fold-Const TypeTerm (value_term_step S M) c) in
       derives_same (term.Const c) (term.Const c) (as_term (value_of M A (term.Const c))) (reflexive (term.Const c) type h) is

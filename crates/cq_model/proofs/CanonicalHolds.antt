@@ -6,6 +6,7 @@ use Rattle.std.proofs.lemmas.Bool.{eqb-true, eq-eqb}
 use Rattle.std.proofs.lemmas.List.FromFn.{length-range_with_len}
 use Rattle.std.proofs.lemmas.Option.{slice_get_within, slice_get-get_or}
 use Rattle.cq_base.specs.declared.name.Name.{Name}
+use Rattle.cq_theory.specs.declared.constant.Con.TheVariants.{Named}
 use Rattle.cq_theory.specs.declared.presentation.Equation.{Equation}
 use Rattle.cq_theory.specs.declared.presentation.Sort.{Sort}
 use Rattle.cq_theory.specs.declared.presentation.Sort.TheVariants.{Plain, Entity}
@@ -92,7 +93,7 @@ module _ (S : Schema) (M : Tables) where
     cell_is e row a edge inside at from =
         let column = well.cell_columns a edge at in
         let there : row < count_of M edge.from = subst (λ n. row < count_of M n) (sym from) inside in
-        let cell = column.1 row (value.Const 0) (subst (λ n. row < n) (sym column.0) there) in
+        let cell = column.1 row (value.Const (Named 0)) (subst (λ n. row < n) (sym column.0) there) in
         record { typed = cell.0; normal = cell.1 }
 
     pub record IsKey (k row : ℕ) (edge : Edge) : Type 0 where
@@ -189,7 +190,7 @@ module _ (S : Schema) (M : Tables) where
           let column = well.cell_columns a edge at in
           let there : row < count_of M edge.from = subst (λ n. row < count_of M n) (sym from) inside in
           let among : a < length M.sheet.cells = omega (arith, slice_get_within S.attributes a edge at, well.attributes) in
-          cells_fit a [] among row (value.Const 0) (subst (λ n. row < n) (sym column.0) there)
+          cells_fit a [] among row (value.Const (Named 0)) (subst (λ n. row < n) (sym column.0) there)
 
       cell_right : (e row a : ℕ) (edge : Edge) → e < length S.entities → row < count_of M e → slice_get S.attributes a ≡ Some edge → edge.from ≡ e → IsRight (cell_equation S M e row (a, edge))
       cell_right e row a edge within inside at from =

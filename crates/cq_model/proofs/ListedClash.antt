@@ -12,6 +12,7 @@ use Rattle.cq_model.specs.declared.places.Places.{Places}
 use Rattle.cq_model.specs.Closed.{AreClosed}
 use Rattle.cq_model.specs.NodeTerms.{node_terms}
 use Rattle.cq_model.specs.Built.{IsClosureOf, IsBuilt}
+use Rattle.cq_theory.specs.declared.constant.Con.{Con}
 use Rattle.cq_theory.specs.declared.presentation.Presentation.{Presentation}
 use Rattle.cq_theory.specs.SchemaData.{SchemaData as Schema}
 use Rattle.cq_theory.specs.Schema.{IsSchema}
@@ -22,24 +23,26 @@ use Rattle.cq_theory.specs.declared.term.TypeTerm.TheVariants as term
 use Rattle.cq_theory.specs.declared.value.Value.{Value}
 use Rattle.cq_theory.specs.declared.value.Value.TheVariants as value
 use Rattle.cq_theory.specs.Closing.{AreEqual, IsInconsistentAt}
+use Rattle.cq_theory.specs.Constant.{IsLesser}
+use Rattle.cq_theory.proofs.Constants.{con_decided, lesser-irreflexive}
 use Rattle.cq_theory.proofs.TypeTerms.{fold-Const}
 use Rattle.cq_model.proofs.BuiltNodes.{term_at, constant_at}
 use Rattle.cq_model.proofs.BuiltClosure.{equal_congruent, congruent_equal, constant_of}
 use Rattle.cq_model.proofs.BuiltValues.{with_step, congruent_derives, derived_values}
 
 -- the place of a constant's node
-abbrev HasNode : List Node → ℕ → Type 0
+abbrev HasNode : List Node → Con → Type 0
 HasNode nodes c = (p : ℕ) × (slice_get nodes p ≡ Some (node.Const c))
 
-at_head : (n : Node) (c : ℕ) → (n ≡ node.Const c) ⊎ (n ≡ node.Const c → ⊥)
+at_head : (n : Node) (c : Con) → (n ≡ node.Const c) ⊎ (n ≡ node.Const c → ⊥)
 at_head node.Leaf c = inr (λ h. cc)
-at_head (node.Const d) c = elim (cases_eq d c) [
+at_head (node.Const d) c = elim (con_decided d c) [
   | inl same ↦ inl (ap node.Const same)
   | inr other ↦ inr (λ h. let same : d ≡ c = cc in other same)
 ]
 at_head (node.Fun f args) c = inr (λ h. cc)
 
-has_node : (nodes : List Node) (c : ℕ) → HasNode nodes c ⊎ (HasNode nodes c → ⊥)
+has_node : (nodes : List Node) (c : Con) → HasNode nodes c ⊎ (HasNode nodes c → ⊥)
 has_node [] c = inr (λ h. let none : slice_get [] h.0 ≡ Some (node.Const c) = h.1 in cc)
 has_node (n ∷ ns) c = go (at_head n c) (has_node ns c)
   where
@@ -57,14 +60,14 @@ module _ (S : Schema) (P : Presentation) (m : Content) (rows : List ℕ) (schema
     (built : IsBuilt S P m rows order names numbers places nodes equations types)
     (flat : Closure) (closure : IsClosureOf nodes equations flat) where
   -- a constant means the value of its node, or itself if it has none
-  abbrev meaning : (c : ℕ) → HasNode nodes c ⊎ (HasNode nodes c → ⊥) → Value
+  abbrev meaning : (c : Con) → HasNode nodes c ⊎ (HasNode nodes c → ⊥) → Value
   meaning c (inl h) = value_at flat.values h.0
   meaning c (inr none) = value.Const c
 
-  abbrev meanings : ℕ → Value
+  abbrev meanings : Con → Value
   meanings c = meaning c (has_node nodes c)
 
-  agree : (p c : ℕ) → slice_get nodes p ≡ Some (node.Const c) → meanings c ≡ value_at flat.values p
+  agree : (p : ℕ) (c : Con) → slice_get nodes p ≡ Some (node.Const c) → meanings c ≡ value_at flat.values p
   agree p c found = go (has_node nodes c)
     where
       go : (x : HasNode nodes c ⊎ (HasNode nodes c → ⊥)) → meaning c x ≡ value_at flat.values p
@@ -72,10 +75,10 @@ module _ (S : Schema) (P : Presentation) (m : Content) (rows : List ℕ) (schema
       go (inr none) = absurd (none (p, found))
 
   -- a node whose value is a constant is equal to a node of it
-  constant_node : (a c : ℕ) → a < length nodes → value_at flat.values a ≡ value.Const c → HasNode nodes c
+  constant_node : (a : ℕ) (c : Con) → a < length nodes → value_at flat.values a ≡ value.Const c → HasNode nodes c
   constant_node a c within is = let node = constant_of S P m rows schema presentation closed order names numbers places nodes equations types built flat closure a c within is in (node.at, node.is)
 
-  derived_constants : (b e : ℕ) → b < e → AreEqual S P b e → AreEqualConstants nodes equations b e
+  derived_constants : (b e : Con) → IsLesser b e → AreEqual S P b e → AreEqualConstants nodes equations b e
   derived_constants b e less derived = go (has_node nodes b) (has_node nodes e) same
     where
       same : meanings b ≡ meanings e
@@ -98,17 +101,17 @@ module _ (S : Schema) (P : Presentation) (m : Content) (rows : List ℕ) (schema
           }
       go (inl x) (inr none) is = absurd (none (constant_node x.0 e (slice_get_within nodes x.0 (node.Const b) x.1) is))
       go (inr none) (inl y) is = absurd (none (constant_node y.0 b (slice_get_within nodes y.0 (node.Const e) y.1) (sym is)))
-      go (inr none) (inr none') is = let one : b ≡ e = cc in absurd (omega (arith, less, one))
+      go (inr none) (inr none') is = let one : b ≡ e = cc in absurd (lesser-irreflexive e (subst (λ z. IsLesser z e) one less))
 
   -- the term of a constant's node is the constant
-  constant_term : (p c : ℕ) → slice_get nodes p ≡ Some (node.Const c) → slice_get (node_terms S P names) p ≡ Some (term.Const c)
+  constant_term : (p : ℕ) (c : Con) → slice_get nodes p ≡ Some (node.Const c) → slice_get (node_terms S P names) p ≡ Some (term.Const c)
   constant_term p c found =
       let t = term_at S P m rows schema presentation closed order names numbers places nodes equations types built flat closure p (slice_get_within nodes p (node.Const c) found) in
       t.1 ∙ ap (λ (u : TypeTerm). Some u) (constant_at S P m rows schema presentation closed order names numbers places nodes equations types built flat closure p c t.0 t.1 found)
 
-  pub inconsistent_at : (c d : ℕ) → flat.clash ≡ Some (c, d) → IsInconsistentAt S P c d
+  pub inconsistent_at : (c d : Con) → flat.clash ≡ Some (c, d) → IsInconsistentAt S P c d
   inconsistent_at c d clash =
-      let least : IsLeastClash nodes equations (c, d) = MatchOption-at_some ((c d : ℕ) → AreEqualConstants nodes equations c d → c ≡ d) (IsLeastClash nodes equations) (c, d) clash closure.clash in
+      let least : IsLeastClash nodes equations (c, d) = MatchOption-at_some ((c d : Con) → AreEqualConstants nodes equations c d → c ≡ d) (IsLeastClash nodes equations) (c, d) clash closure.clash in
       let equal : AreEqualConstants nodes equations c d = least.equal in
       record {
         greater = least.greater;

@@ -14,6 +14,7 @@ use Rattle.cq_model.specs.Closed.{AreClosed}
 use Rattle.cq_model.specs.LeastNames.{terms_at}
 use Rattle.cq_model.specs.NodeTerms.{side_terms, given_sides, leaf_terms, node_terms, EachStands, IsNodeAt}
 use Rattle.cq_model.specs.Built.{IsClosureOf, IsBuilt, tables_of, assignment_of}
+use Rattle.cq_theory.specs.declared.constant.Con.{Con}
 use Rattle.cq_theory.specs.declared.presentation.Presentation.{Presentation}
 use Rattle.cq_theory.specs.declared.presentation.Sort.{Sort}
 use Rattle.cq_theory.specs.declared.presentation.Sort.TheVariants.{Plain}
@@ -103,7 +104,7 @@ module _ (S : Schema) (P : Presentation) (m : Content) (rows : List ℕ) (schema
   no_generator_entry : (n : ℕ) → node_entry S P M A (term.Gen n) ≡ None
   no_generator_entry n = rw (out-Gen n, node_entry)
 
-  no_constant_entry : (c : ℕ) → node_entry S P M A (term.Const c) ≡ None
+  no_constant_entry : (c : Con) → node_entry S P M A (term.Const c) ≡ None
   no_constant_entry c = rw (out-Const c, node_entry)
 
   no_cell_entry : (a : ℕ) (t : EntTerm) → node_entry S P M A (term.Att a t) ≡ None

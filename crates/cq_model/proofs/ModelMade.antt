@@ -18,6 +18,9 @@ use Rattle.cq_model.specs.Standing.{meaning}
 use Rattle.cq_model.proofs.BuiltListed as built_says
 use Rattle.cq_model.proofs.BuiltNodes.{at_place, function_node}
 use Rattle.cq_model.proofs.Lists.{All_from}
+use Rattle.cq_theory.specs.Constant.{IsLesser}
+use Rattle.cq_theory.proofs.Constants.{lesser-irreflexive}
+use Rattle.cq_theory.specs.declared.constant.Con.{Con}
 use Rattle.cq_theory.specs.declared.presentation.Presentation.{Presentation}
 use Rattle.cq_theory.specs.SchemaData.{SchemaData as Schema}
 use Rattle.cq_theory.specs.Schema.{IsSchema}
@@ -69,7 +72,7 @@ module _ (S : Schema) (P : Presentation) (m : Content) (rows : List ℕ)
         subst IsListed (sym parts_are) (record { lists = lists.0; least = lists.1 })
 
 -- equal constants mean one value
-one_constant : (M : Tables) (A : Assignment) (c d : ℕ) → meaning_of M A (Typ (term.Const c)) ≡ meaning_of M A (Typ (term.Const d)) → c ≡ d
+one_constant : (M : Tables) (A : Assignment) (c d : Con) → meaning_of M A (Typ (term.Const c)) ≡ meaning_of M A (Typ (term.Const d)) → c ≡ d
 one_constant M A c d h =
     let values : value_of M A (term.Const c) ≡ value_of M A (term.Const d) = one_value (value_of M A (term.Const c)) (value_of M A (term.Const d)) h in
     let constants : value.Const c ≡ value.Const d = sym (fold-Const Value (value_step M A) c) ∙ values ∙ fold-Const Value (value_step M A) d in
@@ -82,4 +85,4 @@ one_constant M A c d h =
 pub listed_consistent : (i : InstanceData) → IsSchema i.schema → IsListed i → IsInconsistent i.schema i.presentation → ⊥
 listed_consistent i schema listed h =
     let same : h.0 ≡ h.1 = one_constant i.tables i.assignment h.0 h.1 (meaning_of-derived i.schema i.presentation i.tables i.assignment schema listed.lists.initial.holds (Typ (term.Const h.0)) (Typ (term.Const h.1)) h.2.equal) in
-    omega (arith, same, h.2.greater)
+    lesser-irreflexive h.1 (subst (λ z. IsLesser z h.1) same h.2.greater)

@@ -14,6 +14,7 @@ use Rattle.cq_model.specs.declared.places.Places.{Places}
 use Rattle.cq_model.specs.NodeListData.{NodeListData}
 use Rattle.cq_model.specs.NodeTerms.{made_terms, made_step, side_terms, cell_place, StandsAt, StandsFor, EachStands, IsNodeAt, AreNodes, AreSidesOf, AreTypes}
 use Rattle.cq_model.specs.Pushing.{HavePlaces, AreReadable, IsReadable, IsPlacing, AreTermsOf, AreEquationsOf, IsPushed, IsEquated}
+use Rattle.cq_theory.specs.declared.constant.Con.{Con}
 use Rattle.cq_theory.specs.declared.presentation.Presentation.{Presentation}
 use Rattle.cq_theory.specs.SchemaData.{SchemaData as Schema}
 use Rattle.cq_theory.specs.declared.term.EntTerm.{EntTerm}
@@ -28,7 +29,7 @@ use Rattle.cq_model.proofs.Lists.{get-append_front, map-append}
 use Rattle.cq_model.proofs.Variants.{out-Att}
 use Rattle.cq_model.proofs.PlacedLeaves.{out-Gen}
 
-pub out-Const : (c : ℕ) → out-TypeTerm (term.Const c) ≡ layer.Const c
+pub out-Const : (c : Con) → out-TypeTerm (term.Const c) ≡ layer.Const c
 out-Const c = ap out-TypeTerm (sym (rolls-Const c)) ∙ out-roll-TypeTerm (layer.Const c)
 
 pub out-Fun : (f : ℕ) (ts : List TypeTerm) → out-TypeTerm (term.Fun f ts) ≡ layer.Fun f ts
@@ -37,7 +38,7 @@ out-Fun f ts = ap out-TypeTerm (sym (rolls-Fun f ts)) ∙ out-roll-TypeTerm (lay
 pub made-Gen : (n : ℕ) → made_terms (term.Gen n) ≡ []
 made-Gen n = para-Gen (List TypeTerm) made_step n
 
-pub made-Const : (c : ℕ) → made_terms (term.Const c) ≡ term.Const c ∷ []
+pub made-Const : (c : Con) → made_terms (term.Const c) ≡ term.Const c ∷ []
 made-Const c = para-Const (List TypeTerm) made_step c
 
 pub made-Att : (a : ℕ) (t : EntTerm) → made_terms (term.Att a t) ≡ []

@@ -8,6 +8,8 @@ use Rattle.cq_tables.specs.Content.{Content, live_of, end_of, keys_of}
 use Rattle.cq_tables.specs.Content.{entity_of as row_entity}
 use Rattle.cq_rows.specs.Rows.{row_of_term}
 use Rattle.cq_rows.proofs.Bridge.{map_some}
+use Rattle.cq_theory.specs.Typeside.{constant_type}
+use Rattle.cq_theory.specs.declared.constant.Con.{Con}
 use Rattle.cq_theory.specs.SchemaData.{SchemaData as Schema}
 use Rattle.cq_theory.specs.declared.typeside.Fun.{Fun as Function}
 use Rattle.cq_theory.specs.declared.term.EntTerm.{EntTerm}
@@ -84,20 +86,18 @@ module _ (S : Schema) (m : Content) (places : Places) where
       map_and_then : (f : ℕ → Option ℕ) (o : Option ℕ) (type : ℕ) → option_and_then f o ≡ Some type → (e : ℕ) × (o ≡ Some e)
       map_and_then f o type h = option_and_then_some f o type h (λ e is _. (e, is))
 
-  -- the place of a constant, as a list with what the typeside has
-  pub constant_known : (rows : List ℕ) (count c : ℕ) (t : TypeTerm) (constants : List (Name × ℕ)) → t ≡ Const c → constants ≡ S.typeside.constants → IsReadable S m places rows count t → c < length constants
-  constant_known rows count c t constants is same h =
+  -- a constant has a type
+  pub constant_known : (rows : List ℕ) (count : ℕ) (c : Con) (t : TypeTerm) → t ≡ Const c → IsReadable S m places rows count t → IsSome (constant_type S.typeside c)
+  constant_known rows count c t is h =
       let sort : type_of S h.generators (Const c) ≡ Some h.type = ap (type_of S h.generators) (sym is) ∙ h.sort in
-      let found = map_some (λ (constant : Name × ℕ). constant.1) (slice_get S.typeside.constants c) h.type (sym (fold-Const (Option ℕ) (type_step S h.generators) c) ∙ sort) in
-      subst (λ (l : List (Name × ℕ)). c < length l) (sym same) (slice_get_within S.typeside.constants c found.0 found.1)
+      subst (λ (o : Option ℕ). IsSome o) (sym (sym (fold-Const (Option ℕ) (type_step S h.generators) c) ∙ sort)) tt
 
   -- a constant behind the others
-  pub readable_constant : (rows : List ℕ) (old new : NodeListData) (c place : ℕ) (constant : Name × ℕ) → slice_get S.typeside.constants c ≡ Some constant → place ≡ length old.nodes
-      → new ≡ record { nodes = old.nodes ++ node.Const c ∷ []; types = old.types ++ constant.1 ∷ []; equations = old.equations } → IsPushed S m places rows old new (Const c) place
-  readable_constant rows old new c place constant found place_is added =
-      pushed_const S m places rows old new c constant.1 place place_is added (λ G type sort.
-      let other = map_some (λ (constant : Name × ℕ). constant.1) (slice_get S.typeside.constants c) type (sym (fold-Const (Option ℕ) (type_step S G) c) ∙ sort) in
-      sym other.2 ∙ ap (λ (k : Name × ℕ). k.1) (same_Some other.0 constant (sym other.1 ∙ found)))
+  pub readable_constant : (rows : List ℕ) (old new : NodeListData) (c : Con) (place kind : ℕ) → constant_type S.typeside c ≡ Some kind → place ≡ length old.nodes
+      → new ≡ record { nodes = old.nodes ++ node.Const c ∷ []; types = old.types ++ kind ∷ []; equations = old.equations } → IsPushed S m places rows old new (Const c) place
+  readable_constant rows old new c place kind found place_is added =
+      pushed_const S m places rows old new c kind place place_is added (λ G type sort.
+      same_Some type kind (sym (sym (fold-Const (Option ℕ) (type_step S G) c) ∙ sort) ∙ found))
 
   -- the same of a function
   pub function_known : (rows : List ℕ) (count f : ℕ) (ts : List TypeTerm) (t : TypeTerm) (functions : List Function) → t ≡ Fun f ts → functions ≡ S.typeside.functions → IsReadable S m places rows count t

@@ -1,6 +1,7 @@
 -- What the generators and the equations of the canonical presentation are made of: the numbers of generators, and the edges of each entity by their numbers.
 use Rattle.std.specs.Prelude.{ℕ, List, [], ◌∷◌, ◌++◌, ◌+◌, ◌<◌, ◌^◌, All, map, length, sum, take, replicate, slice_index, slice_index_or}
 use Rattle.std.specs.List.{flat_map, range_with_len}
+use Rattle.cq_theory.specs.declared.constant.Con.TheVariants.{Named}
 use Rattle.cq_theory.specs.declared.presentation.Equation.{Equation}
 use Rattle.cq_theory.specs.declared.presentation.Equation.TheVariants.{Ent, Typ}
 use Rattle.cq_theory.specs.declared.presentation.Sort.{Sort}
@@ -65,7 +66,7 @@ module _ (sheet : Sheet) (numbers : Numbers) where
 
   abbrev pub cell_made : ℕ → ℕ → ℕ → Equation
   cell_made generator row a =
-      Typ (term.Att a (record { generator = generator; path = [] })) (value_made numbers.first_null numbers.nulls (slice_index_or (slice_index_or sheet.cells a []) row (value.Const 0)))
+      Typ (term.Att a (record { generator = generator; path = [] })) (value_made numbers.first_null numbers.nulls (slice_index_or (slice_index_or sheet.cells a []) row (value.Const (Named 0))))
 
   abbrev pub key_made : ℕ → ℕ → ℕ → Equation
   key_made generator row k = Ent (record { generator = generator; path = k ∷ [] }) (record { generator = target_generator k row; path = [] })

@@ -7,6 +7,7 @@ use Rattle.cq_rows.specs.Rows.{AllFilled, row_of_term}
 use Rattle.cq_model.specs.declared.places.Places.{Places}
 use Rattle.cq_model.specs.NodeListData.{NodeListData}
 use Rattle.cq_model.specs.NodeTerms.{made_terms, side_terms, cell_place, StandsFor, AreNodes, AreSidesOf, AreTypes}
+use Rattle.cq_theory.specs.declared.constant.Con.{Con}
 use Rattle.cq_theory.specs.declared.presentation.Presentation.{Presentation}
 use Rattle.cq_theory.specs.declared.schema.Edge.{Edge}
 use Rattle.cq_theory.specs.SchemaData.{SchemaData as Schema}
@@ -43,7 +44,7 @@ module _ (S : Schema) (m : Content) (places : Places) where
   -- each such term as a term over the presentation, where `entries` has the rows of its generators
   pub record IsPlacing (P : Presentation) (entries : List ℕ) (G : Generators) (rows : List ℕ) (placed : TypeTerm → TypeTerm) (named : EntTerm → EntTerm) : Type 0 where
     pub gen : (n : ℕ) → placed (term.Gen n) ≡ term.Gen n
-    pub constant : (c : ℕ) → placed (term.Const c) ≡ term.Const c
+    pub constant : (c : Con) → placed (term.Const c) ≡ term.Const c
     pub attribute : (a : ℕ) (t : EntTerm) → placed (term.Att a t) ≡ term.Att a (named t)
     pub function : (f : ℕ) (ts : List TypeTerm) → placed (term.Fun f ts) ≡ term.Fun f (map placed ts)
     pub row : (t : EntTerm) (e : ℕ) → entity_of S G t ≡ Some e → row_of_term m entries (named t) ≡ row_of_term m rows t

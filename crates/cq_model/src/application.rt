@@ -13,7 +13,7 @@ fn same_plain(left: &Value, right: &Value) -> bool
 {
     match left {
         Value::Const(constant) => match right {
-            Value::Const(other) => *constant == *other,
+            Value::Const(other) => constant == other,
             Value::Null(_) => false,
             Value::Fun(_, _) => false,
         },

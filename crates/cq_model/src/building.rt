@@ -3,6 +3,7 @@ ghost use Rattle.std.specs.Prelude.{ℕ, List, ◌≡◌, ◌≤◌, ◌<◌, �
 ghost use Rattle.cq_flat.specs.declared.node.Node.{Node};
 ghost use Rattle.cq_flat.specs.Nodes.{HasEarlierArguments, AreSides};
 ghost use Rattle.cq_rows.specs.Saturated.{NoneCloses, SomeWide};
+ghost use Rattle.cq_theory.specs.declared.constant.Con.{Con};
 ghost use Rattle.cq_theory.specs.Closing.{IsInconsistent, IsInconsistentAt};
 ghost use Rattle.cq_theory.specs.Presentation.{IsPresentation};
 ghost use Rattle.cq_model.specs.Built.{IsBuilt, IsClosureOf, tables_of, assignment_of};
@@ -29,19 +30,19 @@ use cq_base::Seq;
 use cq_flat::Flat;
 use cq_rows::{RowsRefusal, saturate};
 use cq_tables::Tables;
-use cq_theory::{Algebra, Presentation, Schema, Sheet};
+use cq_theory::{Algebra, Con, Presentation, Schema, Sheet};
 use std::alloc::{AllocError, Global};
 use std::rc::Rc;
 
 /// Why there is no instance.
-#[derive(Clone, Copy, Debug, PartialEq, Eq)]
+#[derive(Drop)]
 pub enum BuildRefusal {
     /// The presentation closes at no depth up to the given one.
     Depth,
     /// A stage of the rows ended with more than 200,000 of them.
     TooManyRows,
-    /// Two constants are equal: the least that is equal to a greater one, and the least such greater one.
-    Inconsistent(u32, u32),
+    /// Two constants are equal: the least, in the order of constants, that is equal to a greater one, and the least such greater one.
+    Inconsistent(Con, Con),
     Memory,
 }
 
@@ -232,7 +233,7 @@ fn model_parts(
     let (list, places) = make_nodes(alloc, schema, presentation, tables, entries, numbered)?;
     let (flat, types) = close_nodes(alloc, list)?;
     if let Some((least, greater)) = flat.clash() {
-        return Err(BuildRefusal::Inconsistent(least, greater));
+        return Err(BuildRefusal::Inconsistent(least.clone()?, greater.clone()?));
     }
     let parts = read_parts(
         alloc,
@@ -296,7 +297,7 @@ pub fn build(
     ensures consistent { IfOk result (λ _. IsInconsistent schema.value presentation → ⊥) }
     ensures open { result ≡ Err Depth → NoneCloses schema.value presentation depth }
     ensures many { result ≡ Err TooManyRows → SomeWide schema.value presentation depth }
-    ensures inconsistent { (c d : ℕ) → result ≡ Err (Inconsistent c d) → IsInconsistentAt schema.value presentation c d }
+    ensures inconsistent { (c d : Con) → result ≡ Err (Inconsistent c d) → IsInconsistentAt schema.value presentation c d }
 {
     let partial = match saturate(alloc, &schema, &presentation, depth) {
         Ok(partial) => partial,

@@ -180,7 +180,7 @@ impl Instance {
     {
         match term {
             TypeTerm::Gen(generator) => value_in(alloc, self.standing(*generator)),
-            TypeTerm::Const(constant) => Ok(Value::Const(*constant)),
+            TypeTerm::Const(constant) => Ok(Value::Const(constant.clone()?)),
             TypeTerm::Att(attribute, term) => copied(
                 alloc,
                 self.cell(*attribute, self.row_of(term)),

@@ -11,6 +11,7 @@ ghost use Rattle.cq_theory.specs.declared.presentation.Presentation.{Presentatio
 ghost use Rattle.cq_theory.specs.declared.term.EntTerm.{EntTerm};
 ghost use Rattle.cq_theory.specs.Schema.{IsSchema};
 ghost use Rattle.cq_theory.specs.Presentation.{IsPresentation};
+ghost use Rattle.cq_theory.specs.declared.constant.Con.{Con};
 ghost use Rattle.cq_theory.specs.Closing.{IsInconsistentAt};
 ghost use Rattle.cq_theory.specs.Listed.{Lists};
 ghost use Rattle.cq_model.specs.declared.places.Places.{Places};
@@ -30,5 +31,5 @@ pub fn read_models()
         → (order : List (List ℕ)) (names : List (List EntTerm)) (numbers : List ℕ) (places : Places) (nodes : List Node) (equations : List (ℕ × ℕ)) (types : List ℕ)
         → IsBuilt S P m rows order names numbers places nodes equations types
         → (flat : Closure) → IsClosureOf nodes equations flat
-        → (c d : ℕ) → flat.clash ≡ Some (c, d) → IsInconsistentAt S P c d }
+        → (c d : Con) → flat.clash ≡ Some (c, d) → IsInconsistentAt S P c d }
 {}

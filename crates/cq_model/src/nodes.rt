@@ -1,7 +1,8 @@
 //! The nodes of type terms, with their types and with equations between them.
-ghost use Rattle.std.specs.Prelude.{ℕ, ◌≡◌, ◌<◌, ◌^◌, ◌∷◌, ◌++◌, [], Some, length, IfOk, OnOk};
+ghost use Rattle.std.specs.Prelude.{ℕ, ◌≡◌, ◌<◌, ◌^◌, ◌∷◌, ◌++◌, [], Some, IsSome, length, IfOk, OnOk};
 ghost use Rattle.cq_rows.specs.Rows.{row_of_term};
 ghost use Rattle.cq_theory.specs.SchemaData.{SchemaData as Over};
+ghost use Rattle.cq_theory.specs.Typeside.{constant_type};
 ghost use Rattle.cq_theory.specs.declared.term.TypeTerm.TheVariants.{Att};
 ghost use Rattle.cq_model.specs.NodeTerms.{cell_place};
 ghost use Rattle.cq_model.specs.Pushing.{HavePlaces, IsReadable, IsPushed, IsEquated};
@@ -10,7 +11,7 @@ use crate::places::Places;
 use cq_base::Seq;
 use cq_flat::Node;
 use cq_tables::Tables;
-use cq_theory::{EntTerm, Schema, TypeTerm};
+use cq_theory::{Con, EntTerm, Schema, TypeTerm};
 use std::alloc::{AllocError, Global};
 use std::marker::Model;
 
@@ -92,6 +93,17 @@ fn place_of_cell(
     }
 }
 
+/// The type of a constant that has one.
+fn type_of(schema: &Schema, constant: &Con) -> u32
+    requires { IsSome (constant_type schema.now.typeside constant.now) }
+    ensures { constant_type schema.now.typeside constant.now ≡ Some result }
+{
+    match schema.typeside.type_of_constant(constant) {
+        Some(kind) => kind,
+        None => unreachable!(),
+    }
+}
+
 /// Adds the nodes of a term, arguments first, where `rows` has the row of each generator, and answers the place of the
 /// term's own node. An attribute of an entity term is the cell of the row to which that term leads.
 fn push_term(
@@ -110,8 +122,8 @@ fn push_term(
     match term {
         TypeTerm::Gen(generator) => Ok(places.generators.as_slice()[*generator as usize]),
         TypeTerm::Const(constant) => {
-            let kind = schema.typeside.constants.as_slice()[*constant as usize].1;
-            list.push(Node::Const(*constant), kind)
+            let kind = type_of(schema, constant);
+            list.push(Node::Const(constant.clone()?), kind)
         }
         TypeTerm::Att(attribute, term) => {
             // The number of nodes fits, and so does the place of a cell below it.

@@ -4,7 +4,7 @@ ghost use Rattle.cq_theory.specs.Tables.{row_in as row_meant, value_in as value_
 ghost use Rattle.cq_model.specs.Standing.{meaning};
 
 use crate::values::copied;
-use cq_theory::Value;
+use cq_theory::{Con, Value};
 use std::alloc::{AllocError, Global};
 
 /// The row of its entity or the value for which a generator stands.
@@ -29,7 +29,7 @@ pub fn value_in(alloc: Global, standing: &Standing) -> Result<Value, AllocError>
     ensures { IfOk result (λ value. value ≡ value_meant (meaning standing.now)) }
 {
     match standing {
-        Standing::Row(_) => Ok(Value::Const(0)),
+        Standing::Row(_) => Ok(Value::Const(Con::Named(0))),
         Standing::Value(value) => copied(alloc, value),
     }
 }

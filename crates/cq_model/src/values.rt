@@ -10,7 +10,7 @@ pub fn copied(alloc: Global, value: &Value) -> Result<Value, AllocError>
     ensures { IfOk result (λ made. made ≡ value.now) }
 {
     match value {
-        Value::Const(constant) => Ok(Value::Const(*constant)),
+        Value::Const(constant) => Ok(Value::Const(constant.clone()?)),
         Value::Null(label) => Ok(Value::Null(*label)),
         Value::Fun(function, args) => {
             let mut made = Vec::new(alloc);

@@ -3,3 +3,4 @@ mod Links
 mod Items
 mod Raws
 mod Parsing
+mod Endings

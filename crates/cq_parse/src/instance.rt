@@ -84,15 +84,16 @@ fn braced_options<'a>(alloc: Global, at: Cursor<'a>) -> Result<(Seq<Opt>, Cursor
     Ok((options, rest))
 }
 
-/// Files of comma-separated values, in a folder.
+/// A word, and the folder of files of comma-separated values that are imported.
 #[tactic(auto, unfolding(cq_syntax::specs::Grammar::import, cq_syntax::specs::Grammar::text))]
 fn import<'a>(
     alloc: Global,
+    word: Class,
     at: Cursor<'a>,
 ) -> Result<((Name, (Spot, Seq<Opt>)), Cursor<'a>), Halt<'a>>
-    ensures { Gives result (read grammar.import at.entry.tokens.now) }
+    ensures { Gives result (read (grammar.import word) at.entry.tokens.now) }
 {
-    let rest = skip(at, Class::ImportCsv)?;
+    let rest = skip(at, word)?;
     let (folder, rest) = text(alloc, rest)?;
     let rest = skip(rest, Class::Colon)?;
     let (schema, rest) = SpotRule::read(alloc, rest)?;
@@ -108,7 +109,7 @@ impl Production for InstanceRule {
 
     ghost rule = { grammar.instance };
 
-    #[tactic(auto, unfolding(cq_syntax::specs::Grammar::instance, cq_syntax::specs::Grammar::instance_literal, cq_syntax::specs::Grammar::coproduct))]
+    #[tactic(auto, unfolding(cq_syntax::specs::Grammar::instance, cq_syntax::specs::Grammar::instance_literal, cq_syntax::specs::Grammar::coproduct, cq_syntax::specs::Grammar::import))]
     fn read<'a>(alloc: Global, at: Cursor<'a>) -> Result<(InstanceExp, Cursor<'a>), Halt<'a>> {
         if is_next(at, Class::Literal) {
             let (literal, rest) = instance_literal(alloc, at)?;
@@ -138,7 +139,11 @@ impl Production for InstanceRule {
             let ((left, right), rest) = of_two(alloc, Class::Pushout, at)?;
             return Ok((InstanceExp::Pushout(left, right), rest));
         }
-        let ((folder, (schema, options)), rest) = import(alloc, at)?;
-        Ok((InstanceExp::ImportCsv(folder, schema, options), rest))
+        if is_next(at, Class::ImportCsv) {
+            let ((folder, (schema, options)), rest) = import(alloc, Class::ImportCsv, at)?;
+            return Ok((InstanceExp::ImportCsv(folder, schema, options), rest));
+        }
+        let ((folder, (schema, options)), rest) = import(alloc, Class::ImportCsv2, at)?;
+        Ok((InstanceExp::ImportCsv2(folder, schema, options), rest))
     }
 }

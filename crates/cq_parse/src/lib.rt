@@ -1,4 +1,4 @@
-//! Programs, read from their tokens.
+//! Programs, and terms, read from their tokens.
 #![tactic(auto)]
 
 mod colimit;
@@ -19,7 +19,8 @@ mod step;
 mod term;
 mod transform;
 mod typeside;
+mod whole;
 mod words;
 
-pub use parser::parse;
+pub use parser::{parse, parse_term};
 pub use refusal::ParseRefusal;

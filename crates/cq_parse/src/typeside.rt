@@ -1,7 +1,9 @@
 //! Typesides.
 ghost use Rattle.std.specs.Prelude.{◌≡◌};
+ghost use Rattle.cq_rules.specs.Rule.{read};
 ghost use Rattle.cq_syntax.specs.Grammar as grammar;
 ghost use Rattle.cq_parse.specs.Decided as decided;
+ghost use Rattle.cq_parse.specs.Gives.{Gives};
 ghost use Rattle.cq_parse.specs.Rules.{comma_name, typeside_end};
 
 use crate::cursor::Cursor;
@@ -9,7 +11,7 @@ use crate::halt::Halt;
 use crate::item::{Item, Production, first_and_many, or_left_out, section, some};
 use crate::names::{NameRule, SpotRule};
 use crate::options::{is_value, options};
-use crate::step::{ends, name_in, skip, split};
+use crate::step::{ends, is_next, name_in, skip, split};
 use crate::words::{SectionWords, TypesideWords};
 use cq_base::{Name, Seq};
 use cq_rules::{Class, Why};
@@ -129,6 +131,19 @@ impl Item for FunctionsRule {
     }
 }
 
+/// Nothing, or `literals` and the open type.
+#[tactic(auto, unfolding(cq_syntax::specs::Grammar::open_type))]
+fn open_type<'a>(alloc: Global, at: Cursor<'a>) -> Result<(Option<Spot>, Cursor<'a>), Halt<'a>>
+    ensures { Gives result (read grammar.open_type at.entry.tokens.now) }
+{
+    if !is_next(at, Class::Literals) {
+        return Ok((None, at));
+    }
+    let rest = skip(at, Class::Literals)?;
+    let (name, rest) = SpotRule::read(alloc, rest)?;
+    Ok((Some(name), rest))
+}
+
 /// The options of a typeside, and the brace that ends it.
 pub struct TypesideEndRule;
 
@@ -157,11 +172,13 @@ impl Production for TypesideRule {
         let rest = skip(at, Class::Literal)?;
         let rest = skip(rest, Class::LeftBrace)?;
         let (types, rest) = section::<SpotRule>(alloc, Class::Types, rest)?;
+        let (literals, rest) = open_type(alloc, rest)?;
         let (constants, rest) = section::<ConstantsRule>(alloc, Class::Constants, rest)?;
         let (functions, rest) = section::<FunctionsRule>(alloc, Class::Functions, rest)?;
         let (options, rest) = or_left_out::<TypesideWords, TypesideEndRule>(alloc, rest)?;
         let typeside = TypesideLit {
             types,
+            literals,
             constants,
             functions,
             options,

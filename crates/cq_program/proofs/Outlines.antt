@@ -119,6 +119,7 @@ module _ (env env' : Environment) (same : outline_of env ≡ outline_of env') wh
   body_alike place name (bodies.Instance (instance_exp.Coproduct is s)) = refl
   body_alike place name (bodies.Instance (instance_exp.Pushout f g)) = refl
   body_alike place name (bodies.Instance (instance_exp.ImportCsv n s o)) = refl
+  body_alike place name (bodies.Instance (instance_exp.ImportCsv2 n s o)) = refl
   body_alike place name (bodies.Colimit lit) = refl
   body_alike place name (bodies.Mapping (mapping_exp.Literal lit)) = λ i. mapping_over place lit (schema_alike lit.source i) (schema_alike lit.target i)
   body_alike place name (bodies.Mapping (mapping_exp.Identity spot)) = ap (λ (c : Checked SchemaMeant). and_then c (λ over. Ok (an_identity over.name over.schema))) (schema_alike spot)

@@ -100,6 +100,7 @@ fn has_few_in_instance(expression: &InstanceExp) -> bool
         InstanceExp::Coproduct(_, _) => true,
         InstanceExp::Pushout(_, _) => true,
         InstanceExp::ImportCsv(_, _, _) => true,
+        InstanceExp::ImportCsv2(_, _, _) => true,
     }
 }
 

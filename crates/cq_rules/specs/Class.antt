@@ -28,6 +28,7 @@ words =
     entry (codes "query") classes.Query ∷
     entry (codes "schema_colimit") classes.SchemaColimit ∷
     entry (codes "types") classes.Types ∷
+    entry (codes "literals") classes.Literals ∷
     entry (codes "constants") classes.Constants ∷
     entry (codes "functions") classes.Functions ∷
     entry (codes "entities") classes.Entities ∷
@@ -56,6 +57,7 @@ words =
     entry (codes "coproduct") classes.Coproduct ∷
     entry (codes "pushout") classes.Pushout ∷
     entry (codes "import_csv") classes.ImportCsv ∷
+    entry (codes "import_csv2") classes.ImportCsv2 ∷
     entry (codes "identity") classes.Identity ∷
     entry (codes "getSchema") classes.GetSchema ∷
     entry (codes "getMapping") classes.GetMapping ∷
@@ -123,6 +125,7 @@ is_name classes.Transform = false
 is_name classes.Query = false
 is_name classes.SchemaColimit = false
 is_name classes.Types = false
+is_name classes.Literals = false
 is_name classes.Constants = false
 is_name classes.Functions = false
 is_name classes.Entities = false
@@ -151,6 +154,7 @@ is_name classes.Coeval = true
 is_name classes.Coproduct = true
 is_name classes.Pushout = true
 is_name classes.ImportCsv = true
+is_name classes.ImportCsv2 = true
 is_name classes.Identity = true
 is_name classes.GetSchema = true
 is_name classes.GetMapping = true
@@ -197,69 +201,71 @@ code classes.Transform = 4
 code classes.Query = 5
 code classes.SchemaColimit = 6
 code classes.Types = 7
-code classes.Constants = 8
-code classes.Functions = 9
-code classes.Entities = 10
-code classes.ForeignKeys = 11
-code classes.PathEquations = 12
-code classes.Attributes = 13
-code classes.ObservationEquations = 14
-code classes.Generators = 15
-code classes.Equations = 16
-code classes.EntityEquations = 17
-code classes.Entity = 18
-code classes.From = 19
-code classes.Where = 20
-code classes.Options = 21
-code classes.Forall = 22
-code classes.Lambda = 23
-code classes.ExternalTypes = 24
-code classes.ExternalParsers = 25
-code classes.ExternalFunctions = 26
-code classes.Imports = 27
-code classes.Literal = 28
-code classes.Delta = 29
-code classes.Sigma = 30
-code classes.Eval = 31
-code classes.Coeval = 32
-code classes.Coproduct = 33
-code classes.Pushout = 34
-code classes.ImportCsv = 35
-code classes.Identity = 36
-code classes.GetSchema = 37
-code classes.GetMapping = 38
-code classes.Quotient = 39
-code classes.Constraints = 40
-code classes.Command = 41
-code classes.Graph = 42
-code classes.Html = 43
-code classes.Md = 44
-code classes.Chase = 45
-code classes.Pi = 46
-code classes.Except = 47
-code classes.Distinct = 48
-code classes.Anonymize = 49
-code classes.Pivot = 50
-code classes.Coequalize = 51
-code classes.Colimit = 52
-code classes.Simple = 53
-code classes.Sql = 54
-code classes.Name = 55
-code classes.Text = 56
-code classes.LeftBrace = 57
-code classes.RightBrace = 58
-code classes.LeftParen = 59
-code classes.RightParen = 60
-code classes.LeftBracket = 61
-code classes.RightBracket = 62
-code classes.Colon = 63
-code classes.Semicolon = 64
-code classes.Comma = 65
-code classes.Dot = 66
-code classes.Equals = 67
-code classes.Plus = 68
-code classes.Arrow = 69
-code classes.End = 70
+code classes.Literals = 8
+code classes.Constants = 9
+code classes.Functions = 10
+code classes.Entities = 11
+code classes.ForeignKeys = 12
+code classes.PathEquations = 13
+code classes.Attributes = 14
+code classes.ObservationEquations = 15
+code classes.Generators = 16
+code classes.Equations = 17
+code classes.EntityEquations = 18
+code classes.Entity = 19
+code classes.From = 20
+code classes.Where = 21
+code classes.Options = 22
+code classes.Forall = 23
+code classes.Lambda = 24
+code classes.ExternalTypes = 25
+code classes.ExternalParsers = 26
+code classes.ExternalFunctions = 27
+code classes.Imports = 28
+code classes.Literal = 29
+code classes.Delta = 30
+code classes.Sigma = 31
+code classes.Eval = 32
+code classes.Coeval = 33
+code classes.Coproduct = 34
+code classes.Pushout = 35
+code classes.ImportCsv = 36
+code classes.ImportCsv2 = 37
+code classes.Identity = 38
+code classes.GetSchema = 39
+code classes.GetMapping = 40
+code classes.Quotient = 41
+code classes.Constraints = 42
+code classes.Command = 43
+code classes.Graph = 44
+code classes.Html = 45
+code classes.Md = 46
+code classes.Chase = 47
+code classes.Pi = 48
+code classes.Except = 49
+code classes.Distinct = 50
+code classes.Anonymize = 51
+code classes.Pivot = 52
+code classes.Coequalize = 53
+code classes.Colimit = 54
+code classes.Simple = 55
+code classes.Sql = 56
+code classes.Name = 57
+code classes.Text = 58
+code classes.LeftBrace = 59
+code classes.RightBrace = 60
+code classes.LeftParen = 61
+code classes.RightParen = 62
+code classes.LeftBracket = 63
+code classes.RightBracket = 64
+code classes.Colon = 65
+code classes.Semicolon = 66
+code classes.Comma = 67
+code classes.Dot = 68
+code classes.Equals = 69
+code classes.Plus = 70
+code classes.Arrow = 71
+code classes.End = 72
 
 abbrev pub same : Class → Class → Bool
 same a b = nat_eq (code a) (code b)
@@ -282,6 +288,7 @@ all_classes =
     classes.Query ∷
     classes.SchemaColimit ∷
     classes.Types ∷
+    classes.Literals ∷
     classes.Constants ∷
     classes.Functions ∷
     classes.Entities ∷
@@ -310,6 +317,7 @@ all_classes =
     classes.Coproduct ∷
     classes.Pushout ∷
     classes.ImportCsv ∷
+    classes.ImportCsv2 ∷
     classes.Identity ∷
     classes.GetSchema ∷
     classes.GetMapping ∷

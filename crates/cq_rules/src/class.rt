@@ -17,6 +17,7 @@ pub enum Class {
     Query,
     SchemaColimit,
     Types,
+    Literals,
     Constants,
     Functions,
     Entities,
@@ -45,6 +46,7 @@ pub enum Class {
     Coproduct,
     Pushout,
     ImportCsv,
+    ImportCsv2,
     Identity,
     GetSchema,
     GetMapping,
@@ -103,6 +105,7 @@ impl Class {
             | Class::Coproduct
             | Class::Pushout
             | Class::ImportCsv
+            | Class::ImportCsv2
             | Class::Identity
             | Class::GetSchema
             | Class::GetMapping

@@ -140,6 +140,8 @@ fn of_eight(word: &str) -> Class
         Class::Typeside
     } else if word == "instance" {
         Class::Instance
+    } else if word == "literals" {
+        Class::Literals
     } else if word == "entities" {
         Class::Entities
     } else if word == "identity" {
@@ -196,7 +198,9 @@ fn of_ten(word: &str) -> Class
 fn of_eleven(word: &str) -> Class
     ensures { result ≡ class_in word.now (words_of 11) }
 {
-    if word == "constraints" {
+    if word == "import_csv2" {
+        Class::ImportCsv2
+    } else if word == "constraints" {
         Class::Constraints
     } else {
         Class::Name

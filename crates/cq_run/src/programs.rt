@@ -1,6 +1,6 @@
-//! Programs and their refusals, written out.
+//! Programs, terms that stand alone, and their refusals, written out.
 use cq_lex::lex;
-use cq_parse::{ParseRefusal, parse};
+use cq_parse::{ParseRefusal, parse, parse_term};
 use std::alloc::{AllocError, Global};
 use std::process::Abort;
 use std::test::Fail;
@@ -129,6 +129,86 @@ const TEXTS: [(&str, (u32, u32, u32)); 62] = [
     ("S", (21, 1, 1)),
 ];
 
+// Texts on the open type of a typeside, as above.
+const OPEN_TYPES: [(&str, (u32, u32, u32)); 15] = [
+    (
+        "typeside T = literal { types s n literals s constants Al : s functions f : s -> n options prover = auto }",
+        (0, 0, 0),
+    ),
+    ("typeside T = literal { literals s }", (0, 0, 0)),
+    ("typeside T = literal { literals s types s }", (21, 1, 35)),
+    (
+        "typeside T = literal { constants a : s literals s }",
+        (21, 1, 40),
+    ),
+    (
+        "typeside T = literal { literals s literals s }",
+        (21, 1, 35),
+    ),
+    ("typeside T = literal { literals s n }", (21, 1, 35)),
+    ("typeside T = literal { types literals }", (21, 1, 39)),
+    (
+        "typeside T = literal { constants literals : s }",
+        (21, 1, 34),
+    ),
+    ("typeside T = literal { literals constants", (21, 1, 33)),
+    ("typeside T = literal { literals \"s\"", (21, 1, 33)),
+    ("typeside T = literal { literals equations", (21, 1, 33)),
+    ("typeside T = literal { literals s equations", (116, 1, 35)),
+    ("typeside T = literal { literals s imports", (120, 1, 35)),
+    ("schema S = literal : T { entities literals }", (21, 1, 35)),
+    ("typeside literals", (21, 1, 10)),
+];
+
+// Texts on the second form of an import, as above.
+const IMPORTS: [(&str, (u32, u32, u32)); 7] = [
+    (
+        "instance P = import_csv2 \"d\" : S instance P = import_csv2 \"d\" : S { } instance P = import_csv2 \"d\" : S { options timeout = \"5\" }",
+        (0, 0, 0),
+    ),
+    (
+        "instance import_csv2 = delta import_csv import_csv2",
+        (0, 0, 0),
+    ),
+    ("instance I = import_csv2 S", (21, 1, 26)),
+    ("instance I = import_csv2 \"a\" S", (21, 1, 30)),
+    ("instance I = import_csv2 \"a\" : S {", (21, 1, 35)),
+    ("instance I = import_csv2 \"a\" : S { imports", (120, 1, 36)),
+    ("instance I = import_csv3 \"a\" : S", (21, 1, 14)),
+];
+
+// Texts that stand alone as terms, as above.
+const TERMS: [(&str, (u32, u32, u32)); 15] = [
+    ("a", (0, 0, 0)),
+    ("f(a.g, \"x y\").h", (0, 0, 0)),
+    ("\n\"x\"", (0, 0, 0)),
+    ("import_csv2(chase).constraints", (0, 0, 0)),
+    ("", (21, 1, 1)),
+    ("a b", (21, 1, 3)),
+    ("a = a", (21, 1, 3)),
+    ("a }", (21, 1, 3)),
+    ("f(", (21, 1, 3)),
+    ("f(a,\n)", (21, 2, 1)),
+    ("f(a", (21, 1, 4)),
+    ("literals", (21, 1, 1)),
+    ("a imports", (21, 1, 3)),
+    ("f(equations)", (21, 1, 3)),
+    ("options depth = 1", (21, 1, 1)),
+];
+
+/// The kind of a refusal, and its place.
+fn told(refusal: ParseRefusal) -> Result<(u32, u32, u32), AllocError> {
+    match refusal {
+        ParseRefusal::Syntax(place) => Ok((21, place.line, place.col)),
+        ParseRefusal::TooDeep(place) => Ok((22, place.line, place.col)),
+        ParseRefusal::Unsupported(place, number) => {
+            Ok((number.saturating_add(100), place.line, place.col))
+        }
+        ParseRefusal::BadOption(place) => Ok((24, place.line, place.col)),
+        ParseRefusal::Memory => Err(AllocError),
+    }
+}
+
 /// What becomes of a text.
 fn outcome(alloc: Global, text: &str) -> Result<(u32, u32, u32), AllocError> {
     if text.len() > 8388608 {
@@ -139,13 +219,21 @@ fn outcome(alloc: Global, text: &str) -> Result<(u32, u32, u32), AllocError> {
     };
     match parse(alloc, tokens.as_slice()) {
         Ok(_) => Ok((0, 0, 0)),
-        Err(ParseRefusal::Syntax(place)) => Ok((21, place.line, place.col)),
-        Err(ParseRefusal::TooDeep(place)) => Ok((22, place.line, place.col)),
-        Err(ParseRefusal::Unsupported(place, number)) => {
-            Ok((number.saturating_add(100), place.line, place.col))
-        }
-        Err(ParseRefusal::BadOption(place)) => Ok((24, place.line, place.col)),
-        Err(ParseRefusal::Memory) => Err(AllocError),
+        Err(refusal) => told(refusal),
+    }
+}
+
+/// What becomes of a text as a term.
+fn term_outcome(alloc: Global, text: &str) -> Result<(u32, u32, u32), AllocError> {
+    if text.len() > 8388608 {
+        return Err(AllocError);
+    }
+    let Ok(tokens) = lex(alloc, text.as_bytes()) else {
+        return Err(AllocError);
+    };
+    match parse_term(alloc, tokens.as_slice()) {
+        Ok(_) => Ok((0, 0, 0)),
+        Err(refusal) => told(refusal),
     }
 }
 
@@ -171,6 +259,41 @@ fn texts_have_the_outcomes_written(rt: HostRuntime) -> Result<(), Fail> {
     for (text, wanted) in TEXTS {
         assert_eq!(rt; outcome(alloc, text)?, wanted, "{text}");
     }
+    Ok(())
+}
+
+#[test]
+fn open_types_have_the_outcomes_written(rt: HostRuntime) -> Result<(), Fail> {
+    let alloc = rt.alloc();
+    for (text, wanted) in OPEN_TYPES {
+        assert_eq!(rt; outcome(alloc, text)?, wanted, "{text}");
+    }
+    Ok(())
+}
+
+#[test]
+fn imports_have_the_outcomes_written(rt: HostRuntime) -> Result<(), Fail> {
+    let alloc = rt.alloc();
+    for (text, wanted) in IMPORTS {
+        assert_eq!(rt; outcome(alloc, text)?, wanted, "{text}");
+    }
+    Ok(())
+}
+
+#[test]
+fn terms_have_the_outcomes_written(rt: HostRuntime) -> Result<(), Fail> {
+    let alloc = rt.alloc();
+    for (text, wanted) in TERMS {
+        assert_eq!(rt; term_outcome(alloc, text)?, wanted, "{text}");
+    }
+    let most = around(alloc, "x", ".f", 63, "")?;
+    let deep = around(alloc, "x", ".f", 64, "")?;
+    assert_eq!(rt; term_outcome(alloc, most.as_str())?, (0, 0, 0), "63 dots");
+    assert_eq!(rt;
+        term_outcome(alloc, deep.as_str())?,
+        (22, 1, 129),
+        "64 dots"
+    );
     Ok(())
 }
 

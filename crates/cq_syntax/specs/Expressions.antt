@@ -80,7 +80,11 @@ mapping_exp_back (inl x) = refl
 mapping_exp_back (inr (inl x)) = refl
 mapping_exp_back (inr (inr x)) = refl
 
-abbrev pub instance_exp_of : InstanceLit ⊎ ((Spot × Spot) ⊎ ((Spot × Spot) ⊎ ((Spot × Spot) ⊎ ((Spot × Spot) ⊎ ((List Spot × Spot) ⊎ ((Spot × Spot) ⊎ (Name × (Spot × List Opt)))))))) → InstanceExp
+-- the folder of an import, its schema and its options
+abbrev pub Imported : Type 0
+Imported = Name × (Spot × List Opt)
+
+abbrev pub instance_exp_of : InstanceLit ⊎ ((Spot × Spot) ⊎ ((Spot × Spot) ⊎ ((Spot × Spot) ⊎ ((Spot × Spot) ⊎ ((List Spot × Spot) ⊎ ((Spot × Spot) ⊎ (Imported ⊎ Imported))))))) → InstanceExp
 instance_exp_of (inl x) = instances.Literal x
 instance_exp_of (inr (inl x)) = instances.Delta x.0 x.1
 instance_exp_of (inr (inr (inl x))) = instances.Sigma x.0 x.1
@@ -88,9 +92,10 @@ instance_exp_of (inr (inr (inr (inl x)))) = instances.Eval x.0 x.1
 instance_exp_of (inr (inr (inr (inr (inl x))))) = instances.Coeval x.0 x.1
 instance_exp_of (inr (inr (inr (inr (inr (inl x)))))) = instances.Coproduct x.0 x.1
 instance_exp_of (inr (inr (inr (inr (inr (inr (inl x))))))) = instances.Pushout x.0 x.1
-instance_exp_of (inr (inr (inr (inr (inr (inr (inr x))))))) = instances.ImportCsv x.0 x.1.0 x.1.1
+instance_exp_of (inr (inr (inr (inr (inr (inr (inr (inl x)))))))) = instances.ImportCsv x.0 x.1.0 x.1.1
+instance_exp_of (inr (inr (inr (inr (inr (inr (inr (inr x)))))))) = instances.ImportCsv2 x.0 x.1.0 x.1.1
 
-abbrev pub instance_exp_parts : InstanceExp → InstanceLit ⊎ ((Spot × Spot) ⊎ ((Spot × Spot) ⊎ ((Spot × Spot) ⊎ ((Spot × Spot) ⊎ ((List Spot × Spot) ⊎ ((Spot × Spot) ⊎ (Name × (Spot × List Opt))))))))
+abbrev pub instance_exp_parts : InstanceExp → InstanceLit ⊎ ((Spot × Spot) ⊎ ((Spot × Spot) ⊎ ((Spot × Spot) ⊎ ((Spot × Spot) ⊎ ((List Spot × Spot) ⊎ ((Spot × Spot) ⊎ (Imported ⊎ Imported)))))))
 instance_exp_parts (instances.Literal a) = inl a
 instance_exp_parts (instances.Delta a b) = inr (inl (a, b))
 instance_exp_parts (instances.Sigma a b) = inr (inr (inl (a, b)))
@@ -98,9 +103,10 @@ instance_exp_parts (instances.Eval a b) = inr (inr (inr (inl (a, b))))
 instance_exp_parts (instances.Coeval a b) = inr (inr (inr (inr (inl (a, b)))))
 instance_exp_parts (instances.Coproduct a b) = inr (inr (inr (inr (inr (inl (a, b))))))
 instance_exp_parts (instances.Pushout a b) = inr (inr (inr (inr (inr (inr (inl (a, b)))))))
-instance_exp_parts (instances.ImportCsv a b c) = inr (inr (inr (inr (inr (inr (inr (a, (b, c))))))))
+instance_exp_parts (instances.ImportCsv a b c) = inr (inr (inr (inr (inr (inr (inr (inl (a, (b, c)))))))))
+instance_exp_parts (instances.ImportCsv2 a b c) = inr (inr (inr (inr (inr (inr (inr (inr (a, (b, c)))))))))
 
-pub instance_exp_back : (x : InstanceLit ⊎ ((Spot × Spot) ⊎ ((Spot × Spot) ⊎ ((Spot × Spot) ⊎ ((Spot × Spot) ⊎ ((List Spot × Spot) ⊎ ((Spot × Spot) ⊎ (Name × (Spot × List Opt))))))))) → instance_exp_parts (instance_exp_of x) ≡ x
+pub instance_exp_back : (x : InstanceLit ⊎ ((Spot × Spot) ⊎ ((Spot × Spot) ⊎ ((Spot × Spot) ⊎ ((Spot × Spot) ⊎ ((List Spot × Spot) ⊎ ((Spot × Spot) ⊎ (Imported ⊎ Imported)))))))) → instance_exp_parts (instance_exp_of x) ≡ x
 instance_exp_back (inl x) = refl
 instance_exp_back (inr (inl x)) = refl
 instance_exp_back (inr (inr (inl x))) = refl
@@ -108,7 +114,8 @@ instance_exp_back (inr (inr (inr (inl x)))) = refl
 instance_exp_back (inr (inr (inr (inr (inl x))))) = refl
 instance_exp_back (inr (inr (inr (inr (inr (inl x)))))) = refl
 instance_exp_back (inr (inr (inr (inr (inr (inr (inl x))))))) = refl
-instance_exp_back (inr (inr (inr (inr (inr (inr (inr x))))))) = refl
+instance_exp_back (inr (inr (inr (inr (inr (inr (inr (inl x)))))))) = refl
+instance_exp_back (inr (inr (inr (inr (inr (inr (inr (inr x)))))))) = refl
 
 abbrev pub transform_exp_of : TransformLit ⊎ Spot → TransformExp
 transform_exp_of (inl x) = transforms.Literal x

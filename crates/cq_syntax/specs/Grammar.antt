@@ -138,14 +138,19 @@ bind = made parts.bind_of parts.bind_parts (λ p. refl) (placed (seq name (skip 
 abbrev pub in_braces : {A : Type 0} → Rule A → Rule A
 in_braces g = skip (is classes.LeftBrace) (ends g section_words (is classes.RightBrace))
 
--- "literal" "{" ["types" {NAME}] ["constants" {constants}] ["functions" {functions}] options "}"
+-- ["literals" NAME]
+unfoldable pub open_type : Rule (Option Spot)
+open_type = made exps.option_of exps.option_parts exps.option_back (alt (skip (is classes.Literals) spot) none)
+
+-- "literal" "{" ["types" {NAME}] open_type ["constants" {constants}] ["functions" {functions}] options "}"
 unfoldable pub typeside : Rule TypesideLit
 typeside =
     made parts.typeside_of parts.typeside_parts (λ p. refl) (skip (is classes.Literal) (skip (is classes.LeftBrace)
     (seq (section (is classes.Types) spot)
+    (seq open_type
     (seq (section (is classes.Constants) constants)
     (seq (section (is classes.Functions) functions)
-    (or_left_out typeside_words (ends options section_words (is classes.RightBrace))))))))
+    (or_left_out typeside_words (ends options section_words (is classes.RightBrace)))))))))
 
 -- "literal" ":" NAME "{" ["entities" {NAME}] ["foreign_keys" {edge}] ["path_equations" {path_equation}]
 -- ["attributes" {edge}] ["observation_equations" {observation}] options "}"
@@ -234,16 +239,16 @@ of_two c = skip (is c) (seq spot spot)
 unfoldable pub coproduct : Rule (List Spot × Spot)
 coproduct = skip (is classes.Coproduct) (seq (separated (is classes.Plus) spot) (skip (is classes.Colon) spot))
 
--- "import_csv" TEXT ":" NAME ["{" options "}"]
-unfoldable pub import : Rule (Name × (Spot × List Opt))
-import =
-    skip (is classes.ImportCsv) (seq text (skip (is classes.Colon) (seq spot (braces (is classes.LeftBrace) (is classes.Options) setting section_words (is classes.RightBrace)))))
+-- a word, TEXT ":" NAME ["{" options "}"]
+unfoldable pub import : Class → Rule exps.Imported
+import c =
+    skip (is c) (seq text (skip (is classes.Colon) (seq spot (braces (is classes.LeftBrace) (is classes.Options) setting section_words (is classes.RightBrace)))))
 
 -- instance_literal | "delta" NAME NAME | "sigma" NAME NAME | "eval" NAME NAME | "coeval" NAME NAME
--- | coproduct | "pushout" NAME NAME | import
+-- | coproduct | "pushout" NAME NAME | import of "import_csv" | import of "import_csv2"
 unfoldable pub instance : Rule InstanceExp
 instance =
-    made exps.instance_exp_of exps.instance_exp_parts exps.instance_exp_back (alt instance_literal (alt (of_two classes.Delta) (alt (of_two classes.Sigma) (alt (of_two classes.Eval) (alt (of_two classes.Coeval) (alt coproduct (alt (of_two classes.Pushout) import)))))))
+    made exps.instance_exp_of exps.instance_exp_parts exps.instance_exp_back (alt instance_literal (alt (of_two classes.Delta) (alt (of_two classes.Sigma) (alt (of_two classes.Eval) (alt (of_two classes.Coeval) (alt coproduct (alt (of_two classes.Pushout) (alt (import classes.ImportCsv) (import classes.ImportCsv2)))))))))
 
 -- "literal" ":" NAME "->" NAME "{" ["generators" {bind}] options "}"
 unfoldable pub transform_literal : Rule TransformLit
@@ -261,6 +266,10 @@ kind c g = skip (is c) (seq spot (skip (is classes.Equals) (or_left_out operatio
 unfoldable pub declaration : Rule Decl
 declaration =
     made exps.decl_of exps.decl_parts exps.decl_back (placed (alt (kind classes.Typeside typeside) (alt (kind classes.Schema schema) (alt (kind classes.SchemaColimit colimit) (alt (kind classes.Mapping mapping) (alt (kind classes.Query query) (alt (kind classes.Instance instance) (kind classes.Transform transform))))))))
+
+-- a term, and the end
+unfoldable pub lone_term : Rule TermSyn
+lone_term = ends placed_term none_left (is classes.End)
 
 -- options {declaration}, and the end
 unfoldable pub program : Rule Program

@@ -88,11 +88,11 @@ bind_of p = record { place = p.0; name = p.1.0; term = p.1.1 }
 abbrev pub bind_parts : Bind → Place × (Name × TermSyn)
 bind_parts x = (x.place, (x.name, x.term))
 
-abbrev pub typeside_of : List Spot × (List GroupSyn × (List FunSyn × List Opt)) → TypesideLit
-typeside_of p = record { types = p.0; constants = p.1.0; functions = p.1.1.0; options = p.1.1.1 }
+abbrev pub typeside_of : List Spot × (Option Spot × (List GroupSyn × (List FunSyn × List Opt))) → TypesideLit
+typeside_of p = record { types = p.0; literals = p.1.0; constants = p.1.1.0; functions = p.1.1.1.0; options = p.1.1.1.1 }
 
-abbrev pub typeside_parts : TypesideLit → List Spot × (List GroupSyn × (List FunSyn × List Opt))
-typeside_parts x = (x.types, (x.constants, (x.functions, x.options)))
+abbrev pub typeside_parts : TypesideLit → List Spot × (Option Spot × (List GroupSyn × (List FunSyn × List Opt)))
+typeside_parts x = (x.types, (x.literals, (x.constants, (x.functions, x.options))))
 
 abbrev pub schema_of : Spot × (List Spot × (List EdgeSyn × (List PathEqSyn × (List EdgeSyn × (List ObsSyn × List Opt))))) → SchemaLit
 schema_of p = record { typeside = p.0; entities = p.1.0; keys = p.1.1.0; path_eqs = p.1.1.1.0; attributes = p.1.1.1.1.0; obs_eqs = p.1.1.1.1.1.0; options = p.1.1.1.1.1.1 }

@@ -4,10 +4,12 @@ use crate::part::{
 };
 use cq_base::{Name, Place, Seq};
 
-/// A typeside: types, constants and functions.
+/// A typeside: types, the open type if there is one, constants and functions. Of the open type every
+/// text is a constant.
 #[derive(Drop)]
 pub struct TypesideLit {
     pub types: Seq<Spot>,
+    pub literals: Option<Spot>,
     pub constants: Seq<GroupSyn>,
     pub functions: Seq<FunSyn>,
     pub options: Seq<Opt>,

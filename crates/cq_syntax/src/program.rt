@@ -31,6 +31,7 @@ pub enum InstanceExp {
     Coproduct(Seq<Spot>, Spot),
     Pushout(Spot, Spot),
     ImportCsv(Name, Spot, Seq<Opt>),
+    ImportCsv2(Name, Spot, Seq<Opt>),
 }
 
 /// What stands behind the `=` of a transform.

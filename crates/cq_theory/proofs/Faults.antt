@@ -20,6 +20,11 @@ of_four false false true d x y z w h = cc
 of_four false false false true x y z w h = cc
 of_four false false false false x y z w h = (refl, refl, refl, refl)
 
+pub of_five : {X : Type 0} (a b c d e : Bool) (x y z w v : X) → cond a (Some x) (cond b (Some y) (cond c (Some z) (cond d (Some w) (cond e (Some v) None)))) ≡ None
+    → (a ≡ false) × (b ≡ false) × (c ≡ false) × (d ≡ false) × (e ≡ false)
+of_five true b c d e x y z w v h = cc
+of_five false b c d e x y z w v h = let rest = of_four b c d e y z w v h in (refl, rest.0, rest.1, rest.2, rest.3)
+
 pub not_false : (b : Bool) → not b ≡ false → b ≡ true
 not_false true h = refl
 not_false false h = cc

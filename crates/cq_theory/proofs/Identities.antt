@@ -7,6 +7,7 @@ use Rattle.std.proofs.lemmas.Option.{slice_get_within, slice_get-get_or}
 use Rattle.std.proofs.lemmas.List.Elements.{All-head, All-tail}
 use Rattle.std.proofs.lemmas.List.FromFn.{get_or-range_with_len, get_or-map-range_with_len, length-map-range_with_len, length-range_with_len}
 use Rattle.cq_theory.specs.SchemaData.{SchemaData as Schema}
+use Rattle.cq_theory.specs.declared.constant.Con.TheVariants.{Named}
 use Rattle.cq_theory.specs.declared.value.Value.{Value}
 use Rattle.cq_theory.specs.declared.value.Value.TheVariants.{Const, Null}
 use Rattle.cq_theory.specs.declared.value.Entry.{Entry}
@@ -53,7 +54,7 @@ module _ (S : Schema) (M : Tables) (well : IsWellFormed S M) where
   type_in = value_type S M.algebra.nulls
 
   null_itself : (n : ℕ) → n < length M.algebra.nulls → image (Null n) ≡ Null n
-  null_itself n h = fold-Null Value (value_image_step S M M rows nulls) n ∙ get_or-map-range_with_len Null 0 (length M.algebra.nulls) n n (Const 0) h (omega arith)
+  null_itself n h = fold-Null Value (value_image_step S M M rows nulls) n ∙ get_or-map-range_with_len Null 0 (length M.algebra.nulls) n n (Const (Named 0)) h (omega arith)
 
   -- the image of a value that has a type is the value with its functions applied anew
   abbrev IsNormalized : Value → Type 0
@@ -116,7 +117,7 @@ module _ (S : Schema) (M : Tables) (well : IsWellFormed S M) where
         same_row edge.to (key_at M k row) next ∙ ap (key_at M k) (sym (same_row edge.from row within));
     cells = λ a edge h row within.
         let column = well.cell_columns a edge h in
-        let cell = column.1 row (Const 0) (subst (λ n. row < n) (sym column.0) within) in
+        let cell = column.1 row (Const (Named 0)) (subst (λ n. row < n) (sym column.0) within) in
         normalized (cell_at M a row) edge.to cell.0 ∙ cell.1 ∙ ap (cell_at M a) (sym (same_row edge.from row within));
     entries = entries_kept;
   }

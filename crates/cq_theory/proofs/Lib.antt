@@ -1,5 +1,6 @@
 pub mod Derivations
 pub mod TypeTerms
+pub mod Constants
 pub mod Sound
 pub mod Closings
 pub mod Values

@@ -10,7 +10,7 @@ use Rattle.cq_base.specs.Names.{number_of}
 use Rattle.cq_base.proofs.Numbers.{number_of-within}
 use Rattle.cq_theory.specs.declared.lookup.Symbol.{Symbol}
 use Rattle.cq_theory.specs.declared.lookup.Symbol.TheVariants.{Function, Key, Attribute}
-use Rattle.cq_theory.specs.declared.lookup.TermRefusal.TheVariants.{Unknown, WrongCount, WrongSort, TooLarge}
+use Rattle.cq_theory.specs.declared.lookup.TermRefusal.TheVariants.{Unknown, WrongCount, WrongSort, Reserved, TooLarge}
 use Rattle.cq_theory.specs.declared.parts.ObsPart.{ObsPart}
 use Rattle.cq_theory.specs.declared.presentation.Sort.{Sort}
 use Rattle.cq_theory.specs.declared.presentation.Sort.TheVariants.{Plain, Entity}
@@ -21,14 +21,14 @@ use Rattle.cq_theory.specs.TypeTerm.{symbols_of}
 use Rattle.cq_theory.specs.Sorts.{type_of}
 use Rattle.cq_theory.specs.Schema.{IsSchema, IsObsEq, one_of}
 use Rattle.cq_theory.specs.Declaring.{number_or_zero}
-use Rattle.cq_theory.specs.Resolve.{or_else, sort_named, symbol_of, entity_in, raw_sort, raw_symbols, has_unknown, has_wrong_count, is_too_large, first_fault}
+use Rattle.cq_theory.specs.Resolve.{or_else, sort_named, symbol_of, entity_in, raw_sort, raw_symbols, has_unknown, has_wrong_count, has_reserved, is_too_large, first_fault}
 use Rattle.cq_theory.specs.Resolved.{resolved, type_term_in}
 use Rattle.cq_theory.specs.SchemaParts.{source_of, source_at, is_variable_alone, first_found, applied_source, variable_entity, is_unknown_entity, are_of_one_type, have_one_type, observation_fault, made_observation}
 use Rattle.cq_theory.proofs.Raws.{Each, on_raws}
 use Rattle.cq_theory.proofs.RawSources.{applied_source-Word, applied_source-Text, applied_source-App}
 use Rattle.cq_theory.proofs.RawSymbols.{resolved-no_longer, type_part}
 use Rattle.cq_theory.proofs.ResolvedSorts.{map_some, type_of-in, sort_of-resolved}
-use Rattle.cq_theory.proofs.Faults.{of_four, not_false, neither, at_most, first_fault-each, made_of}
+use Rattle.cq_theory.proofs.Faults.{of_five, not_false, neither, at_most, first_fault-each, made_of}
 use Rattle.cq_theory.proofs.MadePaths.{key_within}
 
 either_some : {X : Type 0} (o p : Option X) (x : X) → or_else o p ≡ Some x → (o ≡ Some x) ⊎ (p ≡ Some x)
@@ -112,11 +112,11 @@ module _ (S : Schema) (schema : IsSchema S) where
   variable_within part (Some name) is e h = stated_within name e (entity_by S part (Some name) is e h)
 
   -- a side of a type has that type when it is looked up, and at most 1,024 symbols
-  pub side_type : (variable : Name) (entity type : ℕ) (raw : Raw) → raw_sort S (variable ∷ []) (Entity entity ∷ []) raw ≡ Some (Plain type)
+  pub side_type : (variable : Name) (entity type : ℕ) (raw : Raw) → has_reserved S raw ≡ false → raw_sort S (variable ∷ []) (Entity entity ∷ []) raw ≡ Some (Plain type)
       → type_of S (one_of entity) (type_term_in (resolved S (variable ∷ []) (Entity entity ∷ []) raw)) ≡ Some type
-  side_type variable entity type raw h =
+  side_type variable entity type raw free h =
       type_of-in S (one_of entity) (resolved S (variable ∷ []) (Entity entity ∷ []) raw) type
-      (sort_of-resolved S (one_of entity) (variable ∷ []) (Entity entity ∷ []) (agrees entity) raw (Plain type) h)
+      (sort_of-resolved S (one_of entity) (variable ∷ []) (Entity entity ∷ []) (agrees entity) raw free (Plain type) h)
 
   pub side_fits : (names : List Name) (sorts : List Sort) (raw : Raw) → has_wrong_count S raw ≡ false → is_too_large raw ≡ false → symbols_of (type_term_in (resolved S names sorts raw)) ≤ 1024
   side_fits names sorts raw counted short =
@@ -134,16 +134,17 @@ module _ (S : Schema) (schema : IsSchema S) where
   unfolding observation_fault made_observation
   made_observation-is part h =
       let names : List Name = part.variable ∷ [] in
-      let rules = of_four (is_unknown_entity S part.entity || has_unknown S names part.left || has_unknown S names part.right) (has_wrong_count S part.left || has_wrong_count S part.right)
-      (not (have_one_type S names (variable_entity S part) part.left part.right)) (is_too_large part.left || is_too_large part.right) Unknown WrongCount WrongSort TooLarge h in
+      let rules = of_five (is_unknown_entity S part.entity || has_unknown S names part.left || has_unknown S names part.right) (has_wrong_count S part.left || has_wrong_count S part.right)
+      (not (have_one_type S names (variable_entity S part) part.left part.right)) (has_reserved S part.left || has_reserved S part.right) (is_too_large part.left || is_too_large part.right) Unknown WrongCount WrongSort Reserved TooLarge h in
       let counted = neither (has_wrong_count S part.left) (has_wrong_count S part.right) rules.1 in
       let found = sides names (variable_entity S part) part.left part.right (not_false _ rules.2) in
-      let short = neither (is_too_large part.left) (is_too_large part.right) rules.3 in
+      let free = neither (has_reserved S part.left) (has_reserved S part.right) rules.3 in
+      let short = neither (is_too_large part.left) (is_too_large part.right) rules.4 in
       let number : number_or_zero (variable_entity S part) ≡ found.0 = ap number_or_zero found.2 in
       record {
         type = found.1;
-        left = subst (λ (e : ℕ). type_of S (one_of e) (type_term_in (resolved S names (Entity e ∷ []) part.left)) ≡ Some found.1) (sym number) (side_type part.variable found.0 found.1 part.left found.3);
-        right = subst (λ (e : ℕ). type_of S (one_of e) (type_term_in (resolved S names (Entity e ∷ []) part.right)) ≡ Some found.1) (sym number) (side_type part.variable found.0 found.1 part.right found.4);
+        left = subst (λ (e : ℕ). type_of S (one_of e) (type_term_in (resolved S names (Entity e ∷ []) part.left)) ≡ Some found.1) (sym number) (side_type part.variable found.0 found.1 part.left free.0 found.3);
+        right = subst (λ (e : ℕ). type_of S (one_of e) (type_term_in (resolved S names (Entity e ∷ []) part.right)) ≡ Some found.1) (sym number) (side_type part.variable found.0 found.1 part.right free.1 found.4);
         entity = subst IsEntity (sym number) (variable_within part part.entity refl found.0 found.2);
         left_fits = side_fits names (Entity (number_or_zero (variable_entity S part)) ∷ []) part.left counted.0 short.0;
         right_fits = side_fits names (Entity (number_or_zero (variable_entity S part)) ∷ []) part.right counted.1 short.1;

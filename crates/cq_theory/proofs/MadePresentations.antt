@@ -22,11 +22,11 @@ use Rattle.cq_theory.specs.declared.term.Term.TheVariants.{Ent, Typ}
 use Rattle.cq_theory.specs.Sorts.{entity_of, type_of, sort_of}
 use Rattle.cq_theory.specs.Derivation.{left_of, right_of}
 use Rattle.cq_theory.specs.Presentation.{IsSort, IsEquation, IsPresentation, term_symbols}
-use Rattle.cq_theory.specs.Resolve.{or_else, sort_named, raw_sort, raw_symbols, has_unknown, has_wrong_count, is_too_large, are_of_one_sort, equation_fault}
+use Rattle.cq_theory.specs.Resolve.{or_else, sort_named, raw_sort, raw_symbols, has_unknown, has_wrong_count, has_reserved, is_too_large, are_of_one_sort, equation_fault}
 use Rattle.cq_theory.specs.Resolved.{resolved}
 use Rattle.cq_theory.specs.Parts.{sort_or_first, generator_fault, first_generator_fault, generator_names, generator_sorts, presentation_fault, equation_of, presented}
 use Rattle.cq_theory.proofs.DeclaredParts.{or_else_none, new_name, first_part_fault-distinct, first_part_fault-each}
-use Rattle.cq_theory.proofs.Faults.{of_four, not_false, neither, at_most, first_fault-each, made_of}
+use Rattle.cq_theory.proofs.Faults.{of_five, not_false, neither, at_most, first_fault-each, made_of}
 use Rattle.cq_theory.proofs.RawSymbols.{resolved-no_longer}
 use Rattle.cq_theory.proofs.ResolvedSorts.{map_some, sort_of-resolved}
 
@@ -111,13 +111,15 @@ module _ (S : Schema) where
     equation-is equations e h =
         let names = generator_names generators in
         let sorts = generator_sorts S generators in
-        let rules = of_four (has_unknown S names e.0 || has_unknown S names e.1) (has_wrong_count S e.0 || has_wrong_count S e.1)
-        (not (are_of_one_sort (raw_sort S names sorts e.0) (raw_sort S names sorts e.1))) (is_too_large e.0 || is_too_large e.1) term_refusal.Unknown term_refusal.WrongCount term_refusal.WrongSort term_refusal.TooLarge h in
+        let rules = of_five (has_unknown S names e.0 || has_unknown S names e.1) (has_wrong_count S e.0 || has_wrong_count S e.1)
+        (not (are_of_one_sort (raw_sort S names sorts e.0) (raw_sort S names sorts e.1))) (has_reserved S e.0 || has_reserved S e.1) (is_too_large e.0 || is_too_large e.1)
+        term_refusal.Unknown term_refusal.WrongCount term_refusal.WrongSort term_refusal.Reserved term_refusal.TooLarge h in
         let counted = neither (has_wrong_count S e.0) (has_wrong_count S e.1) rules.1 in
-        let short = neither (is_too_large e.0) (is_too_large e.1) rules.3 in
+        let free = neither (has_reserved S e.0) (has_reserved S e.1) rules.3 in
+        let short = neither (is_too_large e.0) (is_too_large e.1) rules.4 in
         let found = one_sort (raw_sort S names sorts e.0) (raw_sort S names sorts e.1) (not_false _ rules.2) in
-        let left : sort_of S (map made_generator generators) (side e.0) ≡ Some found.0 = sort_of-resolved S (map made_generator generators) names sorts agrees e.0 found.0 found.1 in
-        let right : sort_of S (map made_generator generators) (side e.1) ≡ Some found.0 = sort_of-resolved S (map made_generator generators) names sorts agrees e.1 found.0 found.2 in
+        let left : sort_of S (map made_generator generators) (side e.0) ≡ Some found.0 = sort_of-resolved S (map made_generator generators) names sorts agrees e.0 free.0 found.0 found.1 in
+        let right : sort_of S (map made_generator generators) (side e.1) ≡ Some found.0 = sort_of-resolved S (map made_generator generators) names sorts agrees e.1 free.1 found.0 found.2 in
         let same = sides (map made_generator generators) (side e.0) (side e.1) found.0 left right in
         record {
           sort = found.0;

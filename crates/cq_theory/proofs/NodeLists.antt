@@ -12,6 +12,7 @@ use Rattle.cq_theory.specs.declared.presentation.Sort.TheVariants.{Plain, Entity
 use Rattle.cq_theory.specs.declared.schema.Edge.{Edge}
 use Rattle.cq_theory.specs.declared.schema.ObsEq.{ObsEq}
 use Rattle.cq_theory.specs.SchemaData.{SchemaData as Schema}
+use Rattle.cq_theory.specs.declared.constant.Con.{Con}
 use Rattle.cq_theory.specs.declared.term.EntTerm.{EntTerm}
 use Rattle.cq_theory.specs.declared.term.TypeTerm.{TypeTerm}
 use Rattle.cq_theory.specs.declared.term.TypeTerm.TheVariants.{Gen, Const, Att, Fun}
@@ -39,7 +40,7 @@ second_of_pairs (t ∷ ts) = ap (λ l. subterms t ++ l) (second_of_pairs ts)
 subterms-Gen : (n : ℕ) → subterms (Gen n) ≡ Gen n ∷ []
 subterms-Gen = para-Gen (List TypeTerm) subterms_step
 
-subterms-Const : (c : ℕ) → subterms (Const c) ≡ Const c ∷ []
+subterms-Const : (c : Con) → subterms (Const c) ≡ Const c ∷ []
 subterms-Const = para-Const (List TypeTerm) subterms_step
 
 subterms-Att : (a : ℕ) (t : EntTerm) → subterms (Att a t) ≡ Att a t ∷ []
@@ -146,7 +147,7 @@ module _ (S : Schema) (P : Presentation) where
 
 -- Where V holds of each node, E holds of each node, if it does wherever V holds of the arguments.
 module _ (V E : TypeTerm → Type 0)
-    (on_gen : (n : ℕ) → E (Gen n)) (on_const : (c : ℕ) → E (Const c)) (on_att : (a : ℕ) (t : EntTerm) → E (Att a t))
+    (on_gen : (n : ℕ) → E (Gen n)) (on_const : (c : Con) → E (Const c)) (on_att : (a : ℕ) (t : EntTerm) → E (Att a t))
     (on_fun : (f : ℕ) (ts : List TypeTerm) → Each V ts → V (Fun f ts) → E (Fun f ts)) where
   abbrev Passes : List TypeTerm → Type 0
   Passes xs = Every V xs → Every E xs

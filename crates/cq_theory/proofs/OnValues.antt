@@ -11,6 +11,9 @@ use Rattle.cq_theory.specs.declared.value.Value.TheOpen as layer
 use Rattle.cq_theory.specs.declared.value.Value.TheFolds.{ind-Value, map-Value}
 use Rattle.cq_theory.specs.declared.value.Value.TheViews.{roll-Value}
 use Rattle.cq_theory.specs.declared.value.Entry.{Entry}
+use Rattle.cq_theory.specs.declared.constant.Con.{Con}
+use Rattle.cq_theory.specs.Constant.{con_equal}
+use Rattle.cq_theory.proofs.Constants.{same_con_true}
 use Rattle.cq_theory.specs.Tables.{Tables, same_plain, all_same_plain, is_for, entry_or_built, applied, IsPlain, IsSoundEntry, IsWellFormed}
 
 -- P holds of each value of a list
@@ -19,7 +22,7 @@ Each P [] = Unit {0}
 Each P (v ∷ vs) = P v × Each P vs
 
 module _ (P : Value → Type 0)
-    (on_const : (n : ℕ) → P (Const n)) (on_null : (n : ℕ) → P (Null n))
+    (on_const : (n : Con) → P (Const n)) (on_null : (n : ℕ) → P (Null n))
     (on_fun : (f : ℕ) (vs : List Value) → Each P vs → P (Fun f vs)) where
   each_such : (ys : List ((v : Value) × P v)) → Each P (map (λ e. e.0) ys)
   each_such [] = tt
@@ -39,7 +42,7 @@ pub All_at : {X : Type 0} (P : X → Type 0) (xs : List X) (n : ℕ) (x : X) →
 All_at P xs n x all h = subst P (get_or_from_slice_get xs n x x h) (all n x (slice_get_within xs n x h))
 
 same_plain_true : (v w : Value) → same_plain v w ≡ true → v ≡ w
-same_plain_true (Const c) (Const d) h = ap Const (eqb-true c d h)
+same_plain_true (Const c) (Const d) h = ap Const (same_con_true c d h)
 same_plain_true (Null n) (Null m) h = ap Null (eqb-true n m h)
 same_plain_true _ _ h = cc
 
@@ -83,7 +86,7 @@ some_found p (y ∷ ys) n x h passes = at_test (p y) refl n h (λ m at. some_fou
         (rest.0, later ∙ rest.1)
 
 same_plain_itself : (v : Value) → IsPlain v → same_plain v v ≡ true
-same_plain_itself (Const c) h = eq-eqb c c refl
+same_plain_itself (Const c) h = con_equal.refl c
 same_plain_itself (Null n) h = eq-eqb n n refl
 same_plain_itself _ h = absurd h
 

@@ -5,6 +5,8 @@ use Rattle.std.specs.List.{flat_map, enumerate_from, filter_map, cons_option}
 use Rattle.std.specs.Ordering.{is_gt}
 use Rattle.std.proofs.lemmas.Bool.{eq-eqb}
 use Rattle.std.proofs.lemmas.Option.{slice_get_within, slice_get_cases, get_or_from_slice_get}
+use Rattle.cq_theory.specs.declared.constant.Con.{Con}
+use Rattle.cq_theory.specs.declared.constant.Con.TheVariants.{Named}
 use Rattle.cq_theory.specs.declared.presentation.Presentation.{Presentation}
 use Rattle.cq_base.specs.declared.name.Name.{Name}
 use Rattle.cq_theory.specs.declared.presentation.Sort.{Sort}
@@ -43,7 +45,7 @@ use Rattle.cq_theory.proofs.NodeLists.{HasType, nodes_typed, nodes_pass}
 pub out-Gen : (n : ℕ) → out-TypeTerm (term.Gen n) ≡ layer.Gen n
 out-Gen n = ap out-TypeTerm (sym (term.rolls-Gen n)) ∙ out-roll-TypeTerm (layer.Gen n)
 
-out-Const : (c : ℕ) → out-TypeTerm (term.Const c) ≡ layer.Const c
+out-Const : (c : Con) → out-TypeTerm (term.Const c) ≡ layer.Const c
 out-Const c = ap out-TypeTerm (sym (term.rolls-Const c)) ∙ out-roll-TypeTerm (layer.Const c)
 
 out-Att : (a : ℕ) (t : EntTerm) → out-TypeTerm (term.Att a t) ≡ layer.Att a t
@@ -55,7 +57,7 @@ out-Fun f ts = ap out-TypeTerm (sym (term.rolls-Fun f ts)) ∙ out-roll-TypeTerm
 same_null : (x y : ℕ) → Null x ≡ Null y → x ≡ y
 same_null x y h = cc
 
-no_null : (c y : ℕ) → Const c ≡ Null y → ⊥
+no_null : (c : Con) (y : ℕ) → Const c ≡ Null y → ⊥
 no_null c y h = cc
 
 same_member : {X : Type 0} (o : Option X) (x y : X) → o ≡ Some x → o ≡ Some y → x ≡ y
@@ -155,7 +157,7 @@ module _ (S : Schema) (P : Presentation) where
       same_null y y' (sym there ∙ derived_values N B n t u type h typed derived ∙ there')
 
   -- a term that means a constant in the one model means it in the other
-  constant_too : (M N : Tables) (A B : Assignment) (m : Lists S P M A) (n : Lists S P N B) (t : TypeTerm) (type c : ℕ) → type_of S P.generators t ≡ Some type → value_of M A t ≡ Const c → value_of N B t ≡ Const c
+  constant_too : (M N : Tables) (A B : Assignment) (m : Lists S P M A) (n : Lists S P N B) (t : TypeTerm) (type : ℕ) (c : Con) → type_of S P.generators t ≡ Some type → value_of M A t ≡ Const c → value_of N B t ≡ Const c
   constant_too M N A B m n t type c h at =
       let typed : type_of S P.generators (term.Const c) ≡ Some type =
       fold-Const (Option ℕ) (type_step S P.generators) c ∙ sym (values.fold-Const (Option ℕ) (value_type_step S M.algebra.nulls) c)
@@ -246,7 +248,7 @@ module _ (S : Schema) (P : Presentation) where
     no_entry-Gen : (M : Tables) (A : Assignment) (g : ℕ) → node_entry S P M A (term.Gen g) ≡ None
     no_entry-Gen M A g = rw (out-Gen g, node_entry)
 
-    no_entry-Const : (M : Tables) (A : Assignment) (c : ℕ) → node_entry S P M A (term.Const c) ≡ None
+    no_entry-Const : (M : Tables) (A : Assignment) (c : Con) → node_entry S P M A (term.Const c) ≡ None
     no_entry-Const M A c = rw (out-Const c, node_entry)
 
     entry-Fun : (M : Tables) (A : Assignment) (f : ℕ) (ts : List TypeTerm) → node_entry S P M A (term.Fun f ts) ≡ Some (record { function = f; args = map (value_of M A) ts; value = value_of M A (term.Fun f ts) })
@@ -319,7 +321,7 @@ module _ (S : Schema) (P : Presentation) where
     cell_column a edge at =
         let left = m.initial.holds.well_formed.cell_columns a edge at in
         let right = n.initial.holds.well_formed.cell_columns a edge at in
-        same_lists (Const 0) (slice_index_or M.sheet.cells a []) (slice_index_or N.sheet.cells a []) (left.0 ∙ one_count edge.from ∙ sym right.0)
+        same_lists (Const (Named 0)) (slice_index_or M.sheet.cells a []) (slice_index_or N.sheet.cells a []) (left.0 ∙ one_count edge.from ∙ sym right.0)
         (λ row within. one_cell a edge row at (subst (λ k. row < k) left.0 within))
 
     same_cells : M.sheet.cells ≡ N.sheet.cells

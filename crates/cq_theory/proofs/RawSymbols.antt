@@ -7,6 +7,8 @@ use Rattle.std.proofs.lemmas.Bool.{eqb-true}
 use Rattle.cq_base.specs.declared.name.Name.{Name}
 use Rattle.cq_base.specs.declared.raw.Raw.{Raw}
 use Rattle.cq_base.specs.Names.{number_of}
+use Rattle.cq_theory.specs.declared.constant.Con.{Con}
+use Rattle.cq_theory.specs.declared.constant.Con.TheVariants.{Named}
 use Rattle.cq_theory.specs.declared.presentation.Sort.{Sort}
 use Rattle.cq_theory.specs.declared.presentation.Sort.TheVariants.{Plain, Entity}
 use Rattle.cq_theory.specs.declared.lookup.Symbol.{Symbol}
@@ -18,7 +20,7 @@ use Rattle.cq_theory.specs.declared.term.Term.TheVariants.{Ent, Typ}
 use Rattle.cq_theory.specs.EntTerm as ent
 use Rattle.cq_theory.specs.TypeTerm.{symbols_of, symbols_step}
 use Rattle.cq_theory.specs.Presentation.{term_symbols}
-use Rattle.cq_theory.specs.Resolve.{constant_of, symbol_of, argument_count, takes_another_count, has_wrong_count, wrong_count_step, raw_symbols, raw_symbols_step}
+use Rattle.cq_theory.specs.Resolve.{word_constant, text_constant, symbol_of, argument_count, takes_another_count, has_wrong_count, wrong_count_step, raw_symbols, raw_symbols_step}
 use Rattle.cq_theory.specs.Resolved.{resolved, resolved_step, type_term_in, entity_term_in, generator_term, constant_term, word_term, first_entity_term, symbol_term}
 use Rattle.cq_theory.proofs.TypeTerms.{fold-Gen, fold-Const, fold-Att, fold-Fun, on_terms}
 use Rattle.cq_theory.proofs.Raws.{fold-Word, fold-Text, fold-App, Each, on_raws}
@@ -27,8 +29,8 @@ use Rattle.cq_theory.proofs.Faults.{neither, not_false}
 sum_more : (n : ℕ) (ns : List ℕ) → sum (n ∷ ns) ≡ n + sum ns
 sum_more n ns = sum_by-cons (λ m. m) n ns
 
-constant_symbols : (o : Option ℕ) → term_symbols (constant_term o) ≡ 1
-constant_symbols None = fold-Const ℕ symbols_step 0
+constant_symbols : (o : Option Con) → term_symbols (constant_term o) ≡ 1
+constant_symbols None = fold-Const ℕ symbols_step (Named 0)
 constant_symbols (Some c) = fold-Const ℕ symbols_step c
 
 generator_symbols : (n : ℕ) (o : Option Sort) → term_symbols (generator_term n o) ≡ 1
@@ -36,7 +38,7 @@ generator_symbols n None = fold-Gen ℕ symbols_step n
 generator_symbols n (Some (Entity e)) = refl
 generator_symbols n (Some (Plain t)) = fold-Gen ℕ symbols_step n
 
-word_symbols : (sorts : List Sort) (number other : Option ℕ) → term_symbols (word_term sorts number other) ≡ 1
+word_symbols : (sorts : List Sort) (number : Option ℕ) (other : Option Con) → term_symbols (word_term sorts number other) ≡ 1
 word_symbols sorts None other = constant_symbols other
 word_symbols sorts (Some n) other = generator_symbols n _
 
@@ -49,7 +51,7 @@ has_one = on_terms (λ t. 1 ≤ symbols_of t)
 
 pub type_part : (t : Term) → symbols_of (type_term_in t) ≤ term_symbols t
 type_part (Typ t) = omega arith
-type_part (Ent t) = omega (arith, fold-Const ℕ symbols_step 0)
+type_part (Ent t) = omega (arith, fold-Const ℕ symbols_step (Named 0))
 
 entity_part : (t : Term) → ent.symbols_of (entity_term_in t) ≤ term_symbols t
 entity_part (Ent t) = omega arith
@@ -88,7 +90,7 @@ module _ (S : Schema) (names : List Name) (sorts : List Sort) where
 
   symbol_fits : (o : Option Symbol) (args : List Raw) → takes_another_count S o (length (map (has_wrong_count S) args)) ≡ false → Each Fits args
       → term_symbols (symbol_term o (map (resolved S names sorts) args)) ≤ sum (map raw_symbols args) + 1
-  symbol_fits None args h each = omega (arith, fold-Const ℕ symbols_step 0)
+  symbol_fits None args h each = omega (arith, fold-Const ℕ symbols_step (Named 0))
   symbol_fits (Some (Function f)) args h each =
       omega (arith, fold-Fun ℕ symbols_step f (map type_term_in (map (resolved S names sorts) args)), sums args each)
   symbol_fits (Some (Key k)) args h each =
@@ -102,8 +104,8 @@ module _ (S : Schema) (names : List Name) (sorts : List Sort) where
 
   pub resolved-no_longer : (raw : Raw) → IsNoLonger raw
   resolved-no_longer = on_raws IsNoLonger
-      (λ n h. omega (arith, ap term_symbols (fold-Word Term (resolved_step S names sorts) n), word_symbols sorts (number_of names n) (constant_of S n), fold-Word ℕ raw_symbols_step n))
-      (λ n h. omega (arith, ap term_symbols (fold-Text Term (resolved_step S names sorts) n), constant_symbols (constant_of S n), fold-Text ℕ raw_symbols_step n))
+      (λ n h. omega (arith, ap term_symbols (fold-Word Term (resolved_step S names sorts) n), word_symbols sorts (number_of names n) (word_constant S n), fold-Word ℕ raw_symbols_step n))
+      (λ n h. omega (arith, ap term_symbols (fold-Text Term (resolved_step S names sorts) n), constant_symbols (text_constant S n), fold-Text ℕ raw_symbols_step n))
       (λ n args each h.
       let counted : (takes_another_count S (symbol_of S n) (length (map (has_wrong_count S) args)) || list_any (λ b. b) (map (has_wrong_count S) args)) ≡ false
       = sym (fold-App Bool (wrong_count_step S) n args) ∙ h in

@@ -1,11 +1,14 @@
 -- A term that is looked up has the sort that was found for it.
-use Rattle.std.proofs.Common.{ℕ, Bool, true, List, [], ◌∷◌, Option, Some, None, ◌≡◌, ◌&&◌, if◌then◌else◌, map, refl, sym, ap, ◌∙◌}
-use Rattle.std.specs.Prelude.{slice_get, option_and_then, option_map}
+use Rattle.std.proofs.Common.{ℕ, Bool, true, false, List, [], ◌∷◌, Option, Some, None, ◌≡◌, ◌&&◌, if◌then◌else◌, map, refl, sym, ap, ◌∙◌}
+use Rattle.std.specs.Prelude.{slice_get, is_some, option_and_then, option_map}
+use Rattle.std.specs.List.{list_any}
 use Rattle.std.proofs.lemmas.Option.{cond_some, option_and_then_some}
 use Rattle.std.proofs.lemmas.Bool.{eqb-true, eq-eqb}
 use Rattle.cq_base.specs.declared.name.Name.{Name}
 use Rattle.cq_base.specs.declared.raw.Raw.{Raw}
 use Rattle.cq_base.specs.Names.{number_of}
+use Rattle.cq_theory.specs.declared.constant.Con.TheVariants.{Named, Open}
+use Rattle.cq_theory.specs.Typeside.{is_reserved}
 use Rattle.cq_theory.specs.declared.presentation.Sort.{Sort}
 use Rattle.cq_theory.specs.declared.presentation.Sort.TheVariants.{Plain, Entity}
 use Rattle.cq_theory.specs.declared.lookup.Symbol.{Symbol}
@@ -16,10 +19,12 @@ use Rattle.cq_theory.specs.declared.term.TypeTerm.TheVariants.{Fun}
 use Rattle.cq_theory.specs.declared.term.Term.{Term}
 use Rattle.cq_theory.specs.declared.term.Term.TheVariants.{Ent, Typ}
 use Rattle.cq_theory.specs.Sorts.{Generators, followed, target_of, entity_at, type_at, entity_of, is_type, have_types, applied_type, type_of, type_step, sort_of}
-use Rattle.cq_theory.specs.Resolve.{constant_of, symbol_of, constant_sort, word_sort, is_plain_of, are_plain_of, function_sort, entity_in, only, symbol_sort, raw_sort, raw_sort_step}
+use Rattle.cq_theory.specs.Resolve.{or_else, constant_of, symbol_of, constant_sort, text_sort, word_sort, is_plain_of, are_plain_of, function_sort, entity_in, only, symbol_sort, has_reserved, reserved_step, raw_sort, raw_sort_step}
 use Rattle.cq_theory.specs.Resolved.{resolved, resolved_step, type_term_in, entity_term_in, generator_term, constant_term, word_term, first_entity_term, symbol_term}
 use Rattle.cq_theory.proofs.TypeTerms.{fold-Gen, fold-Const, fold-Att, fold-Fun}
 use Rattle.cq_theory.proofs.Raws.{fold-Word, fold-Text, fold-App, Each, on_raws}
+use Rattle.cq_theory.proofs.Constants.{open_typed}
+use Rattle.cq_theory.proofs.Faults.{neither}
 use Rattle.cq_theory.proofs.Sound.{both}
 use Rattle.cq_theory.proofs.Closings.{entity_of-extended}
 
@@ -51,11 +56,31 @@ module _ (S : Schema) (G : Generators) where
     abbrev KeepsSort : Raw → Type 0
     KeepsSort raw = (sort : Sort) → raw_sort S names sorts raw ≡ Some sort → sort_of S G (resolved S names sorts raw) ≡ Some sort
 
-    constant_keeps : (o : Option ℕ) (sort : Sort) → constant_sort S o ≡ Some sort → sort_of S G (constant_term o) ≡ Some sort
+    -- without a reserved text
+    abbrev KeepsSortIfFree : Raw → Type 0
+    KeepsSortIfFree raw = has_reserved S raw ≡ false → KeepsSort raw
+
+    each_keeps : (args : List Raw) → Each KeepsSortIfFree args → list_any (λ b. b) (map (has_reserved S) args) ≡ false → Each KeepsSort args
+    each_keeps [] each h = tt
+    each_keeps (a ∷ args) each h =
+        let parts = neither (has_reserved S a) (list_any (λ b. b) (map (has_reserved S) args)) h in
+        (each.0 parts.0, each_keeps args each.1 parts.1)
+
+    constant_keeps : (o : Option ℕ) (sort : Sort) → constant_sort S o ≡ Some sort → sort_of S G (constant_term (option_map Named o)) ≡ Some sort
     constant_keeps None sort h = cc
     constant_keeps (Some c) sort h =
         let found = map_some (λ (constant : Name × ℕ). Plain constant.1) (slice_get S.typeside.constants c) sort h in
-        ap (option_map Plain) (fold-Const (Option ℕ) (type_step S G) c ∙ ap (option_map (λ (constant : Name × ℕ). constant.1)) found.1) ∙ ap (λ (s : Sort). Some s) found.2
+        ap (option_map Plain) (fold-Const (Option ℕ) (type_step S G) (Named c) ∙ ap (option_map (λ (constant : Name × ℕ). constant.1)) found.1) ∙ ap (λ (s : Sort). Some s) found.2
+
+    text_keeps : (text : Name) (o : Option ℕ) (sort : Sort) → constant_of S text ≡ o → (is_some S.typeside.open_type && is_reserved text) ≡ false → text_sort S o ≡ Some sort
+        → sort_of S G (constant_term (or_else (option_map Named o) (option_map (λ type. Open text) S.typeside.open_type))) ≡ Some sort
+    text_keeps text (Some c) sort undeclared free h = constant_keeps (Some c) sort h
+    text_keeps text None sort undeclared free h = at_type S.typeside.open_type refl free h
+      where
+        at_type : (p : Option ℕ) → S.typeside.open_type ≡ p → (is_some p && is_reserved text) ≡ false → option_map Plain p ≡ Some sort
+            → sort_of S G (constant_term (option_map (λ type. Open text) p)) ≡ Some sort
+        at_type None is free' h' = cc
+        at_type (Some type) is free' h' = ap (option_map Plain) (fold-Const (Option ℕ) (type_step S G) (Open text) ∙ open_typed S.typeside text type free' undeclared is) ∙ h'
 
     generator_keeps : (n : ℕ) (sort : Sort) → slice_get sorts n ≡ Some sort → sort_of S G (generator_term n (Some sort)) ≡ Some sort
     generator_keeps n (Entity e) h =
@@ -65,7 +90,7 @@ module _ (S : Schema) (G : Generators) where
         let g = agree n (Plain t) h in
         ap (option_map Plain) (fold-Gen (Option ℕ) (type_step S G) n ∙ ap type_at g.1 ∙ ap (λ (s : Sort). type_at (Some (g.0.0, s))) g.2)
 
-    word_keeps : (number other : Option ℕ) (sort : Sort) → word_sort S sorts number other ≡ Some sort → sort_of S G (word_term sorts number other) ≡ Some sort
+    word_keeps : (number other : Option ℕ) (sort : Sort) → word_sort S sorts number other ≡ Some sort → sort_of S G (word_term sorts number (option_map Named other)) ≡ Some sort
     word_keeps None other sort h = constant_keeps other sort h
     word_keeps (Some n) other sort h = ap (λ o. sort_of S G (generator_term n o)) h ∙ generator_keeps n sort h
 
@@ -117,11 +142,11 @@ module _ (S : Schema) (G : Generators) where
         ∙ ap (option_and_then (followed (slice_get S.attributes a))) (only_keeps args e first each) ∙ rest)
         ∙ ap (λ (s : Sort). Some s) found.2)
 
-    pub sort_of-resolved : (raw : Raw) → KeepsSort raw
-    sort_of-resolved = on_raws KeepsSort
-        (λ n sort h. ap (sort_of S G) (fold-Word Term (resolved_step S names sorts) n)
+    pub sort_of-resolved : (raw : Raw) → KeepsSortIfFree raw
+    sort_of-resolved = on_raws KeepsSortIfFree
+        (λ n free sort h. ap (sort_of S G) (fold-Word Term (resolved_step S names sorts) n)
         ∙ word_keeps (number_of names n) (constant_of S n) sort (sym (fold-Word (Option Sort) (raw_sort_step S names sorts) n) ∙ h))
-        (λ n sort h. ap (sort_of S G) (fold-Text Term (resolved_step S names sorts) n)
-        ∙ constant_keeps (constant_of S n) sort (sym (fold-Text (Option Sort) (raw_sort_step S names sorts) n) ∙ h))
-        (λ n args each sort h. ap (sort_of S G) (fold-App Term (resolved_step S names sorts) n args)
-        ∙ symbol_keeps (symbol_of S n) args sort (sym (fold-App (Option Sort) (raw_sort_step S names sorts) n args) ∙ h) each)
+        (λ n free sort h. ap (sort_of S G) (fold-Text Term (resolved_step S names sorts) n)
+        ∙ text_keeps n (constant_of S n) sort refl (sym (fold-Text Bool (reserved_step S) n) ∙ free) (sym (fold-Text (Option Sort) (raw_sort_step S names sorts) n) ∙ h))
+        (λ n args each free sort h. ap (sort_of S G) (fold-App Term (resolved_step S names sorts) n args)
+        ∙ symbol_keeps (symbol_of S n) args sort (sym (fold-App (Option Sort) (raw_sort_step S names sorts) n args) ∙ h) (each_keeps args each (sym (fold-App Bool (reserved_step S) n args) ∙ free)))

@@ -10,6 +10,7 @@ use Rattle.cq_theory.specs.declared.presentation.Sort.TheVariants.{Plain, Entity
 use Rattle.cq_theory.specs.SchemaData.{SchemaData as Schema}
 use Rattle.cq_theory.specs.declared.typeside.Fun.{Fun as Function}
 use Rattle.cq_theory.specs.declared.term.TypeTerm.{TypeTerm}
+use Rattle.cq_theory.specs.declared.constant.Con.TheVariants.{Named}
 use Rattle.cq_theory.specs.declared.value.Value.{Value}
 use Rattle.cq_theory.specs.declared.value.Value.TheVariants.{Const}
 use Rattle.cq_theory.specs.declared.value.Entry.{Entry}
@@ -81,7 +82,7 @@ module _ (S : Schema) (P : Presentation) (M : Tables) (A : Assignment) (holds : 
       let edge = followed_some (slice_get S.attributes a) entity type last in
       let column = holds.well_formed.cell_columns a edge.0 edge.1 in
       let row : row_of M A t < count_of M edge.0.from = subst (λ n. row_of M A t < count_of M n) (sym edge.2) (row_of-within S P M A holds t entity led) in
-      let cell = column.1 (row_of M A t) (Const 0) (subst (λ n. row_of M A t < n) (sym column.0) row) in
+      let cell = column.1 (row_of M A t) (Const (Named 0)) (subst (λ n. row_of M A t < n) (sym column.0) row) in
       ap type_in' (fold-Att Value (value_step M A) a t) ∙ cell.0 ∙ ap (λ n. Some n) edge.3))
       (λ f ts each type h.
       let parts = applied_type_some (slice_get S.typeside.functions f) (map (type_of S P.generators) ts) type (sym (fold-Fun (Option ℕ) (type_step S P.generators) f ts) ∙ h) in

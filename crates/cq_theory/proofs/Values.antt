@@ -5,14 +5,15 @@ use Rattle.std.specs.List.{list_all}
 use Rattle.std.proofs.lemmas.Bool.{ltb-true}
 use Rattle.std.proofs.lemmas.List.{take_more, map-append, append-nil}
 use Rattle.cq_theory.specs.TypesideData.{TypesideData as Typeside}
+use Rattle.cq_theory.specs.declared.constant.Con.{Con}
 use Rattle.cq_theory.specs.declared.value.Value.{Value}
 use Rattle.cq_theory.specs.declared.value.Value.TheVariants.{Const, Null, Fun, rolls-Const, rolls-Null, rolls-Fun}
 use Rattle.cq_theory.specs.declared.value.Value.TheOpen as layer
 use Rattle.cq_theory.specs.declared.value.Value.TheFolds.{fold-Value, fold-roll-Value}
-use Rattle.cq_theory.specs.ValueText.{value_text, text_step, is_named, is_named_step, after_commas, function_name, constant_text, constant_name, null_text, application_text}
+use Rattle.cq_theory.specs.ValueText.{value_text, text_step, is_named, is_named_step, after_commas, function_name, con_text, null_text, application_text}
 
 module _ (A : Type 0) (step : layer.Value-F A → A) where
-  pub fold-Const : (n : ℕ) → fold-Value A step (Const n) ≡ step (layer.Const n)
+  pub fold-Const : (n : Con) → fold-Value A step (Const n) ≡ step (layer.Const n)
   fold-Const n = ap (fold-Value A step) (sym (rolls-Const n)) ∙ fold-roll-Value A step (layer.Const n)
 
   pub fold-Null : (n : ℕ) → fold-Value A step (Null n) ≡ step (layer.Null n)
@@ -21,7 +22,7 @@ module _ (A : Type 0) (step : layer.Value-F A → A) where
   pub fold-Fun : (f : ℕ) (vs : List Value) → fold-Value A step (Fun f vs) ≡ step (layer.Fun f (map (fold-Value A step) vs))
   fold-Fun f vs = ap (fold-Value A step) (sym (rolls-Fun f vs)) ∙ fold-roll-Value A step (layer.Fun f vs)
 
-pub value_text-at_Const : (T : Typeside) (v : Value) (c : ℕ) → v ≡ Const c → value_text T v ≡ constant_text (constant_name (slice_get T.constants c))
+pub value_text-at_Const : (T : Typeside) (v : Value) (c : Con) → v ≡ Const c → value_text T v ≡ con_text T c
 value_text-at_Const T v c e = ap (value_text T) e ∙ fold-Const (List ℕ) (text_step T) c
 
 pub value_text-at_Null : (T : Typeside) (v : Value) (n : ℕ) → v ≡ Null n → value_text T v ≡ null_text n

@@ -1,3 +1,4 @@
+pub mod Constant
 pub mod TypesideData
 pub mod SchemaData
 pub mod EntTerm

@@ -10,6 +10,7 @@ use Rattle.cq_theory.specs.SchemaData.{SchemaData as Schema}
 use Rattle.cq_theory.specs.declared.presentation.Equation.{Equation}
 use Rattle.cq_theory.specs.declared.presentation.Equation.TheVariants.{Ent as EntEquation, Typ as TypEquation}
 use Rattle.cq_theory.specs.declared.presentation.Presentation.{Presentation}
+use Rattle.cq_theory.specs.declared.constant.Con.TheVariants.{Named}
 use Rattle.cq_theory.specs.declared.term.TypeTerm.TheVariants.{Const}
 use Rattle.cq_theory.specs.declared.term.Term.{Term}
 use Rattle.cq_theory.specs.declared.term.Term.TheVariants.{Ent, Typ}
@@ -49,7 +50,7 @@ presentation_fault S generators equations =
 abbrev pub equation_of : Term → Term → Equation
 equation_of (Ent t) (Ent u) = EntEquation t u
 equation_of (Typ t) (Typ u) = TypEquation t u
-equation_of _ _ = TypEquation (Const 0) (Const 0)
+equation_of _ _ = TypEquation (Const (Named 0)) (Const (Named 0))
 
 -- the presentation that the parts give, where they break no rule
 abbrev pub presented : Schema → List (Name × Name) → List (Raw × Raw) → Presentation

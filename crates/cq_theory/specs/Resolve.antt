@@ -1,33 +1,43 @@
 -- Looking up the names of a term as it is written.
-use Rattle.std.specs.Prelude.{ℕ, Bool, true, false, not, List, [], ◌∷◌, ◌+◌, ◌<◌, ◌==◌, ◌&&◌, ◌||◌, if◌then◌else◌, length, sum, Option, Some, None, is_none, nat_lt, slice_get, option_map, option_and_then}
+use Rattle.std.specs.Prelude.{ℕ, Bool, true, false, not, List, [], ◌∷◌, ◌+◌, ◌<◌, ◌==◌, ◌&&◌, ◌||◌, if◌then◌else◌, length, sum, Option, Some, None, is_none, is_some, nat_lt, slice_get, option_map, option_and_then}
 use Rattle.std.specs.List.{list_any}
 use Rattle.cq_base.specs.declared.name.Name.{Name}
 use Rattle.cq_base.specs.declared.raw.Raw.{Raw}
 use Rattle.cq_base.specs.declared.raw.Raw.TheOpen.{Raw-F, Word, Text, App}
 use Rattle.cq_base.specs.declared.raw.Raw.TheFolds.{fold-Raw}
 use Rattle.cq_base.specs.Names.{number_of}
+use Rattle.cq_theory.specs.declared.constant.Con.{Con}
+use Rattle.cq_theory.specs.declared.constant.Con.TheVariants.{Named, Open}
 use Rattle.cq_theory.specs.declared.presentation.Sort.{Sort}
 use Rattle.cq_theory.specs.declared.presentation.Sort.TheVariants.{Plain, Entity}
 use Rattle.cq_theory.specs.declared.lookup.Symbol.{Symbol}
 use Rattle.cq_theory.specs.declared.lookup.Symbol.TheVariants.{Function, Key, Attribute}
 use Rattle.cq_theory.specs.declared.lookup.TermRefusal.{TermRefusal}
-use Rattle.cq_theory.specs.declared.lookup.TermRefusal.TheVariants.{Unknown, WrongCount, WrongSort, TooLarge, Memory}
+use Rattle.cq_theory.specs.declared.lookup.TermRefusal.TheVariants.{Unknown, WrongCount, WrongSort, Reserved, TooLarge, Memory}
 use Rattle.cq_theory.specs.declared.lookup.TheoryRefusal.{TheoryRefusal}
-use Rattle.cq_theory.specs.declared.lookup.TheoryRefusal.TheVariants.{Unknown as UnknownIn, WrongCount as WrongCountIn, WrongSort as WrongSortIn, TooLarge as TooLargeIn, Memory as OutOfMemory}
+use Rattle.cq_theory.specs.declared.lookup.TheoryRefusal.TheVariants.{Unknown as UnknownIn, WrongCount as WrongCountIn, WrongSort as WrongSortIn, Reserved as ReservedIn, TooLarge as TooLargeIn, Memory as OutOfMemory}
 use Rattle.cq_theory.specs.SchemaData.{SchemaData as Schema}
 use Rattle.cq_theory.specs.TypesideData.{TypesideData as Typeside}
 use Rattle.cq_theory.specs.declared.typeside.Fun.{Fun}
 use Rattle.cq_theory.specs.Sorts.{followed}
-use Rattle.cq_theory.specs.Typeside.{constant_names, function_names}
+use Rattle.cq_theory.specs.Typeside.{constant_names, function_names, is_reserved}
 use Rattle.cq_theory.specs.Schema.{edge_names}
 
--- the number of a constant
+-- the number of a declared constant
 abbrev pub constant_of : Schema → Name → Option ℕ
 constant_of S name = number_of (constant_names S.typeside) name
 
 abbrev pub or_else : {X : Type 0} → Option X → Option X → Option X
 or_else None p = p
 or_else (Some x) p = Some x
+
+-- the constant of a word, which is a declared one
+abbrev pub word_constant : Schema → Name → Option Con
+word_constant S word = option_map Named (constant_of S word)
+
+-- the constant of a text: the declared one with this content, else the open one, where the typeside has an open type
+abbrev pub text_constant : Schema → Name → Option Con
+text_constant S text = or_else (word_constant S text) (option_map (λ type. Open text) S.typeside.open_type)
 
 -- the type or entity of a name, over a typeside with entities
 abbrev pub sort_in : Typeside → List Name → Name → Option Sort
@@ -61,6 +71,11 @@ takes_another_count S (Some symbol) count = not (argument_count S symbol == coun
 abbrev pub constant_sort : Schema → Option ℕ → Option Sort
 constant_sort S None = None
 constant_sort S (Some c) = option_map (λ constant. Plain constant.1) (slice_get S.typeside.constants c)
+
+-- the sort of a text: that of the declared constant, else the open type
+abbrev pub text_sort : Schema → Option ℕ → Option Sort
+text_sort S None = option_map Plain S.typeside.open_type
+text_sort S (Some c) = constant_sort S (Some c)
 
 abbrev pub word_sort : Schema → List Sort → Option ℕ → Option ℕ → Option Sort
 word_sort S sorts (Some n) constant = slice_get sorts n
@@ -118,11 +133,20 @@ module _ (S : Schema) where
   abbrev pub has_wrong_count : Raw → Bool
   has_wrong_count = fold-Raw Bool wrong_count_step
 
+  -- under a typeside with an open type, a text of the term is one that no constant can have
+  abbrev pub reserved_step : Raw-F Bool → Bool
+  reserved_step (Word name) = false
+  reserved_step (Text name) = is_some S.typeside.open_type && is_reserved name
+  reserved_step (App name args) = list_any (λ b. b) args
+
+  abbrev pub has_reserved : Raw → Bool
+  has_reserved = fold-Raw Bool reserved_step
+
 module _ (S : Schema) (names : List Name) where
   -- a name of the term isn't declared
   abbrev pub unknown_step : Raw-F Bool → Bool
   unknown_step (Word name) = is_none (number_of names name) && is_none (constant_of S name)
-  unknown_step (Text name) = is_none (constant_of S name)
+  unknown_step (Text name) = is_none (text_constant S name)
   unknown_step (App name args) = is_none (symbol_of S name) || list_any (λ b. b) args
 
   abbrev pub has_unknown : Raw → Bool
@@ -131,7 +155,7 @@ module _ (S : Schema) (names : List Name) where
   -- the sort of the term, if its names, counts and sorts are right
   abbrev pub raw_sort_step : List Sort → Raw-F (Option Sort) → Option Sort
   raw_sort_step sorts (Word name) = word_sort S sorts (number_of names name) (constant_of S name)
-  raw_sort_step sorts (Text name) = constant_sort S (constant_of S name)
+  raw_sort_step sorts (Text name) = text_sort S (constant_of S name)
   raw_sort_step sorts (App name args) = symbol_sort S (symbol_of S name) args
 
   abbrev pub raw_sort : List Sort → Raw → Option Sort
@@ -165,8 +189,9 @@ module _ (S : Schema) (names : List Name) (sorts : List Sort) where
       if has_unknown S names raw then Some Unknown
       else (if has_wrong_count S raw then Some WrongCount
       else (if is_none (raw_sort S names sorts raw) then Some WrongSort
+      else (if has_reserved S raw then Some Reserved
       else (if is_too_large raw then Some TooLarge
-      else None)))
+      else None))))
 
   -- the least rule that the equation breaks
   abbrev pub equation_fault : Raw × Raw → Option TermRefusal
@@ -174,14 +199,16 @@ module _ (S : Schema) (names : List Name) (sorts : List Sort) where
       if has_unknown S names e.0 || has_unknown S names e.1 then Some Unknown
       else (if has_wrong_count S e.0 || has_wrong_count S e.1 then Some WrongCount
       else (if not (are_of_one_sort (raw_sort S names sorts e.0) (raw_sort S names sorts e.1)) then Some WrongSort
+      else (if has_reserved S e.0 || has_reserved S e.1 then Some Reserved
       else (if is_too_large e.0 || is_too_large e.1 then Some TooLarge
-      else None)))
+      else None))))
 
 -- a rule, broken by part n of the call
 abbrev pub in_part : ℕ → TermRefusal → TheoryRefusal
 in_part n Unknown = UnknownIn n
 in_part n WrongCount = WrongCountIn n
 in_part n WrongSort = WrongSortIn n
+in_part n Reserved = ReservedIn n
 in_part n TooLarge = TooLargeIn n
 in_part n Memory = OutOfMemory
 

@@ -22,7 +22,7 @@ use Rattle.cq_theory.specs.SchemaData.{SchemaData as Schema}
 use Rattle.cq_theory.specs.TypesideData.{TypesideData as Typeside}
 use Rattle.cq_theory.specs.Typeside.{function_names}
 use Rattle.cq_theory.specs.Schema.{edge_names}
-use Rattle.cq_theory.specs.Resolve.{or_else, symbol_of, sort_in, sort_named, entity_in, type_in, has_unknown, has_wrong_count, raw_sort, is_too_large, first_fault}
+use Rattle.cq_theory.specs.Resolve.{or_else, symbol_of, sort_in, sort_named, entity_in, type_in, has_unknown, has_wrong_count, has_reserved, raw_sort, is_too_large, first_fault}
 use Rattle.cq_theory.specs.Resolved.{resolved, type_term_in}
 use Rattle.cq_theory.specs.Declaring.{first_part_fault, duplicate_or, number_or_zero}
 use Rattle.cq_theory.specs.Paths.{is_among, path_eq_fault, made_path_eq}
@@ -136,8 +136,9 @@ module _ (S : Schema) where
       if is_unknown_entity part.entity || has_unknown S names part.left || has_unknown S names part.right then Some term_refusal.Unknown
       else (if has_wrong_count S part.left || has_wrong_count S part.right then Some term_refusal.WrongCount
       else (if not (have_one_type names (variable_entity part) part.left part.right) then Some term_refusal.WrongSort
+      else (if has_reserved S part.left || has_reserved S part.right then Some term_refusal.Reserved
       else (if is_too_large part.left || is_too_large part.right then Some term_refusal.TooLarge
-      else None)))
+      else None))))
 
   unfoldable pub observation_fault : ObsPart → Option TermRefusal
   observation_fault part = observation_fault_over (part.variable ∷ []) part

@@ -1,7 +1,9 @@
--- Well-sorted typesides.
-use Rattle.std.specs.Prelude.{Bool, true, false, List, [], ◌∷◌, ◌≡◌, ◌<◌, ◌^◌, ◌==◌, ◌||◌, map, length, All}
+-- Well-sorted typesides, and the types of constants.
+use Rattle.std.specs.Prelude.{ℕ, Bool, true, false, List, [], ◌∷◌, Option, None, ◌≡◌, ◌<◌, ◌^◌, ◌==◌, ◌||◌, if◌then◌else◌, is_some, option_map, slice_get, map, length, All, IfSome}
 use Rattle.cq_base.specs.declared.name.Name.{Name}
-use Rattle.cq_base.specs.Names.{AreDistinct}
+use Rattle.cq_base.specs.Names.{AreDistinct, number_of}
+use Rattle.cq_theory.specs.declared.constant.Con.{Con}
+use Rattle.cq_theory.specs.declared.constant.Con.TheVariants.{Named, Open}
 use Rattle.cq_theory.specs.TypesideData.{TypesideData as Typeside}
 
 abbrev pub constant_names : Typeside → List Name
@@ -15,7 +17,13 @@ abbrev pub is_reserved : Name → Bool
 is_reserved [] = true
 is_reserved (byte ∷ bytes) = (byte == 63) || (byte == 61)
 
--- The names of each table are distinct, each type that a constant or a function has is one of the types,
+-- The type of a constant. A text is a constant of the open type, where there is one, the text isn't reserved and no declared constant has it.
+-- As a name it has at most 255 bytes of UTF-8.
+abbrev pub constant_type : Typeside → Con → Option ℕ
+constant_type T (Named n) = option_map (λ constant. constant.1) (slice_get T.constants n)
+constant_type T (Open text) = if is_reserved text || is_some (number_of (constant_names T) text) then None else T.open_type
+
+-- The names of each table are distinct, each type that a constant or a function has is one of the types, and so is the open type,
 -- and the lists are short enough for numbers of 32 bits.
 pub record IsTypeside (T : Typeside) : Type 0 where
   pub type_numbers : length T.types < 2 ^ 32
@@ -27,3 +35,4 @@ pub record IsTypeside (T : Typeside) : Type 0 where
   pub unreserved : All (λ constant. is_reserved constant.0 ≡ false) T.constants
   pub constants : All (λ constant. constant.1 < length T.types) T.constants
   pub functions : All (λ f. All (λ type. type < length T.types) f.args × (f.result < length T.types)) T.functions
+  pub open_type : IfSome T.open_type (λ type. type < length T.types)

@@ -23,6 +23,19 @@ constant_fault types earlier n part =
     else (if is_reserved part.0 then Some (Reserved n)
     else None))
 
+-- the open type, whose part is n, isn't declared
+abbrev pub literals_fault : List Name → ℕ → Option Name → Option TheoryRefusal
+literals_fault types n None = None
+literals_fault types n (Some name) = if is_none (number_of types name) then Some (Unknown n) else None
+
+-- the name of the open type is one part, where there is one
+abbrev pub literals_count : Option Name → ℕ
+literals_count None = 0
+literals_count (Some name) = 1
+
+abbrev pub first_constant : TypesideParts → ℕ
+first_constant parts = length parts.types + literals_count parts.literals
+
 abbrev pub has_unknown_type : List Name → List Name → Bool
 has_unknown_type types names = list_any (λ name. is_none (number_of types name)) names
 
@@ -42,15 +55,20 @@ constants_fault types n constants = first_part_fault (λ part. part.0) (constant
 abbrev pub functions_fault : List Name → ℕ → List (Name × List Name × Name) → Option TheoryRefusal
 functions_fault types n functions = first_part_fault (λ part. part.0) (function_fault types) [] n functions
 
--- the first part that breaks a rule, with the least rule that it breaks: the types, then the constants, then the functions
+-- the first part that breaks a rule, with the least rule that it breaks: the types, then the open type, the constants and the functions
 abbrev pub typeside_fault : TypesideParts → Option TheoryRefusal
 typeside_fault parts =
     or_else (types_fault parts.types)
-    (or_else (constants_fault parts.types (length parts.types) parts.constants)
-    (functions_fault parts.types (length parts.types + length parts.constants) parts.functions))
+    (or_else (literals_fault parts.types (length parts.types) parts.literals)
+    (or_else (constants_fault parts.types (first_constant parts) parts.constants)
+    (functions_fault parts.types (first_constant parts + length parts.constants) parts.functions)))
 
 abbrev pub type_number : List Name → Name → ℕ
 type_number types name = number_or_zero (number_of types name)
+
+abbrev pub open_number : List Name → Option Name → Option ℕ
+open_number types None = None
+open_number types (Some name) = number_of types name
 
 abbrev pub made_constant : List Name → Name × Name → Name × ℕ
 made_constant types part = (part.0, type_number types part.1)
@@ -64,4 +82,5 @@ typeside_made parts = record {
   types = parts.types;
   constants = map (made_constant parts.types) parts.constants;
   functions = map (made_function parts.types) parts.functions;
+  open_type = open_number parts.types parts.literals;
 }

@@ -2,6 +2,8 @@
 use Rattle.std.specs.Prelude.{ℕ, Bool, true, List, [], ◌∷◌, ◌++◌, Option, Some, None, ◌==◌, ◌&&◌, ◌||◌, not, if◌then◌else◌, nat_le, nat_lt, slice_get, length, codes, decimal}
 use Rattle.std.specs.List.{list_all, flat_map}
 use Rattle.cq_base.specs.declared.name.Name.{Name}
+use Rattle.cq_theory.specs.declared.constant.Con.{Con}
+use Rattle.cq_theory.specs.declared.constant.Con.TheVariants.{Named, Open}
 use Rattle.cq_theory.specs.declared.typeside.Fun.{Fun as Function}
 use Rattle.cq_theory.specs.TypesideData.{TypesideData as Typeside}
 use Rattle.cq_theory.specs.declared.value.Value.{Value}
@@ -57,18 +59,28 @@ null_text label = codes "?" ++ decimal label
 abbrev pub application_text : List ℕ → List (List ℕ) → List ℕ
 application_text name texts = name ++ codes "(" ++ with_commas texts ++ codes ")"
 
+-- the text of a constant: a declared one's name, quoted where it is no word, or an open one's text, always quoted
+abbrev pub con_text : Typeside → Con → List ℕ
+con_text T (Named c) = constant_text (constant_name (slice_get T.constants c))
+con_text T (Open text) = quoted text
+
 -- a value, with the text of each argument in its place
 abbrev pub text_step : Typeside → Value-F (List ℕ) → List ℕ
-text_step T (Const c) = constant_text (constant_name (slice_get T.constants c))
+text_step T (Const c) = con_text T c
 text_step T (Null n) = null_text n
 text_step T (Fun f texts) = application_text (function_name (slice_get T.functions f)) texts
 
 abbrev pub value_text : Typeside → Value → List ℕ
 value_text T = fold-Value (List ℕ) (text_step T)
 
+-- a declared constant is in range
+abbrev pub is_named_con : Typeside → Con → Bool
+is_named_con T (Named c) = nat_lt c (length T.constants)
+is_named_con T (Open text) = true
+
 -- the constants and functions of the value are in range
 abbrev pub is_named_step : Typeside → Value-F Bool → Bool
-is_named_step T (Const c) = nat_lt c (length T.constants)
+is_named_step T (Const c) = is_named_con T c
 is_named_step T (Null n) = true
 is_named_step T (Fun f named) = nat_lt f (length T.functions) && list_all (λ b. b) named
 

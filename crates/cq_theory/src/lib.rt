@@ -1,6 +1,7 @@
 //! Typesides, schemas, presentations, terms and values.
 #![tactic(auto)]
 
+pub mod constant;
 pub mod laws;
 pub mod lookup;
 pub mod parts;
@@ -12,6 +13,7 @@ pub mod typeside;
 pub mod value;
 pub mod value_text;
 
+pub use constant::{Con, is_reserved};
 pub use lookup::{ArrowRefusal, SizeRefusal, Symbol, TermRefusal, TheoryRefusal, resolve};
 pub use parts::{
     ArrowImage, ArrowPart, MappingParts, ObsPart, PresentationParts, SchemaParts, TypesideParts,

@@ -15,7 +15,7 @@ use cq_base::Name;
 pub use declares::declare;
 pub use faults::{in_part_of, is_too_large};
 pub use observations::{is_unknown_entity, table_of};
-pub use passes::{entity_of_sort, has_unknown, has_wrong_count, sort_of_raw, type_of_sort};
+pub use passes::{entity_of_sort, has_reserved, has_unknown, has_wrong_count, sort_of_raw, type_of_sort};
 pub use paths::{has_unknown_name, path_keys};
 
 /// A function, a foreign key or an attribute, by its number.
@@ -32,11 +32,13 @@ pub enum TermRefusal {
     Unknown,
     WrongCount,
     WrongSort,
+    Reserved,
     TooLarge,
     Memory,
 }
 
-/// Why parts make no typeside, schema or presentation, with the number of the first wrong part.
+/// Why parts make no typeside, schema or presentation, with the number of the first wrong part. Reserved is a declared constant
+/// that is empty or begins with `?` or `=`, or under a typeside with an open type a text of a term that is so.
 #[derive(Clone, Copy, Debug, PartialEq, Eq)]
 pub enum TheoryRefusal {
     Duplicate(u32),

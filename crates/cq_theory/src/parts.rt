@@ -2,10 +2,12 @@
 //! The parts of a call are numbered list after list, from 0.
 use cq_base::{Name, Raw, Seq};
 
-/// The parts of a typeside: types, constants with their types, and functions with the types of their arguments and result.
+/// The parts of a typeside: types, the name of the open type where there is one, constants with their types, and functions
+/// with the types of their arguments and result.
 #[derive(Drop)]
 pub struct TypesideParts {
     pub types: Seq<Name>,
+    pub literals: Option<Name>,
     pub constants: Seq<(Name, Name)>,
     pub functions: Seq<(Name, Seq<Name>, Name)>,
 }

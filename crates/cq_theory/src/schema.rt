@@ -4,8 +4,9 @@ ghost use Rattle.cq_base.specs.Names.{number_of};
 ghost use Rattle.cq_theory.specs.Schema.{IsSchema, edge_names};
 ghost use Rattle.cq_theory.specs.Paths.{made_path_eq};
 ghost use Rattle.cq_theory.specs.SchemaParts.{entities_fault, keys_fault, started, path_eqs_fault, with_path_eqs, attributes_fault, with_attributes, observations_fault, with_observations, rest_fault, completed, schema_fault, schema_made};
-ghost use Rattle.cq_theory.specs.Resolve.{or_else, constant_of, symbol_of, sort_named};
+ghost use Rattle.cq_theory.specs.Resolve.{or_else, constant_of, text_constant, symbol_of, sort_named};
 
+use crate::constant::Con;
 use crate::lookup::observations::add_observations;
 use crate::lookup::paths::add_path_eqs;
 use crate::lookup::schema_parts::{add_attributes, add_entities, add_keys, declared_names};
@@ -15,7 +16,7 @@ use crate::presentation::Sort;
 use crate::term::TypeTerm;
 use crate::typeside::Typeside;
 use cq_base::{Name, Names, Seq};
-use std::alloc::Global;
+use std::alloc::{AllocError, Global};
 use std::marker::Model;
 use std::rc::Rc;
 
@@ -137,11 +138,24 @@ impl Schema {
         let _entities = self.entities.len();
     }
 
-    /// The number of a constant of the typeside.
+    /// The number of a declared constant of the typeside.
     pub fn find_constant(&self, name: &Name) -> Option<u32>
         ensures { result ≡ constant_of self.now name.now }
     {
         self.typeside.find_constant(name)
+    }
+
+    /// The constant of a text: the declared one with this content, else the open one, where the typeside has an open type.
+    pub fn find_text(&self, text: &Name) -> Result<Option<Con>, AllocError>
+        ensures { IfOk result (λ constant. constant ≡ text_constant self.now text.now) }
+    {
+        if let Some(number) = self.find_constant(text) {
+            return Ok(Some(Con::Named(number)));
+        }
+        match self.typeside.open_type {
+            Some(_) => Ok(Some(Con::Open(text.clone()?))),
+            None => Ok(None),
+        }
     }
 
     /// The type or entity of a name.

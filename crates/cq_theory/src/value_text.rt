@@ -1,14 +1,15 @@
 //! Texts of values.
 ghost use Rattle.std.specs.Prelude.{◌≡◌, ◌++◌, [], true, map, length, ◌<◌, IfOk, OnOk, slice_get};
 ghost use Rattle.std.specs.List.{list_all};
-ghost use Rattle.cq_theory.specs.ValueText.{value_text as text_of, is_named, constant_text, constant_name, function_name, quoted, escape, with_commas, null_text, application_text, is_word as is_word_text, is_word_byte as is_word_byte_of};
+ghost use Rattle.cq_theory.specs.ValueText.{value_text as text_of, is_named, is_named_con, con_text, constant_text, constant_name, function_name, quoted, escape, with_commas, null_text, application_text, is_word as is_word_text, is_word_byte as is_word_byte_of};
 
+use crate::constant::Con;
 use crate::typeside::Typeside;
 use crate::value::Value;
 use itoa::Buffer;
 use std::alloc::{AllocError, Global};
 
-/// The text of a value: a constant's name, quoted where it is no word, `?` and a null's label,
+/// The text of a value: a declared constant's name, quoted where it is no word, an open constant's text in quotes, `?` and a null's label,
 /// or a function's name with the texts of its arguments.
 pub fn value_text(alloc: Global, typeside: &Typeside, value: &Value) -> Result<Vec<u8>, AllocError>
     requires { is_named typeside.now value.now ≡ true }
@@ -27,7 +28,7 @@ pub fn push_value(typeside: &Typeside, value: &Value, text: &mut Vec<u8>) -> Res
 {
     match value {
         Value::Const(constant) => {
-            push_constant_name(typeside, *constant, text)?;
+            push_con(typeside, constant, text)?;
             Ok(())
         }
         Value::Null(label) => {
@@ -73,6 +74,23 @@ fn push_args(typeside: &Typeside, args: &[Value], text: &mut Vec<u8>) -> Result<
         }
     }
     Ok(())
+}
+
+/// Appends the text of a constant: a declared one's name, quoted where it is no word, or an open one's text, always quoted.
+pub fn push_con(typeside: &Typeside, constant: &Con, text: &mut Vec<u8>) -> Result<(), AllocError>
+    requires { is_named_con typeside.now constant.now ≡ true }
+    ensures { OnOk result (text.new.items ≡ text.old.items ++ con_text typeside.now constant.now) }
+{
+    match constant {
+        Con::Named(number) => {
+            push_constant_name(typeside, *number, text)?;
+            Ok(())
+        }
+        Con::Open(content) => {
+            push_quoted(content.as_str().as_bytes(), text)?;
+            Ok(())
+        }
+    }
 }
 
 fn push_constant_name(

@@ -1,9 +1,10 @@
 //! Terms made of terms as they are written.
 ghost use Rattle.std.specs.Prelude.{◌≡◌, ◌∷◌, [], IfOk, IfErr, IfSome, IfNone, Some, map, slice_get};
 ghost use Rattle.cq_theory.specs.EntTerm.{extended};
-ghost use Rattle.cq_theory.specs.Resolve.{symbol_of, term_fault as fault_of_term};
+ghost use Rattle.cq_theory.specs.Resolve.{word_constant, symbol_of, term_fault as fault_of_term};
 ghost use Rattle.cq_theory.specs.Resolved.{resolved, type_term_in, entity_term_in, first_entity_term, generator_term, constant_term, word_term, symbol_term};
 
+use crate::constant::Con;
 use crate::lookup::faults::term_fault;
 use crate::lookup::{Symbol, TermRefusal};
 use crate::presentation::Sort;
@@ -47,17 +48,27 @@ fn generator(alloc: Global, number: u32, sort: Option<Sort>) -> Term
     }
 }
 
-fn constant(number: Option<u32>) -> Term
-    ensures { result ≡ constant_term number }
+fn constant(constant: Option<Con>) -> Term
+    ensures { result ≡ constant_term constant }
 {
-    match number {
-        Some(number) => Term::Typ(TypeTerm::Const(number)),
-        None => Term::Typ(TypeTerm::Const(0)),
+    match constant {
+        Some(constant) => Term::Typ(TypeTerm::Const(constant)),
+        None => Term::Typ(TypeTerm::Const(Con::Named(0))),
+    }
+}
+
+/// The constant of a word.
+fn find_word(schema: &Schema, word: &Name) -> Option<Con>
+    ensures { result ≡ word_constant schema.now word.now }
+{
+    match schema.find_constant(word) {
+        Some(number) => Some(Con::Named(number)),
+        None => None,
     }
 }
 
 /// A word, which is a generator where there is one of that name, and else a constant.
-fn word(alloc: Global, sorts: &[Sort], number: Option<u32>, other: Option<u32>) -> Term
+fn word(alloc: Global, sorts: &[Sort], number: Option<u32>, other: Option<Con>) -> Term
     ensures { result ≡ word_term sorts.now number other }
 {
     match number {
@@ -72,7 +83,7 @@ pub fn type_term(term: Term) -> TypeTerm
 {
     match term {
         Term::Typ(term) => term,
-        Term::Ent(_) => TypeTerm::Const(0),
+        Term::Ent(_) => TypeTerm::Const(Con::Named(0)),
     }
 }
 
@@ -113,8 +124,8 @@ pub fn build(
     ensures { IfOk result (λ term. term ≡ resolved schema.now names.now sorts.now raw.now) }
 {
     match raw {
-        Raw::Word(name) => Ok(word(alloc, sorts, names.find(name), schema.find_constant(name))),
-        Raw::Text(name) => Ok(constant(schema.find_constant(name))),
+        Raw::Word(name) => Ok(word(alloc, sorts, names.find(name), find_word(schema, name))),
+        Raw::Text(name) => Ok(constant(schema.find_text(name)?)),
         Raw::App(name, args) => {
             let term = build_application(alloc, schema, names, sorts, name, args.as_slice())?;
             Ok(term)
@@ -146,7 +157,7 @@ fn build_application(
             let term = build_first(alloc, schema, names, sorts, args)?;
             Ok(Term::Typ(TypeTerm::Att(attribute, term)))
         }
-        None => Ok(Term::Typ(TypeTerm::Const(0))),
+        None => Ok(Term::Typ(TypeTerm::Const(Con::Named(0)))),
     }
 }
 

@@ -2,7 +2,7 @@
 ghost use Rattle.std.specs.Prelude.{◌≡◌, ◌+◌, ◌<◌, ◌≤◌, ◌^◌, MatchOption, Some, length, sum, map};
 ghost use Rattle.cq_theory.specs.Resolve.{raw_symbols, is_too_large as too_large, term_fault as fault_of_term, equation_fault as fault_of_equation, first_fault, in_part, are_of_one_sort};
 
-use crate::lookup::passes::{has_unknown, has_wrong_count, sort_of_raw};
+use crate::lookup::passes::{has_reserved, has_unknown, has_wrong_count, sort_of_raw};
 use crate::lookup::{TermRefusal, TheoryRefusal};
 use crate::presentation::Sort;
 use crate::schema::Schema;
@@ -47,6 +47,8 @@ pub(crate) fn term_fault(
         Some(TermRefusal::WrongCount)
     } else if sort_of_raw(schema, names, sorts, raw).is_none() {
         Some(TermRefusal::WrongSort)
+    } else if has_reserved(schema, raw) {
+        Some(TermRefusal::Reserved)
     } else if is_too_large(raw) {
         Some(TermRefusal::TooLarge)
     } else {
@@ -86,6 +88,9 @@ pub(crate) fn equation_fault(
     ) {
         return Some(TermRefusal::WrongSort);
     }
+    if has_reserved(schema, left) || has_reserved(schema, right) {
+        return Some(TermRefusal::Reserved);
+    }
     if is_too_large(left) || is_too_large(right) {
         return Some(TermRefusal::TooLarge);
     }
@@ -100,6 +105,7 @@ pub fn in_part_of(part: u32, rule: TermRefusal) -> TheoryRefusal
         TermRefusal::Unknown => TheoryRefusal::Unknown(part),
         TermRefusal::WrongCount => TheoryRefusal::WrongCount(part),
         TermRefusal::WrongSort => TheoryRefusal::WrongSort(part),
+        TermRefusal::Reserved => TheoryRefusal::Reserved(part),
         TermRefusal::TooLarge => TheoryRefusal::TooLarge(part),
         TermRefusal::Memory => TheoryRefusal::Memory,
     }

@@ -5,7 +5,7 @@ ghost use Rattle.cq_theory.specs.SchemaParts.{source_of as entity_from, is_varia
 
 use crate::lookup::builds::{build, type_term};
 use crate::lookup::faults::{in_part_of, is_too_large};
-use crate::lookup::passes::{entity_of_sort, has_unknown, has_wrong_count, sort_of_raw};
+use crate::lookup::passes::{entity_of_sort, has_reserved, has_unknown, has_wrong_count, sort_of_raw};
 use crate::lookup::{Symbol, TermRefusal, TheoryRefusal};
 use crate::parts::ObsPart;
 use crate::presentation::Sort;
@@ -165,6 +165,9 @@ fn fault_over(schema: &Schema, names: &Names, part: &ObsPart) -> Option<TermRefu
     let entity = variable_entity(schema, part);
     if !have_one_type(schema, names, entity, &part.left, &part.right) {
         return Some(TermRefusal::WrongSort);
+    }
+    if has_reserved(schema, &part.left) || has_reserved(schema, &part.right) {
+        return Some(TermRefusal::Reserved);
     }
     if is_too_large(&part.left) || is_too_large(&part.right) {
         return Some(TermRefusal::TooLarge);

@@ -7,6 +7,7 @@ ghost use Rattle.cq_theory.specs.Resolve.{sort_named};
 ghost use Rattle.cq_theory.specs.Resolved.{resolved};
 ghost use Rattle.cq_theory.specs.Parts.{presentation_fault, presented, equation_of, sort_or_first, generator_fault, first_generator_fault, generator_names, generator_sorts};
 
+use crate::constant::Con;
 use crate::lookup::TheoryRefusal;
 use crate::lookup::builds::build;
 use crate::lookup::faults::first_equation_fault;
@@ -182,7 +183,10 @@ fn make_equation(left: Term, right: Term) -> Equation
     match (left, right) {
         (Term::Ent(left), Term::Ent(right)) => Equation::Ent(left, right),
         (Term::Typ(left), Term::Typ(right)) => Equation::Typ(left, right),
-        _ => Equation::Typ(TypeTerm::Const(0), TypeTerm::Const(0)),
+        _ => Equation::Typ(
+            TypeTerm::Const(Con::Named(0)),
+            TypeTerm::Const(Con::Named(0)),
+        ),
     }
 }
 

@@ -2,8 +2,9 @@
 ghost use Rattle.std.specs.Prelude.{◌≡◌, ◌||◌, is_none, map, length, IfSome, Some};
 ghost use Rattle.std.specs.List.{list_any};
 ghost use Rattle.cq_theory.specs.Sorts.{followed};
-ghost use Rattle.cq_theory.specs.Resolve.{constant_of, symbol_of, has_unknown as unknown_in, has_wrong_count as wrong_count_in, takes_another_count, IsSymbol, raw_sort as raw_sort_of, constant_sort, word_sort, symbol_sort, is_plain_of, are_plain_of, entity_in, type_in, only};
+ghost use Rattle.cq_theory.specs.Resolve.{constant_of, text_constant, symbol_of, has_unknown as unknown_in, has_wrong_count as wrong_count_in, has_reserved as reserved_in, takes_another_count, IsSymbol, raw_sort as raw_sort_of, constant_sort, text_sort, word_sort, symbol_sort, is_plain_of, are_plain_of, entity_in, type_in, only};
 
+use crate::constant::is_reserved;
 use crate::lookup::Symbol;
 use crate::presentation::Sort;
 use crate::schema::{Edge, Schema};
@@ -16,8 +17,18 @@ pub fn has_unknown(schema: &Schema, names: &Names, raw: &Raw) -> bool
 {
     match raw {
         Raw::Word(name) => names.find(name).is_none() && schema.find_constant(name).is_none(),
-        Raw::Text(name) => schema.find_constant(name).is_none(),
+        Raw::Text(text) => is_unknown_text(schema, text),
         Raw::App(name, args) => has_unknown_part(schema, names, name, args.as_slice()),
+    }
+}
+
+/// Whether a text is no constant: none is declared with this content, and there is no open type.
+fn is_unknown_text(schema: &Schema, text: &Name) -> bool
+    ensures { result ≡ is_none (text_constant schema.now text.now) }
+{
+    match schema.find_constant(text) {
+        Some(_) => false,
+        None => schema.typeside.open_type.is_none(),
     }
 }
 
@@ -77,13 +88,50 @@ fn takes_other_count(schema: &Schema, symbol: Option<Symbol>, count: usize) -> b
     }
 }
 
-/// The sort of a constant.
+/// Whether a text of the term is one that no constant can have, under a typeside with an open type.
+#[cycle(reserved)]
+pub fn has_reserved(schema: &Schema, raw: &Raw) -> bool
+    ensures { result ≡ reserved_in schema.now raw.now }
+{
+    match raw {
+        Raw::Word(_) => false,
+        Raw::Text(text) => schema.typeside.open_type.is_some() && is_reserved(text),
+        Raw::App(_, args) => has_reserved_part(schema, args.as_slice()),
+    }
+}
+
+#[cycle(reserved)]
+fn has_reserved_part(schema: &Schema, args: &[Raw]) -> bool
+    ensures { result ≡ list_any (λ b. b) (map (reserved_in schema.now) args.now) }
+{
+    for arg in args {
+        if has_reserved(schema, arg) {
+            return true;
+        }
+    }
+    false
+}
+
+/// The sort of a declared constant.
 fn sort_of_constant(schema: &Schema, constant: Option<u32>) -> Option<Sort>
     ensures { result ≡ constant_sort schema.now constant }
 {
     match schema.typeside.constants.as_slice().get(constant? as usize) {
         Some(constant) => Some(Sort::Plain(constant.1)),
         None => None,
+    }
+}
+
+/// The sort of a text: that of the declared constant, else the open type.
+fn sort_of_text(schema: &Schema, constant: Option<u32>) -> Option<Sort>
+    ensures { result ≡ text_sort schema.now constant }
+{
+    match constant {
+        Some(_) => sort_of_constant(schema, constant),
+        None => match schema.typeside.open_type {
+            Some(number) => Some(Sort::Plain(number)),
+            None => None,
+        },
     }
 }
 
@@ -150,7 +198,7 @@ pub fn sort_of_raw(schema: &Schema, names: &Names, sorts: &[Sort], raw: &Raw) ->
 {
     match raw {
         Raw::Word(name) => sort_of_word(schema, sorts, names.find(name), name),
-        Raw::Text(name) => sort_of_constant(schema, schema.find_constant(name)),
+        Raw::Text(text) => sort_of_text(schema, schema.find_constant(text)),
         Raw::App(name, args) => sort_of_application(schema, names, sorts, name, args.as_slice()),
     }
 }

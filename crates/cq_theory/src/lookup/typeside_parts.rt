@@ -1,9 +1,9 @@
 //! The parts of a typeside.
 ghost use Rattle.std.specs.Prelude.{◌≡◌, ◌+◌, ◌-◌, ◌<◌, ◌^◌, ◌⊎◌, ◌++◌, ◌∷◌, [], true, false, IfOk, IfErr, Some, None, length, map, is_none};
 ghost use Rattle.cq_base.specs.Names.{number_of};
-ghost use Rattle.cq_theory.specs.Typeside.{is_reserved as reserved};
-ghost use Rattle.cq_theory.specs.TypesideParts.{constant_fault, function_fault, types_fault, constants_fault, functions_fault, has_unknown_type, type_number, made_constant, made_function};
+ghost use Rattle.cq_theory.specs.TypesideParts.{literals_fault, literals_count, open_number, constant_fault, function_fault, types_fault, constants_fault, functions_fault, has_unknown_type, type_number, made_constant, made_function};
 
+use crate::constant::is_reserved;
 use crate::lookup::TheoryRefusal;
 use crate::lookup::declares::declare;
 use crate::typeside::Fun;
@@ -25,13 +25,22 @@ pub(crate) fn add_types(alloc: Global, parts: &[Name]) -> Result<Names, TheoryRe
     Ok(table)
 }
 
-/// Whether a constant can't have this name.
-fn is_reserved(name: &Name) -> bool
-    ensures { result ≡ reserved name.now }
+/// The open type, whose name is part `part` where there is one, and the number of the part that comes next.
+pub(crate) fn find_open_type(
+    types: &Names,
+    part: u32,
+    literals: &Option<Name>,
+) -> Result<(Option<u32>, u32), TheoryRefusal>
+    requires { part + literals_count literals.now < 2 ^ 32 }
+    ensures ok { IfOk result (λ found. (literals_fault types.now part literals.now ≡ None) × (found.0 ≡ open_number types.now literals.now) × (found.1 ≡ part + literals_count literals.now)) }
+    ensures refused { IfErr result (λ refusal. literals_fault types.now part literals.now ≡ Some refusal) }
 {
-    match name.as_str().as_bytes().first() {
-        Some(byte) => *byte == b'?' || *byte == b'=',
-        None => true,
+    match literals {
+        Some(name) => match types.find(name) {
+            Some(number) => Ok((Some(number), part + 1)),
+            None => Err(TheoryRefusal::Unknown(part)),
+        },
+        None => Ok((None, part)),
     }
 }
 

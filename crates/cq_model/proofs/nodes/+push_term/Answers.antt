@@ -1,9 +1,9 @@
 use Rattle.std.proofs.Common.{rules, ℕ, List, [], ◌∷◌, ◌++◌, Some, ◌≡◌, ◌≤◌, length, get_or, slice_index, sym, ap, subst, ◌∙◌, arith}
 use Rattle.std.specs.Prelude.{slice_get}
 use Rattle.std.proofs.lemmas.List.{take_all}
-use Rattle.cq_base.specs.declared.name.Name.{Name}
 use Rattle.cq_flat.specs.declared.node.Node.TheVariants as node
 use Rattle.cq_tables.specs.Content.{Content}
+use Rattle.cq_theory.specs.declared.constant.Con.{Con}
 use Rattle.cq_theory.specs.SchemaData.{SchemaData as Schema}
 use Rattle.cq_theory.specs.TypesideData.{TypesideData}
 use Rattle.cq_theory.specs.declared.typeside.Fun.{Fun as Function}
@@ -16,17 +16,8 @@ use Rattle.cq_model.proofs.PushedTerms.{HavePlaces-wider, pushed_gen, ArePushed,
 use Rattle.cq_model.proofs.ReadableTerms.{read_at, if_answered, IsReadable-wider, readable_cell, constant_known, readable_constant, function_known, argument_readable, readable_application}
 use Rattle.cq_model.proofs.nodes.+push_term.Goals as goal
 
-pub bounds-as_slice-constant : goal.bounds-as_slice-constant
-bounds-as_slice-constant t c =
-    let S : Schema = c.args.schema.now in
-    let same : c.as_slice-in-Const.result.now ≡ S.typeside.constants = c.as_slice-in-Const.ensures ∙ ap (λ (x : TypesideData). x.constants) (c.behind-schema.view_is ∙ c.deref.ensures) ∙ ap (λ (s : Schema). s.typeside.constants) c.schema.view_is in
-    constant_known S c.args.tables.now c.args.places.now c.args.rows.now (length c.args.list.now.nodes) c.in-Const.constant c.args.term.now c.as_slice-in-Const.result.now c.in-Const.is same c.requires.term
-
-pub bounds-as_slice-constant-in-Const : goal.bounds-as_slice-constant-in-Const
-bounds-as_slice-constant-in-Const t c =
-    let S : Schema = c.args.schema.now in
-    let same : c.as_slice-in-Const.result.now ≡ S.typeside.constants = c.as_slice-in-Const.ensures ∙ ap (λ (x : TypesideData). x.constants) (c.behind-schema.view_is ∙ c.deref.ensures) ∙ ap (λ (s : Schema). s.typeside.constants) c.schema.view_is in
-    constant_known S c.args.tables.now c.args.places.now c.args.rows.now (length c.args.list.now.nodes) c.in-Const.constant c.args.term.now c.as_slice-in-Const.result.now c.in-Const.is same c.requires.term
+pub type_of-requires : goal.type_of-requires
+type_of-requires t c = constant_known c.args.schema.now c.args.tables.now c.args.places.now c.args.rows.now (length c.args.list.now.nodes) c.in-Const.constant.now c.args.term.now c.in-Const.is c.requires.term
 
 pub place_of_cell-requires : goal.place_of_cell-requires
 place_of_cell-requires t c =
@@ -96,15 +87,11 @@ returns-in-Const t c =
     let rows : List ℕ = c.args.rows.now in
     let old : NodeListData = c.args.list.now in
     let new : NodeListData = c.push.new.self in
-    let n : ℕ = c.in-Const.constant in
-    let constants : List (Name × ℕ) = c.as_slice-in-Const.result.now in
-    let constant : Name × ℕ = get_or constants n c.index-as_slice-constant.result in
-    let same : constants ≡ S.typeside.constants = c.as_slice-in-Const.ensures ∙ ap (λ (x : TypesideData). x.constants) (c.behind-schema.view_is ∙ c.deref.ensures) ∙ ap (λ (s : Schema). s.typeside.constants) c.schema.view_is in
-    let known : slice_get S.typeside.constants n ≡ Some constant =
-    read_at S.typeside.constants constants n c.index-as_slice-constant.result same (constant_known S m places rows (length old.nodes) n c.args.term.now constants c.in-Const.is same c.requires.term) in
-    if_answered c.push.result (λ place. place ≡ length old.nodes) (new ≡ record { nodes = old.nodes ++ node.Const n ∷ []; types = old.types ++ constant.1 ∷ []; equations = old.equations })
+    let constant : Con = c.in-Const.constant in
+    let kind : ℕ = c.type_of-kind.result in
+    if_answered c.push.result (λ place. place ≡ length old.nodes) (new ≡ record { nodes = old.nodes ++ node.Const c.clone.result ∷ []; types = old.types ++ kind ∷ []; equations = old.equations })
     (λ place. IsPushed S m places rows old new c.args.term.now place)
-    (λ place place_is added. subst (λ (u : TypeTerm). IsPushed S m places rows old new u place) (sym c.in-Const.is) (readable_constant S m places rows old new n place constant known place_is added))
+    (λ place place_is added. subst (λ (u : TypeTerm). IsPushed S m places rows old new u place) (sym c.in-Const.is) (readable_constant S m places rows old new constant place kind c.type_of-kind.ensures place_is added))
     c.push.ensures.place c.push.ensures.added
 
 pub returns-in-Att : goal.returns-in-Att

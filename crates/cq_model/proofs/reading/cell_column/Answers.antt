@@ -2,6 +2,7 @@ use Rattle.std.proofs.Common.{ℕ, List, [], ◌∷◌, ◌++◌, ◌≡◌, ◌
 use Rattle.std.proofs.lemmas.List.{take_more, map-append}
 use Rattle.std.proofs.lemmas.Option.{get_or_from_slice_get}
 use Rattle.cq_flat.specs.Values.{value_at}
+use Rattle.cq_theory.specs.declared.constant.Con.TheVariants.{Named}
 use Rattle.cq_theory.specs.declared.value.Value.{Value}
 use Rattle.cq_theory.specs.declared.value.Value.TheVariants.{Const}
 use Rattle.cq_model.specs.declared.places.Places.{Places}
@@ -20,7 +21,7 @@ loop-row-preserved c =
     let first_is : c.place_at-first.result ≡ slice_index places.firsts row = c.place_at-first.ensures ∙ ap (λ (l : List ℕ). slice_index l row) c.as_slice-firsts.ensures in
     let rank_is : c.number_at-rank.result ≡ slice_index places.ranks a = c.number_at-rank.ensures ∙ ap (λ (l : List ℕ). slice_index l a) c.as_slice.ensures in
     let place_is : c.place_at-first.result + c.number_at-rank.result ≡ cell_place places row a = λ j. first_is j + rank_is j in
-    let read : value_at values (c.place_at-first.result + c.number_at-rank.result) ≡ c.value.result.now = get_or_from_slice_get values (c.place_at-first.result + c.number_at-rank.result) c.value.result.now (Const 0) c.value.ensures in
+    let read : value_at values (c.place_at-first.result + c.number_at-rank.result) ≡ c.value.result.now = get_or_from_slice_get values (c.place_at-first.result + c.number_at-rank.result) c.value.result.now (Const (Named 0)) c.value.ensures in
     c.in_ok-push.ensures.items
     ∙ (λ j. c.loop-row.invariant j ++ (c.in_ok-copied.ensures ∙ sym read ∙ ap (value_at values) place_is) j ∷ [])
     ∙ sym (ap (map f) (take_more rows i 0 c.loop-row-test.true) ∙ map-append f (take i rows) (row ∷ []))

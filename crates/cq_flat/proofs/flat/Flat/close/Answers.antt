@@ -31,5 +31,5 @@ pub returns-clause-clash : goal.returns-clause-clash
 returns-clause-clash c =
     let exact = rw c.as_slice.ensures.value at c.in_ok-classes.ensures in
     let least = rw (c.as_slice-2.ensures.value, c.as_slice-3.ensures.value) at c.in_ok-least.ensures in
-    clash_holds c.args.nodes.items c.args.equations.items c.in_ok-classes.classes.items exact c.in_ok-least.least.items least c.clash_of-clash.result
-    (rw (c.as_slice-9.ensures.value, c.as_slice-10.ensures.value, c.as_slice-11.ensures.value) at c.clash_of-clash.ensures)
+    clash_holds c.args.nodes.items c.args.equations.items c.in_ok-classes.classes.items exact c.in_ok-least.least.items least c.in_ok-clash.clash
+    (rw (c.as_slice-9.ensures.value, c.as_slice-10.ensures.value, c.as_slice-11.ensures.value) at c.in_ok-clash.ensures)

@@ -1,4 +1,5 @@
 use Rattle.std.proofs.Common.{◌≡◌, get_or, ap, subst, ◌∙◌}
+use Rattle.cq_theory.specs.declared.constant.Con.TheVariants.{Named}
 use Rattle.cq_theory.specs.declared.value.Value.TheVariants.{Const}
 use Rattle.cq_theory.specs.Tables.{count_of}
 use Rattle.cq_model.specs.InstanceData.{InstanceData, IsInstance}
@@ -21,4 +22,4 @@ returns c =
     let columns : c.as_slice.result.now ≡ i.tables.sheet.cells = c.as_slice.ensures ∙ ap (λ (j : InstanceData). j.tables.sheet.cells) c.self.view_is in
     let column : c.as_slice-2.result.now ≡ get_or i.tables.sheet.cells c.args.attribute c.as_slice-2.result.now = cc in
     cell_read i.schema.attributes i.tables.sheet.cells (count_of i.tables) instance_is.well_formed.attributes (λ k edge h. (instance_is.well_formed.cell_columns k edge h).0)
-    c.args.attribute c.args.row c.as_slice-2.result.now c.index-as_slice-row.result (Const 0) c.requires.attribute c.requires.row column c.index-as_slice-row.is
+    c.args.attribute c.args.row c.as_slice-2.result.now c.index-as_slice-row.result (Const (Named 0)) c.requires.attribute c.requires.row column c.index-as_slice-row.is
