@@ -1,13 +1,17 @@
 -- What the end of a stage says of the schema and the presentation.
-use Rattle.std.proofs.Common.{◌≡◌, ℕ, List, Option, Some, None, sym, ◌∙◌, ap}
+use Rattle.std.proofs.Common.{◌≡◌, ℕ, List, Option, Some, None, refl, sym, ◌∙◌, ap}
 use Rattle.std.proofs.lemmas.List.{length-map}
-use Rattle.std.proofs.lemmas.Option.{none-some}
-use Rattle.std.specs.Prelude.{slice_get, option_and_then}
+use Rattle.std.proofs.lemmas.Option.{none-some, slice_get-map}
+use Rattle.std.specs.Prelude.{slice_get, option_and_then, option_map}
 use Rattle.cq_tables.specs.Content.{Content}
 use Rattle.cq_theory.specs.declared.presentation.Presentation.{Presentation}
 use Rattle.cq_theory.specs.SchemaData.{SchemaData}
 use Rattle.cq_rows.specs.Theory.{IsTheory}
-use Rattle.cq_rows.specs.Plain.{theory_of, generator_entity}
+use Rattle.cq_rows.specs.Plain.{theory_of, generator_entity, entity_in}
+use Rattle.cq_base.specs.declared.name.Name.{Name}
+use Rattle.cq_theory.specs.declared.presentation.Sort.{Sort}
+use Rattle.cq_theory.specs.declared.presentation.Sort.TheVariants.{Plain, Entity}
+use Rattle.cq_theory.specs.Sorts.{type_at}
 use Rattle.cq_rows.specs.Rows.{row_of_term}
 use Rattle.cq_rows.specs.Rows as rows
 use Rattle.cq_rows.specs.Saturated.{HasEntries, OneRowIsEqual, AllTraced, WithinIsOneRow, AllNamed, PathEquationsHold, EntityEquationsHold, NoneCloses, SomeWide}
@@ -19,11 +23,21 @@ found_at : (o : Option (Option ℕ)) (e : ℕ) → option_and_then (λ x. x) o �
 found_at None e h = absurd (none-some e h)
 found_at (Some x) e h = ap (λ y. Some y) h
 
+-- a generator of a type has no entity
+rowless_at : (o : Option (Name × Sort)) (p : Option (Option ℕ)) (t : ℕ) → p ≡ option_map generator_entity o → type_at o ≡ Some t → p ≡ Some None
+rowless_at None p t e f = absurd (none-some t f)
+rowless_at (Some g) p t e f = e ∙ ap (λ o. Some o) (no_entity g.1 t f)
+  where
+    no_entity : (sort : Sort) (t : ℕ) → type_at (Some (g.0, sort)) ≡ Some t → entity_in sort ≡ None
+    no_entity (Plain n) t f = refl
+    no_entity (Entity n) t f = absurd (none-some t f)
+
 module _ (S : SchemaData) (P : Presentation) (th : IsTheory (theory_of S P)) (m : Content) (entries : List ℕ) (k : ℕ) (h : IsStage (theory_of S P) m entries k) where
   pub has_entries : HasEntries P m entries
   has_entries = record {
     count = h.grown.count ∙ length-map P.generators generator_entity;
     entity = λ g e f. have_rows (theory_of S P) m entries k h.grown g e (found_at (slice_get (theory_of S P).generators g) e (start_same S P g ∙ f));
+    type = λ g t f. h.grown.rowless g (rowless_at (slice_get P.generators g) (slice_get (theory_of S P).generators g) t (slice_get-map generator_entity P.generators g) f);
   }
 
   pub one_row : OneRowIsEqual S P m entries

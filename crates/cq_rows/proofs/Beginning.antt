@@ -11,7 +11,7 @@ use Rattle.cq_theory.specs.declared.presentation.Sort.{Sort}
 use Rattle.cq_theory.specs.declared.presentation.Sort.TheVariants.{Plain, Entity}
 use Rattle.cq_rows.specs.Plain.{generator_entity, entity_in}
 use Rattle.cq_rows.specs.Theory.{Theory}
-use Rattle.cq_rows.specs.Rows.{HasRows, IsOwner}
+use Rattle.cq_rows.specs.Rows.{no_row, HasRows, IsOwner}
 use Rattle.cq_rows.proofs.Cells.{live_made, below_or_at, read_mapped}
 
 pub HasRows-none : (s : Theory) (m : Content) (rows : List ℕ) → IsWhole m → keys_of m ≡ s.keys → entities_of m ≡ s.entities → made_of m ≡ 0 → rows ≡ [] → HasRows s m rows 0
@@ -21,6 +21,7 @@ HasRows-none s m rows w k e n r = record {
   entities = e;
   count = ap length r;
   cell = λ q k l. absurd (omega (arith, live_made m q w l, n));
+  rowless = λ g h f. absurd (omega arith);
   owned = (
     λ q. q,
     record {
@@ -42,8 +43,8 @@ module _ (s : Theory) (m : Content) (rows : List ℕ) (n x : ℕ) (h : HasRows s
   earlier : (g e : ℕ) → g < n + 1 → slice_get s.generators g ≡ Some (Some e) → g < n
   earlier g e b f = ⊎_elim (λ l. l) (λ q. absurd (none-some e (same_Some None (Some e) (sym found ∙ (rw q at f))))) (below_or_at g n b)
 
-  pub HasRows-other : HasRows s m (rows ++ x ∷ []) (n + 1)
-  HasRows-other =
+  pub HasRows-other : x ≡ no_row → HasRows s m (rows ++ x ∷ []) (n + 1)
+  HasRows-other last =
       let owner = h.owned.0 in
       let o = h.owned.1 in
       record {
@@ -52,6 +53,7 @@ module _ (s : Theory) (m : Content) (rows : List ℕ) (n x : ℕ) (h : HasRows s
         entities = h.entities;
         count = length-append rows (x ∷ []) ∙ ap (λ y. y + 1) h.count;
         cell = h.cell;
+        rowless = λ g b f. ⊎_elim (λ l. kept_row g l ∙ h.rowless g l f) (λ q. get_or_push rows x 0 g (h.count ∙ sym q) ∙ last) (below_or_at g n b);
         owned = (
           owner,
           record {
@@ -155,6 +157,7 @@ module _ (s : Theory) (m m' : Content) (rows : List ℕ) (n e row : ℕ) (h : Ha
     entities = a.entities ∙ h.entities;
     count = length-append rows (row ∷ []) ∙ ap (λ x. x + 1) h.count;
     cell = empty_under;
+    rowless = λ g b f. ⊎_elim (λ l. row_before g l ∙ h.rowless g l f) (λ q. absurd (none-some e (same_Some None (Some e) (sym (rw q at f) ∙ found)))) (below_or_at g n b);
     owned = (owner, record { below = owner_below; kind = owner_kind; row = owner_row; live = row_live; entity = row_kind; own = row_own });
   }
 

@@ -41,6 +41,7 @@ image_none old rows pending = record {
   kind = λ r l. refl;
   cell = λ r k q l c. record { row = q; cell = c; joined = same };
   onto = λ r l. (l, refl);
+  unmade = λ r h. refl;
   rows = λ g h. refl;
   count = refl;
 }
@@ -63,6 +64,7 @@ image_less old m rows_old rows rep E F h i = record {
   kind = i.kind;
   cell = λ r k q l c. let o = i.cell r k q l c in record { row = o.row; cell = o.cell; joined = h o.row (rep q) o.joined };
   onto = i.onto;
+  unmade = i.unmade;
   rows = i.rows;
   count = i.count;
 }

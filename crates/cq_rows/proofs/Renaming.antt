@@ -127,6 +127,7 @@ module _ (m m' : Content) (x y : ℕ) (ren : Renames m m' x y) (w : IsWhole m) (
           let b = was_live r l in
           let o = i.onto r b.1 in
           (o.0, ap (moved x y) o.1 ∙ moved_other x y r b.0);
+      unmade = λ r h. ap (moved x y) (i.unmade r h) ∙ moved_other x y r (λ e. omega (arith, live_made m x w lx, i.made, e, h));
       rows = λ g h. hr g (rw i.count h) ∙ ap (moved x y) (i.rows g h);
       count = hl ∙ i.count;
     }

@@ -18,6 +18,7 @@ image_same m rows = record {
   kind = λ r l. refl;
   cell = λ r k q l c. record { row = q; cell = c; joined = refl };
   onto = λ r l. (l, refl);
+  unmade = λ r h. refl;
   rows = λ g h. refl;
   count = refl;
 }
@@ -37,6 +38,7 @@ image_then a b c rows_a rows_b rows_c f g i j = record {
       let o = j.onto r l in
       let p = i.onto r o.0 in
       (p.0, ap g p.1 ∙ o.1);
+  unmade = λ r h. ap g (i.unmade r h) ∙ j.unmade r (rw i.made h);
   rows = λ x h. j.rows x (rw i.count h) ∙ ap g (i.rows x h);
   count = j.count ∙ i.count;
 }

@@ -3,9 +3,9 @@ use Rattle.std.proofs.Common.{◌≡◌, ℕ, zero, suc, ◌+◌, ◌<◌, ◌�
 use Rattle.std.proofs.lemmas.Bool.{false≢true, cases_lt}
 use Rattle.std.proofs.lemmas.Option.{none-some, same_Some, slice_get_within, option_and_then_some}
 use Rattle.std.specs.Prelude.{slice_get, slice_index, option_and_then, IsSome, MatchBool}
-use Rattle.cq_tables.specs.Content.{Content, live_of, entity_of, cell_of, step_of, end_of, trace_of, IsWhole, keys_of, entities_of}
+use Rattle.cq_tables.specs.Content.{Content, made_of, live_of, entity_of, cell_of, step_of, end_of, trace_of, IsWhole, keys_of, entities_of}
 use Rattle.cq_rows.specs.Theory.{Term, Theory, Proves, reflexive, symmetric, transitive, key, given, rule, along, generator_term, sort_of, Within, Closes, IsTheory}
-use Rattle.cq_rows.specs.Rows.{IsSound, HaveRows, IsImage, IsSame, FillsAll, AllFilled, IsCellOf, row_of_term, RulesHold, GivenHold, HasBegun, IsName, OneRowIsEqual}
+use Rattle.cq_rows.specs.Rows.{no_row, IsSound, HaveRows, IsImage, IsSame, FillsAll, AllFilled, IsCellOf, row_of_term, RulesHold, GivenHold, HasBegun, IsName, OneRowIsEqual}
 use Rattle.cq_rows.specs.Stage.{IsGrown, IsStage}
 use Rattle.cq_rows.proofs.Cells.{below_or_at}
 use Rattle.cq_rows.proofs.Sorts.{sorted_at, sort_from, sort-along, end_one, one_end, end_split, generator_sort}
@@ -56,6 +56,7 @@ IsGrown-begun s m rows b =
     record {
       whole = b.whole;
       count = b.count;
+      rowless = λ g f. b.rowless g (slice_get_within s.generators g None f) f;
       sound = (
         λ r. generator_term (owner r),
         record {
@@ -81,10 +82,11 @@ IsGrown-begun s m rows b =
     traced_none (k ∷ ks) r h = absurd (omega arith)
 
 -- merging keeps it
-pub IsGrown-image : (s : Theory) (m m' : Content) (rows rows' : List ℕ) (j : ℕ) → IsGrown s m rows j → IsWhole m' → (rep : ℕ → ℕ) × IsImage m m' rows rows' rep IsSame → ((terms : ℕ → Term) → IsSound s m rows terms → IsSound s m' rows' terms) → IsGrown s m' rows' j
-IsGrown-image s m m' rows rows' j g w' (rep, i) snd = record {
+pub IsGrown-image : (s : Theory) (m m' : Content) (rows rows' : List ℕ) (j : ℕ) → IsGrown s m rows j → made_of m ≤ no_row → IsWhole m' → (rep : ℕ → ℕ) × IsImage m m' rows rows' rep IsSame → ((terms : ℕ → Term) → IsSound s m rows terms → IsSound s m' rows' terms) → IsGrown s m' rows' j
+IsGrown-image s m m' rows rows' j g few w' (rep, i) snd = record {
   whole = w';
   count = i.count ∙ g.count;
+  rowless = λ x f. i.rows x (rw g.count (slice_get_within s.generators x None f)) ∙ ap rep (g.rowless x f) ∙ i.unmade no_row few;
   sound = (g.sound.0, snd g.sound.0 g.sound.1);
   named = λ r l.
       let o = i.onto r l in
@@ -118,6 +120,7 @@ pub IsGrown-filled : (s : Theory) (m m' : Content) (rows : List ℕ) (j : ℕ) �
 IsGrown-filled s m m' rows j g w' f = record {
   whole = w';
   count = g.count;
+  rowless = g.rowless;
   sound = f.sound s rows g.sound.0 g.sound.1;
   named = λ r l. ⊎_elim (λ o. old_name r o) (λ o. new_name r l o) (f.origin r l);
   traced = λ t e q h. elim (cases_lt j (length t.path)) as (λ _. IsSome (row_of_term m' rows t)) [
@@ -233,6 +236,7 @@ pub stage_closed : (s : Theory) (m : Content) (rows : List ℕ) (j k : ℕ) → 
 stage_closed s m rows j k h f le = record {
   grown = record {
     whole = h.grown.whole;
+    rowless = h.grown.rowless;
     count = h.grown.count;
     sound = h.grown.sound;
     named = λ r l. let n = h.grown.named r l in (n.0, record { sort = n.1.sort; depth = omega (arith, n.1.depth); row = n.1.row });
@@ -267,9 +271,9 @@ may_settle s m rows given_rows j e g = record {
 
 -- and what it leaves: `rows` are those before, and `after` those after it
 pub stage_settled : (s : Theory) (m m' : Content) (rows taken left after : List ℕ) (j : ℕ) → taken ≡ rows → after ≡ left → IsGrown s m rows j
-    → IsWhole m' → (rep : ℕ → ℕ) × IsImage m m' taken left rep IsSame → ((terms : ℕ → Term) → IsSound s m taken terms → IsSound s m' left terms) → RulesHold s m' → GivenHold s m' left
+    → made_of m ≤ no_row → IsWhole m' → (rep : ℕ → ℕ) × IsImage m m' taken left rep IsSame → ((terms : ℕ → Term) → IsSound s m taken terms → IsSound s m' left terms) → RulesHold s m' → GivenHold s m' left
     → IsStage s m' after j
-stage_settled s m m' rows taken left after j e f g w i snd ru gi = rw f (record { grown = IsGrown-image s m m' taken left j (rw e g) w i snd; rules = ru; given = gi })
+stage_settled s m m' rows taken left after j e f g few w i snd ru gi = rw f (record { grown = IsGrown-image s m m' taken left j (rw e g) few w i snd; rules = ru; given = gi })
 
 -- no depth up to j closes, where some cell is empty at the end of stage j
 pub one_more_open : (s : Theory) (m : Content) (rows : List ℕ) (j : ℕ) → IsTheory s → IsStage s m rows j → (AllFilled m → ⊥) → ((i : ℕ) → i < j → Closes s i → ⊥) → (i : ℕ) → i < j + 1 → Closes s i → ⊥

@@ -1,5 +1,5 @@
 -- What the rows of a term model say of terms.
-use Rattle.std.specs.Prelude.{◌≡◌, ◌≢◌, ℕ, zero, suc, ◌+◌, ◌<◌, ◌≤◌, Bool, true, false, List, [], ◌∷◌, length, Option, Some, None, IsSome, slice_get, slice_index, if◌then◌else◌, ◌==◌, ◌⊎◌}
+use Rattle.std.specs.Prelude.{◌≡◌, ◌≢◌, ℕ, zero, suc, ◌+◌, ◌-◌, ◌^◌, ◌<◌, ◌≤◌, Bool, true, false, List, [], ◌∷◌, length, Option, Some, None, IsSome, slice_get, slice_index, if◌then◌else◌, ◌==◌, ◌⊎◌}
 use Rattle.cq_tables.specs.Content.{Content, made_of, live_of, entity_of, cell_of, step_of, trace_of, IsWhole, keys_of, entities_of}
 use Rattle.cq_tables.specs.Changes.{moved}
 use Rattle.cq_rows.specs.Theory.{Term, Rule, Theory, along, generator_term, sort_of, Derives, Within, Closes, IsWide}
@@ -9,6 +9,10 @@ use Rattle.cq_rows.specs.Entries.{rows_of, IsCurrent}
 -- the row of a term, from the rows of the generators, if it can be traced
 abbrev pub row_of_term : Content → List ℕ → Term → Option ℕ
 row_of_term m rows t = trace_of m (slice_index rows t.generator) t.path
+
+-- the entry of a generator of a type, which has no row
+abbrev pub no_row : ℕ
+no_row = 2 ^ 64 - 1
 
 -- a generator's row is live and of its entity, and equal to the term of that row
 pub record HasRow (s : Theory) (m : Content) (rows : List ℕ) (terms : ℕ → Term) (g e : ℕ) : Type 0 where
@@ -39,6 +43,7 @@ pub record IsImage (old new : Content) (rows_old rows_new : List ℕ) (rep : ℕ
   pub kind : (r : ℕ) → live_of old r ≡ true → entity_of new (rep r) ≡ entity_of old r
   pub cell : (r k q : ℕ) → live_of old r ≡ true → cell_of old r k ≡ Some q → HasImage new rep same r k q
   pub onto : (r : ℕ) → live_of new r ≡ true → (live_of old r ≡ true) × (rep r ≡ r)
+  pub unmade : (r : ℕ) → made_of old ≤ r → rep r ≡ r
   pub rows : (g : ℕ) → g < length rows_old → slice_index rows_new g ≡ rep (slice_index rows_old g)
   pub count : length rows_new ≡ length rows_old
 
@@ -199,6 +204,7 @@ pub record HasRows (s : Theory) (m : Content) (rows : List ℕ) (n : ℕ) : Type
   pub entities : entities_of m ≡ s.entities
   pub count : length rows ≡ n
   pub cell : (r k : ℕ) → live_of m r ≡ true → cell_of m r k ≡ None
+  pub rowless : (g : ℕ) → g < n → slice_get s.generators g ≡ Some None → slice_index rows g ≡ no_row
   pub owned : (owner : ℕ → ℕ) × IsOwner s m rows n owner
 
 abbrev pub HasBegun : Theory → Content → List ℕ → Type 0

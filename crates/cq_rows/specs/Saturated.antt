@@ -1,5 +1,5 @@
 -- What tables say of a presentation: the rows of its terms, and which equations hold at them.
-use Rattle.std.specs.Prelude.{◌≡◌, ℕ, ◌<◌, ◌≤◌, true, List, length, Option, Some, IsSome, slice_get, slice_index}
+use Rattle.std.specs.Prelude.{◌≡◌, ℕ, ◌-◌, ◌^◌, ◌<◌, ◌≤◌, true, List, length, Option, Some, IsSome, slice_get, slice_index}
 use Rattle.cq_tables.specs.Content.{Content, live_of, trace_of}
 use Rattle.cq_tables.specs.Content.{entity_of as row_entity}
 use Rattle.cq_theory.specs.declared.presentation.Equation.TheVariants.{Ent as EntEquation}
@@ -10,7 +10,7 @@ use Rattle.cq_theory.specs.SchemaData.{SchemaData as Schema}
 use Rattle.cq_theory.specs.declared.term.EntTerm.{EntTerm}
 use Rattle.cq_theory.specs.declared.term.Term.TheVariants.{Ent}
 use Rattle.cq_theory.specs.EntTerm.{depth_of}
-use Rattle.cq_theory.specs.Sorts.{entity_of, entity_at}
+use Rattle.cq_theory.specs.Sorts.{entity_of, entity_at, type_at}
 use Rattle.cq_theory.specs.Derivation.{Derives, Within}
 use Rattle.cq_theory.specs.Closing.{Closes, IsWide}
 use Rattle.cq_rows.specs.Rows.{row_of_term, Agree}
@@ -19,6 +19,7 @@ use Rattle.cq_rows.specs.Rows.{row_of_term, Agree}
 pub record HasEntries (P : Presentation) (m : Content) (rows : List ℕ) : Type 0 where
   pub count : length rows ≡ length P.generators
   pub entity : (g e : ℕ) → entity_at (slice_get P.generators g) ≡ Some e → (live_of m (slice_index rows g) ≡ true) × (row_entity m (slice_index rows g) ≡ e)
+  pub type : (g t : ℕ) → type_at (slice_get P.generators g) ≡ Some t → slice_index rows g ≡ 2 ^ 64 - 1
 
 -- two terms of one row are derivably equal
 abbrev pub OneRowIsEqual : Schema → Presentation → Content → List ℕ → Type 0

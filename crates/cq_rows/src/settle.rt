@@ -1,10 +1,10 @@
 //! Merging, as long as some equation joins two rows.
-ghost use Rattle.std.specs.Prelude.{◌≡◌, ℕ, ◌<◌, length, IfOk, OnOk};
+ghost use Rattle.std.specs.Prelude.{◌≡◌, ℕ, ◌<◌, ◌≤◌, length, IfOk, OnOk};
 ghost use Rattle.cq_tables.specs.Content.{keys_of, made_of, IsWhole};
 ghost use Rattle.cq_rows.specs.Theory.{Term, IsTheory};
 ghost use Rattle.cq_rows.specs.Plain.{theory_of};
 ghost use Rattle.cq_rows.specs.Entries.{rows_of, IsCurrent, IsBehind};
-ghost use Rattle.cq_rows.specs.Rows.{IsSound, IsImage, IsSame, RulesHold, GivenHold, HaveRows, IsSettling, Passes, Continues, HoldIfLive};
+ghost use Rattle.cq_rows.specs.Rows.{no_row, IsSound, IsImage, IsSame, RulesHold, GivenHold, HaveRows, IsSettling, Passes, Continues, HoldIfLive};
 
 use crate::entries::Entries;
 use crate::join::{join_given, join_rule, path_equations};
@@ -277,6 +277,7 @@ pub fn settle(
     requires behind { IsBehind tables.old rows.old }
     requires rows { HaveRows (theory_of schema.now presentation.now) tables.old (rows_of rows.old) }
     requires count { length (rows_of rows.old) ≡ length (theory_of schema.now presentation.now).generators }
+    ensures made { OnOk result (made_of tables.old ≤ no_row) }
     ensures whole { OnOk result (IsWhole tables.new) }
     ensures current { OnOk result (IsCurrent tables.new rows.new) }
     ensures image { OnOk result ((rep : ℕ → ℕ) × IsImage tables.old tables.new (rows_of rows.old) (rows_of rows.new) rep IsSame) }

@@ -1,4 +1,4 @@
-use Rattle.std.proofs.Common.{◌∙◌, arith}
+use Rattle.std.proofs.Common.{refl, ◌∙◌, arith}
 use Rattle.cq_rows.specs.Plain.{theory_of}
 use Rattle.cq_rows.proofs.Beginning.{HasRows-none, HasRows-more, HasRows-other, found_entity, found_type}
 use Rattle.cq_rows.proofs.grow.begin.Goals as goal
@@ -13,7 +13,7 @@ pub loop-generator-preserved-in_default : goal.loop-generator-preserved-in_defau
 loop-generator-preserved-in_default c =
     let s = theory_of c.args.schema.now c.args.presentation.now in
     let found = found_type c.as_slice-generator-items.result.now c.args.presentation.now.generators c.loop-generator.generator-index c.generator-item.result c.as_slice-generator-items.ensures c.loop-generator-test.true c.generator-item.is c.in_default.not-Entity in
-    rw c.in_ok-push.ensures.items (HasRows-other s c.loop-generator.tables c.loop-generator.entries.items c.loop-generator.generator-index _ c.loop-generator.invariant found)
+    rw c.in_ok-push.ensures.items (HasRows-other s c.loop-generator.tables c.loop-generator.entries.items c.loop-generator.generator-index _ c.loop-generator.invariant found refl)
 
 pub add_row-requires : goal.add_row-requires
 add_row-requires c =

@@ -18,7 +18,7 @@ loop-stage-init c =
     let s = theory_of c.args.schema.now c.args.presentation.now in
     let g = IsGrown-begun s c.in_ok-tables.tables c.in_ok-tables.first.items c.in_ok-tables.ensures in
     record {
-      stage = stage_settled s c.in_ok-tables.tables c.settle.new.tables c.in_ok-tables.first.items (rows_of c.new-rows.result) (rows_of c.settle.new.rows) _ 0 c.new-rows.ensures.rows refl g c.in_ok-settle.ensures.whole c.in_ok-settle.ensures.image c.in_ok-settle.ensures.sound c.in_ok-settle.ensures.rules c.in_ok-settle.ensures.given;
+      stage = stage_settled s c.in_ok-tables.tables c.settle.new.tables c.in_ok-tables.first.items (rows_of c.new-rows.result) (rows_of c.settle.new.rows) _ 0 c.new-rows.ensures.rows refl g c.in_ok-settle.ensures.made c.in_ok-settle.ensures.whole c.in_ok-settle.ensures.image c.in_ok-settle.ensures.sound c.in_ok-settle.ensures.rules c.in_ok-settle.ensures.given;
       current = c.in_ok-settle.ensures.current;
       opened = λ i h. absurd (omega arith);
     }
@@ -27,7 +27,7 @@ pub returns-then-count_live-gt-MOST_ROWS-clause-many : goal.returns-then-count_l
 returns-then-count_live-gt-MOST_ROWS-clause-many c = λ _.
     let s = theory_of c.args.schema.now c.args.presentation.now in
     let g = IsGrown-begun s c.in_ok-tables.tables c.in_ok-tables.first.items c.in_ok-tables.ensures in
-    let h = stage_settled s c.in_ok-tables.tables c.settle.new.tables c.in_ok-tables.first.items (rows_of c.new-rows.result) (rows_of c.settle.new.rows) _ 0 c.new-rows.ensures.rows refl g c.in_ok-settle.ensures.whole c.in_ok-settle.ensures.image c.in_ok-settle.ensures.sound c.in_ok-settle.ensures.rules c.in_ok-settle.ensures.given in
+    let h = stage_settled s c.in_ok-tables.tables c.settle.new.tables c.in_ok-tables.first.items (rows_of c.new-rows.result) (rows_of c.settle.new.rows) _ 0 c.new-rows.ensures.rows refl g c.in_ok-settle.ensures.made c.in_ok-settle.ensures.whole c.in_ok-settle.ensures.image c.in_ok-settle.ensures.sound c.in_ok-settle.ensures.rules c.in_ok-settle.ensures.given in
     (0, omega arith, wide_from_rows s c.settle.new.tables (rows_of c.settle.new.rows) 0 200000 c.requires.theory h (omega (arith, c.count_live.ensures, c.if-count_live-gt-MOST_ROWS.true)))
 
 pub settle-requires-in-loop-stage : goal.settle-requires-in-loop-stage
@@ -42,7 +42,7 @@ loop-stage-preserved c =
     let s = theory_of c.args.schema.now c.args.presentation.now in
     let g = IsGrown-filled s c.loop-stage.tables c.fill.new.tables (rows_of c.loop-stage.rows) c.loop-stage._stage c.loop-stage.invariant.stage.grown c.in_ok-fill.ensures.whole c.in_ok-fill.ensures.ok in
     record {
-      stage = stage_settled s c.fill.new.tables c.settle-in-loop-stage.new.tables (rows_of c.loop-stage.rows) (rows_of c.loop-stage.rows) (rows_of c.settle-in-loop-stage.new.rows) _ (c.loop-stage._stage + 1) refl refl g c.in_ok-settle-2.ensures.whole c.in_ok-settle-2.ensures.image c.in_ok-settle-2.ensures.sound c.in_ok-settle-2.ensures.rules c.in_ok-settle-2.ensures.given;
+      stage = stage_settled s c.fill.new.tables c.settle-in-loop-stage.new.tables (rows_of c.loop-stage.rows) (rows_of c.loop-stage.rows) (rows_of c.settle-in-loop-stage.new.rows) _ (c.loop-stage._stage + 1) refl refl g c.in_ok-settle-2.ensures.made c.in_ok-settle-2.ensures.whole c.in_ok-settle-2.ensures.image c.in_ok-settle-2.ensures.sound c.in_ok-settle-2.ensures.rules c.in_ok-settle-2.ensures.given;
       current = c.in_ok-settle-2.ensures.current;
       opened = one_more_open s c.loop-stage.tables (rows_of c.loop-stage.rows) c.loop-stage._stage c.requires.theory c.loop-stage.invariant.stage c.if-all_filled.ensures c.loop-stage.invariant.opened;
     }
@@ -51,7 +51,7 @@ pub returns-then-count_live-gt-MOST_ROWS-2-clause-many : goal.returns-then-count
 returns-then-count_live-gt-MOST_ROWS-2-clause-many c = λ _.
     let s = theory_of c.args.schema.now c.args.presentation.now in
     let g = IsGrown-filled s c.loop-stage.tables c.fill.new.tables (rows_of c.loop-stage.rows) c.loop-stage._stage c.loop-stage.invariant.stage.grown c.in_ok-fill.ensures.whole c.in_ok-fill.ensures.ok in
-    let h = stage_settled s c.fill.new.tables c.settle-in-loop-stage.new.tables (rows_of c.loop-stage.rows) (rows_of c.loop-stage.rows) (rows_of c.settle-in-loop-stage.new.rows) _ (c.loop-stage._stage + 1) refl refl g c.in_ok-settle-2.ensures.whole c.in_ok-settle-2.ensures.image c.in_ok-settle-2.ensures.sound c.in_ok-settle-2.ensures.rules c.in_ok-settle-2.ensures.given in
+    let h = stage_settled s c.fill.new.tables c.settle-in-loop-stage.new.tables (rows_of c.loop-stage.rows) (rows_of c.loop-stage.rows) (rows_of c.settle-in-loop-stage.new.rows) _ (c.loop-stage._stage + 1) refl refl g c.in_ok-settle-2.ensures.made c.in_ok-settle-2.ensures.whole c.in_ok-settle-2.ensures.image c.in_ok-settle-2.ensures.sound c.in_ok-settle-2.ensures.rules c.in_ok-settle-2.ensures.given in
     (c.loop-stage._stage + 1, omega arith, wide_from_rows s c.settle-in-loop-stage.new.tables (rows_of c.settle-in-loop-stage.new.rows) (c.loop-stage._stage + 1) 200000 c.requires.theory h (omega (arith, c.count_live-in-loop-stage.ensures, c.if-count_live-gt-MOST_ROWS-2.true)))
 
 pub all_filled-requires : goal.all_filled-requires
