@@ -1,5 +1,5 @@
 -- The columns that are made, and what they are asked for.
-use Rattle.std.proofs.Common.{ℕ, zero, suc, Bool, true, false, List, [], ◌∷◌, ◌++◌, Some, ◌≡◌, ◌<◌, ◌≤◌, ◌+◌, ◌||◌, map, take, length, sum, get_or, refl, sym, ap, subst, ◌∙◌, arith}
+use Rattle.std.proofs.Common.{ℕ, zero, suc, Bool, true, false, List, [], ◌∷◌, Some, ◌≡◌, ◌<◌, ◌≤◌, ◌+◌, map, take, length, sum, get_or, refl, sym, ap, subst, ◌∙◌, arith}
 use Rattle.std.specs.Prelude.{slice_get, slice_index_or, All, nat_lt}
 use Rattle.std.specs.List.{list_any, enumerate_from}
 use Rattle.std.proofs.lemmas.Bool.{lt-ltb, ltb-false}
@@ -18,17 +18,16 @@ use Rattle.cq_theory.specs.declared.value.Algebra.{Algebra}
 use Rattle.cq_theory.specs.Canonical.{below}
 use Rattle.cq_theory.specs.Schema.{one_of}
 use Rattle.cq_theory.specs.Sorts.{target_of, type_of}
-use Rattle.cq_theory.specs.Tables.{Tables, AtRow, count_of, HasSort, IsWellFormed, Satisfies, value_of}
+use Rattle.cq_theory.specs.Tables.{Tables, AtRow, count_of, HasSort, IsWellFormed, Satisfies}
 use Rattle.cq_theory.specs.Value.{symbols_of}
 use Rattle.cq_mapping.specs.MappingData.{MappingData as Mapping}
 use Rattle.cq_mapping.specs.Mapping.{IsMapping}
 use Rattle.cq_mapping.specs.Images.{entity_image, key_image, attribute_image}
 use Rattle.cq_mapping.specs.Duties.{Preserves}
-use Rattle.cq_mapping.specs.Moved.{key_column, cell_column, delta_tables}
+use Rattle.cq_mapping.specs.Moved.{cell_column, delta_tables}
 use Rattle.cq_model.specs.Given.{IsModel, tables, size_of, has_long_cell, is_oversized}
-use Rattle.cq_model.specs.Terms.{IsOnWay, AreStandings, IsTypeTermOf}
+use Rattle.cq_model.specs.Terms.{IsOnWay, IsTypeTermOf}
 use Rattle.cq_model.proofs.Lists.{All_from, get-map, get-range}
-use Rattle.cq_model.proofs.Columned.{enumerated_more}
 use Rattle.cq_model.proofs.Enumerated.{get-enumerate}
 use Rattle.cq_move.specs.Pulling.{TellsSize}
 use Rattle.cq_move.proofs.Tests.{neither, some_at, none_at}

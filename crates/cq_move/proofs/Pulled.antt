@@ -1,23 +1,20 @@
 -- The tables that a mapping pulls back are well formed over its source, and satisfy it where the mapping preserves equality.
-use Rattle.std.proofs.Common.{ℕ, zero, suc, List, [], ◌∷◌, ◌++◌, Option, Some, ◌≡◌, ◌<◌, ◌+◌, map, length, get_or, refl, sym, ap, subst, ◌∙◌, arith}
+use Rattle.std.proofs.Common.{ℕ, zero, suc, List, [], ◌∷◌, Some, ◌≡◌, ◌<◌, ◌+◌, map, length, refl, sym, ap, subst, ◌∙◌, arith}
 use Rattle.std.specs.Prelude.{slice_get, slice_index, slice_index_or, All}
 use Rattle.std.specs.List.{enumerate_from}
 use Rattle.std.proofs.lemmas.List.{get_or-map, length-map}
 use Rattle.std.proofs.lemmas.List.FromFn.{get_or-map-range_with_len, length-map-range_with_len}
-use Rattle.std.proofs.lemmas.Option.{option_and_then_some, get_or_from_slice_get, slice_get_within}
+use Rattle.std.proofs.lemmas.Option.{option_and_then_some, get_or_from_slice_get}
 use Rattle.cq_base.specs.declared.name.Name.{Name}
 use Rattle.cq_theory.specs.TypesideData.{TypesideData as Typeside}
 use Rattle.cq_theory.specs.declared.presentation.Sort.{Sort}
 use Rattle.cq_theory.specs.declared.presentation.Sort.TheVariants.{Entity}
 use Rattle.cq_theory.specs.declared.presentation.Equation.{Equation}
 use Rattle.cq_theory.specs.declared.schema.Edge.{Edge}
-use Rattle.cq_theory.specs.declared.schema.PathEq.{PathEq}
-use Rattle.cq_theory.specs.declared.schema.ObsEq.{ObsEq}
 use Rattle.cq_theory.specs.SchemaData.{SchemaData as Schema}
 use Rattle.cq_theory.specs.declared.term.EntTerm.{EntTerm}
 use Rattle.cq_theory.specs.declared.term.TypeTerm.{TypeTerm}
 use Rattle.cq_theory.specs.declared.term.TypeTerm.TheVariants as term
-use Rattle.cq_theory.specs.declared.term.Term.TheVariants.{Ent, Typ}
 use Rattle.cq_theory.specs.declared.value.Value.{Value}
 use Rattle.cq_theory.specs.declared.constant.Con.TheVariants.{Named}
 use Rattle.cq_theory.specs.declared.value.Value.TheVariants.{Const}
@@ -37,7 +34,7 @@ use Rattle.cq_mapping.specs.Duties.{path_duty, observation_duty, one_generator, 
 use Rattle.cq_mapping.specs.Moved.{key_column, cell_column, delta_tables}
 use Rattle.cq_mapping.proofs.Imaged.{target_of-image}
 use Rattle.cq_model.proofs.Lists.{get-map, get-append, get-append_front, All_from, All_at}
-use Rattle.cq_model.proofs.BuiltTerms.{EachTyped, type_at_some, typed_generator, typed_cell, args_typed}
+use Rattle.cq_model.proofs.BuiltTerms.{EachTyped, typed_generator, typed_cell, args_typed}
 use Rattle.cq_model.proofs.BuiltSubstituted.{value_of-substituted}
 use Rattle.cq_move.proofs.Normal.{row_from-within, value_normal}
 

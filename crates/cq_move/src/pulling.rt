@@ -26,11 +26,7 @@ const MOST_GENERATORS: u64 = 16_000_000;
 /// of its image, with their numbers; a foreign key leads where its path leads, and a cell has the value of its attribute's
 /// term. Nulls and entries are those of `instance`. `TooLarge` is answered exactly where there are over 16,000,000 rows and
 /// nulls together or a cell has over 1,024 symbols, and `Memory` for want of memory.
-pub fn delta(
-    alloc: Global,
-    mapping: &Mapping,
-    instance: &Instance,
-) -> Result<Instance, SizeRefusal>
+pub fn delta(alloc: Global, mapping: &Mapping, instance: &Instance) -> Result<Instance, SizeRefusal>
     requires preserves { Preserves mapping.now }
     requires over { instance.now.schema ≡ mapping.now.target }
     ensures instance { IfOk result (λ made. made ≡ given mapping.now.source (delta_tables mapping.now instance.now.tables)) }
@@ -183,11 +179,7 @@ fn pulled_cells(
 }
 
 /// The sheet that the mapping pulls back.
-fn pulled_sheet(
-    alloc: Global,
-    mapping: &Mapping,
-    instance: &Instance,
-) -> Result<Sheet, SizeRefusal>
+fn pulled_sheet(alloc: Global, mapping: &Mapping, instance: &Instance) -> Result<Sheet, SizeRefusal>
     requires over { instance.now.schema ≡ mapping.now.target }
     ensures sheet { IfOk result (λ sheet. sheet ≡ (delta_tables mapping.now instance.now.tables).sheet) }
     ensures fits { IfOk result (λ _. has_long_cell (delta_tables mapping.now instance.now.tables) ≡ false) }

@@ -5,9 +5,8 @@ use Rattle.cq_theory.specs.SchemaData.{SchemaData as Schema}
 use Rattle.cq_theory.specs.declared.term.TypeTerm.{TypeTerm}
 use Rattle.cq_theory.specs.declared.value.Value.{Value}
 use Rattle.cq_theory.specs.Canonical.{below}
-use Rattle.cq_theory.specs.Tables.{Tables, AtRow, count_of, value_of}
+use Rattle.cq_theory.specs.Tables.{Tables, AtRow, value_of}
 use Rattle.cq_mapping.specs.MappingData.{MappingData as Mapping}
-use Rattle.cq_mapping.specs.Images.{entity_image}
 use Rattle.cq_mapping.specs.Moved.{cell_column, delta_tables}
 use Rattle.cq_model.specs.Given.{has_long_cell}
 use Rattle.cq_model.specs.Terms.{IsTypeTermOf}
@@ -25,10 +24,12 @@ push_cells-requires c =
     let behind = ap (λ (S : Schema). S.attributes) c.behind-mapping.view_is in
     let held = ap (λ (G : Mapping). G.source.attributes) c.mapping.view_is in
     let same : c.as_slice-attributes.result.now ≡ F.source.attributes = cc in
-    let at = edge_at F.source.attributes c.as_slice-attributes.result.now a edge same c.loop-attribute-test.true c.index-attributes-attribute.is in
-    (edge.to, λ row inside.
-        subst (λ (t : TypeTerm). IsTypeTermOf c.args.instance.now.schema M (AtRow row ∷ []) t edge.to) (sym c.term_of-term.ensures)
-        (cell_term F M c.is_well_sorted.ensures c.args.instance.now.schema c.requires.over a row edge at (subst (λ n. row < n) c.count_at-count.ensures inside)))
+    let at = edge_at F.source.attributes c.as_slice-attributes.result.now a edge same c.loop-attribute-test.true c.index-attributes-attribute.is in (
+      edge.to,
+      λ row inside.
+          subst (λ (t : TypeTerm). IsTypeTermOf c.args.instance.now.schema M (AtRow row ∷ []) t edge.to) (sym c.term_of-term.ensures)
+          (cell_term F M c.is_well_sorted.ensures c.args.instance.now.schema c.requires.over a row edge at (subst (λ n. row < n) c.count_at-count.ensures inside)),
+    )
 
 pub returns-in-Err-clause-refused : goal.returns-in-Err-clause-refused
 returns-in-Err-clause-refused c =

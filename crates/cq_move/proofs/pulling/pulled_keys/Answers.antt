@@ -2,7 +2,7 @@ use Rattle.std.proofs.Common.{ℕ, List, [], ◌∷◌, ◌++◌, ◌≡◌, ◌
 use Rattle.cq_theory.specs.declared.schema.Edge.{Edge}
 use Rattle.cq_theory.specs.SchemaData.{SchemaData as Schema}
 use Rattle.cq_theory.specs.Canonical.{below}
-use Rattle.cq_theory.specs.Tables.{Tables, count_of, row_from}
+use Rattle.cq_theory.specs.Tables.{Tables, row_from}
 use Rattle.cq_mapping.specs.MappingData.{MappingData as Mapping}
 use Rattle.cq_mapping.specs.Images.{entity_image}
 use Rattle.cq_mapping.specs.Moved.{key_column}
@@ -20,10 +20,12 @@ row_column-requires c =
     let behind = ap (λ (S : Schema). S.keys) c.behind-mapping.view_is in
     let held = ap (λ (G : Mapping). G.source.keys) c.mapping.view_is in
     let same : c.as_slice-keys.result.now ≡ F.source.keys = cc in
-    let at = edge_at F.source.keys c.as_slice-keys.result.now k edge same c.loop-key-test.true c.index-keys-key.is in
-    (entity_image F edge.to, λ row inside.
-        subst (λ (path : List ℕ). IsOnWay c.args.instance.now.schema M path row (entity_image F edge.to)) (sym c.path_of.ensures)
-        (key_way F M c.is_well_sorted.ensures c.args.instance.now.schema c.requires.over k row edge at (subst (λ n. row < n) c.count_at-count.ensures inside)))
+    let at = edge_at F.source.keys c.as_slice-keys.result.now k edge same c.loop-key-test.true c.index-keys-key.is in (
+      entity_image F edge.to,
+      λ row inside.
+          subst (λ (path : List ℕ). IsOnWay c.args.instance.now.schema M path row (entity_image F edge.to)) (sym c.path_of.ensures)
+          (key_way F M c.is_well_sorted.ensures c.args.instance.now.schema c.requires.over k row edge at (subst (λ n. row < n) c.count_at-count.ensures inside)),
+    )
 
 pub loop-key-preserved : goal.loop-key-preserved
 loop-key-preserved c =
