@@ -1,4 +1,4 @@
--- The transcript of an instance of employees and departments, written out.
+-- The transcript and the literal of an instance of employees and departments, written out.
 use Rattle.std.proofs.Common.{[], ◌∷◌, ◌≡◌, refl}
 use Rattle.std.specs.Prelude.{codes}
 use Rattle.std.specs.Fmt.{digits}
@@ -7,18 +7,20 @@ use Rattle.cq_theory.specs.declared.value.Value.TheVariants.{Const, Null}
 use Rattle.cq_theory.specs.TypesideData.{TypesideData}
 use Rattle.cq_theory.specs.SchemaData.{SchemaData}
 use Rattle.cq_theory.proofs.Values.{fold-Const, fold-Null}
+use Rattle.cq_theory.proofs.TypeTerms as terms
 use Rattle.cq_theory.specs.Tables.{AtRow}
 use Rattle.cq_model.specs.InstanceData.{InstanceData}
+use Rattle.cq_text.specs.Literal.{literal_of}
 use Rattle.cq_text.specs.Transcript.{transcript_of, name_text}
 
-abbrev typeside : TypesideData
+abbrev pub typeside : TypesideData
 typeside = record {
   types = codes "string" ∷ codes "nat" ∷ [];
   constants = (codes "Al", 0) ∷ (codes "Bob", 0) ∷ (codes "Bo", 0) ∷ (codes "Carl", 0) ∷ (codes "Math", 0) ∷ (codes "CS", 0) ∷ (codes "zero", 1) ∷ [];
   functions = record { name = codes "plus"; args = 1 ∷ 1 ∷ []; result = 1 } ∷ [];
 }
 
-abbrev schema : SchemaData
+abbrev pub schema : SchemaData
 schema = record {
   typeside = typeside;
   entities = codes "Employee" ∷ codes "Department" ∷ [];
@@ -38,7 +40,7 @@ schema = record {
   obs_eqs = [];
 }
 
-abbrev employees : InstanceData
+abbrev pub employees : InstanceData
 employees = record {
   schema = schema;
   presentation = record {
@@ -76,6 +78,10 @@ employees = record {
 employees_transcript : transcript_of (codes "I") (codes "S") employees ≡ codes "instance I : S\nentity Employee 3\n1 a first=Al last=?0 age=zero cummulative_age=?1 manager=2 worksIn=1\n2 b first=Bob last=Bo age=?2 cummulative_age=?3 manager=2 worksIn=1\n3 c first=Carl last=?4 age=zero cummulative_age=?5 manager=3 worksIn=2\nentity Department 2\n1 m name=Math secretary=2\n2 s name=CS secretary=3\nnulls 6\n?0 string\n?1 nat\n?2 nat\n?3 nat\n?4 string\n?5 nat\nentries 3\nplus(zero, ?2) = ?1\nplus(?2, ?2) = ?3\nplus(zero, zero) = ?5\nend\n"
 unfolding digits
 employees_transcript = simp (fold-Const, fold-Null)
+
+employees_literal : literal_of (codes "I") (codes "S") employees ≡ codes "instance I = literal : S {\ngenerators\ng1 : Employee\ng2 : Employee\ng3 : Employee\ng4 : Department\ng5 : Department\ng6 : string\ng7 : nat\ng8 : nat\ng9 : nat\ng10 : string\ng11 : nat\nequations\nfirst(g1) = \"Al\"\nlast(g1) = g6\nage(g1) = \"zero\"\ncummulative_age(g1) = g7\nmanager(g1) = g2\nworksIn(g1) = g4\nfirst(g2) = \"Bob\"\nlast(g2) = \"Bo\"\nage(g2) = g8\ncummulative_age(g2) = g9\nmanager(g2) = g2\nworksIn(g2) = g4\nfirst(g3) = \"Carl\"\nlast(g3) = g10\nage(g3) = \"zero\"\ncummulative_age(g3) = g11\nmanager(g3) = g3\nworksIn(g3) = g5\nname(g4) = \"Math\"\nsecretary(g4) = g2\nname(g5) = \"CS\"\nsecretary(g5) = g3\nplus(\"zero\", g8) = g7\nplus(g8, g8) = g9\nplus(\"zero\", \"zero\") = g11\n}\n"
+unfolding digits
+employees_literal = simp (fold-Const, fold-Null, terms.folds)
 
 -- a name with keys
 manager_of_secretary : name_text schema.keys employees.presentation.generators (record { generator = 4; path = 2 ∷ 0 ∷ [] }) ≡ codes "s.secretary.manager"
