@@ -1,10 +1,10 @@
--- The files of an instance of employees and departments, written out.
+-- The files of some instances, written out.
 use Rattle.std.proofs.Common.{[], ◌∷◌, ◌≡◌, refl}
 use Rattle.std.specs.Prelude.{codes}
 use Rattle.std.specs.Fmt.{digits}
 use Rattle.csv.specs.Writing.{escaped, fields_text, is_blank}
-use Rattle.cq_theory.proofs.Values.{fold-Const, fold-Null}
-use Rattle.cq_text.proofs.Examples.{employees}
+use Rattle.cq_theory.proofs.Values.{fold-Const, fold-Null, fold-Fun}
+use Rattle.cq_text.proofs.Examples.{built, employees, merged, open_text, two_nulls}
 use Rattle.cq_csv.specs.Files.{files_of}
 
 employees_files : files_of (codes "I") employees ≡
@@ -14,3 +14,22 @@ employees_files : files_of (codes "I") employees ≡
     ∷ []
 unfolding digits escaped fields_text is_blank
 employees_files = simp (fold-Const, fold-Null)
+
+two_nulls_files : files_of (codes "I") two_nulls ≡
+    (codes "I/E.csv", codes "id,x\n1,?0\n2,?1\n")
+    ∷ (codes "I/entries-2.csv", codes "format-2,left,right\nnull,?0,s\nnull,?1,s\n")
+    ∷ []
+unfolding digits escaped fields_text is_blank
+two_nulls_files = simp (fold-Const, fold-Null)
+
+built_files : files_of (codes "J1") built ≡ (codes "J1/E.csv", codes "id,x\n1,\"=plus(zero, zero)\"\n") ∷ (codes "J1/entries-2.csv", codes "format-2,left,right\n") ∷ []
+unfolding digits escaped fields_text is_blank
+built_files = simp (fold-Const, fold-Null, fold-Fun)
+
+merged_files : files_of (codes "I") merged ≡ (codes "I/entries-2.csv", codes "format-2,left,right\nnull,?0,s\nentry,h(Al),?0\nentry,h(Bob),?0\n") ∷ []
+unfolding digits escaped fields_text is_blank
+merged_files = simp (fold-Const, fold-Null)
+
+open_files : files_of (codes "I") open_text ≡ (codes "I/E.csv", codes "id,x\n1,Al\n2,Zed\n") ∷ (codes "I/entries-2.csv", codes "format-2,left,right\n") ∷ []
+unfolding digits escaped fields_text is_blank
+open_files = simp (fold-Const, fold-Null)

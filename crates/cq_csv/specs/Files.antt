@@ -36,6 +36,17 @@ entry_record T entry =
     ∷ application_text (function_name (slice_get T.functions entry.function)) (map (value_text T) entry.args)
     ∷ value_text T entry.value ∷ []
 
+-- the nulls with these types
+abbrev pub null_records : Typeside → List ℕ → List (List (List ℕ))
+null_records T types = map (λ label. null_record T label (slice_index types label)) (below (length types))
+
+abbrev pub entry_records : Typeside → List Entry → List (List (List ℕ))
+entry_records T entries = map (entry_record T) entries
+
+-- the first record of the file with the nulls and the entries: the mark of the format
+abbrev pub mark : List (List ℕ)
+mark = codes "format-2" ∷ codes "left" ∷ codes "right" ∷ []
+
 module _ (i : InstanceData) where
   -- the first record of an entity's file, by the numbers of its attributes and keys
   abbrev pub header : List ℕ → List ℕ → List (List ℕ)
@@ -59,12 +70,9 @@ module _ (i : InstanceData) where
   abbrev pub entity_records : ℕ → List (List (List ℕ))
   entity_records entity = records entity (numbers_from entity i.schema.attributes) (numbers_from entity i.schema.keys)
 
-  -- the mark of the format, each null by its label, and each entry
+  -- each null by its label, and then each entry
   abbrev pub algebra_records : List (List (List ℕ))
-  algebra_records =
-      (codes "format-2" ∷ codes "left" ∷ codes "right" ∷ [])
-      ∷ map (λ label. null_record i.schema.typeside label (slice_index i.tables.algebra.nulls label)) (below (length i.tables.algebra.nulls))
-      ++ map (entry_record i.schema.typeside) i.tables.algebra.entries
+  algebra_records = mark ∷ null_records i.schema.typeside i.tables.algebra.nulls ++ entry_records i.schema.typeside i.tables.algebra.entries
 
 -- a file of the folder with this name
 abbrev pub file_name : List ℕ → List ℕ → List ℕ

@@ -32,7 +32,8 @@ pub fn files(
 {
     let mut files = entity_files(alloc, name, instance)?;
     let last = file_name(alloc, name, "entries-2")?;
-    files.push((last, algebra_text(alloc, instance)?))?;
+    let text = algebra_text(alloc, instance)?;
+    files.push((last, text))?;
     Ok(files)
 }
 
@@ -46,11 +47,12 @@ fn entity_files(
 {
     let attributes = attributes_by_entity(alloc, instance)?;
     let keys = keys_by_entity(alloc, instance)?;
-    let entities = instance.schema().entities.len();
+    let entities = instance.schema().entities.len() as u32;
     let mut files = Vec::new(alloc);
     for entity in 0..entities {
-        let file = entity_name(alloc, name, instance, entity as u32)?;
-        let text = entity_text(alloc, instance, entity as u32, &attributes[entity], &keys[entity])?;
+        let place = entity as usize;
+        let file = entity_name(alloc, name, instance, entity)?;
+        let text = entity_text(alloc, instance, entity, &attributes[place], &keys[place])?;
         files.push((file, text))?;
     }
     Ok(files)
@@ -67,7 +69,8 @@ fn entity_name(
     ensures { IfOk result (λ file. string_bytes file ≡ name_in name.now (name_or_empty (slice_get instance.now.schema.entities entity))) }
 {
     let entities = instance.schema().entities.as_slice();
-    file_name(alloc, name, entities[entity as usize].as_str())
+    let file = file_name(alloc, name, entities[entity as usize].as_str())?;
+    Ok(file)
 }
 
 /// The name of a file in the folder of an instance.
@@ -99,10 +102,12 @@ fn entity_text(
     let mut fields = ByteRecord::new(alloc);
     push_header(instance, attributes, keys, &mut fields)?;
     write(&mut writer, &fields)?;
-    for row in 0..instance.count(entity) {
+    let count = instance.count(entity);
+    for row in 0..count {
         fields.clear();
         push_row(instance, row, attributes, keys, &mut text, &mut fields)?;
         write(&mut writer, &fields)?;
     }
-    finish(writer)
+    let bytes = finish(writer)?;
+    Ok(bytes)
 }

@@ -1,7 +1,7 @@
 //! Fields of records.
 ghost use Rattle.std.specs.Prelude.{◌≡◌, ◌++◌, ◌∷◌, [], true, codes, decimal, OnOk};
 ghost use Rattle.csv.specs.Records.{partial_of};
-ghost use Rattle.cq_theory.specs.ValueText.{is_named, value_text};
+ghost use Rattle.cq_theory.specs.ValueText.{is_named, null_text, value_text};
 ghost use Rattle.cq_csv.specs.Files.{cell_field};
 ghost use Rattle.cq_csv.specs.Records.{AddsFields};
 
@@ -54,13 +54,36 @@ pub fn push_value_field(
     Ok(())
 }
 
-/// Appends `=` and the text of a value.
-fn push_built(typeside: &Typeside, value: &Value, text: &mut Vec<u8>) -> Result<(), AllocError>
-    requires { is_named typeside.now value.now ≡ true }
-    ensures { OnOk result (text.new.items ≡ text.old.items ++ codes "=" ++ value_text typeside.now value.now) }
+/// Appends the label of a null.
+pub fn push_null_field(
+    label: u64,
+    text: &mut Vec<u8>,
+    fields: &mut ByteRecord,
+) -> Result<(), AllocError>
+    requires { partial_of fields.old ≡ [] }
+    ensures { OnOk result (AddsFields fields.old fields.new (null_text label ∷ [])) }
 {
+    text.clear();
+    push_null(label, text)?;
+    push_field(text.as_slice(), fields)?;
+    Ok(())
+}
+
+/// Appends `=` and the text of a value.
+fn push_built_field(
+    typeside: &Typeside,
+    value: &Value,
+    text: &mut Vec<u8>,
+    fields: &mut ByteRecord,
+) -> Result<(), AllocError>
+    requires named { is_named typeside.now value.now ≡ true }
+    requires whole { partial_of fields.old ≡ [] }
+    ensures { OnOk result (AddsFields fields.old fields.new ((codes "=" ++ value_text typeside.now value.now) ∷ [])) }
+{
+    text.clear();
     text.extend_from_slice(b"=")?;
     push_value(typeside, value, text)?;
+    push_field(text.as_slice(), fields)?;
     Ok(())
 }
 
@@ -75,12 +98,18 @@ pub fn push_cell_field(
     requires whole { partial_of fields.old ≡ [] }
     ensures { OnOk result (AddsFields fields.old fields.new (cell_field typeside.now value.now ∷ [])) }
 {
-    text.clear();
     match value {
-        Value::Const(constant) => return push_field(content(typeside, *constant), fields),
-        Value::Null(label) => push_null(*label, text)?,
-        Value::Fun(_, _) => push_built(typeside, value, text)?,
+        Value::Const(constant) => {
+            push_field(content(typeside, constant), fields)?;
+            Ok(())
+        }
+        Value::Null(label) => {
+            push_null_field(*label, text, fields)?;
+            Ok(())
+        }
+        Value::Fun(_, _) => {
+            push_built_field(typeside, value, text, fields)?;
+            Ok(())
+        }
     }
-    push_field(text.as_slice(), fields)?;
-    Ok(())
 }

@@ -6,5 +6,7 @@ mod export;
 mod fields;
 mod records;
 mod rows;
+#[cfg(test)]
+mod tests;
 
 pub use export::files;

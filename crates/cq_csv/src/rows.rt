@@ -122,7 +122,23 @@ fn push_references(
     ensures { OnOk result (AddsFields fields.old fields.new (map (reference instance.now row) keys.now)) }
 {
     for key in keys {
-        push_number_field(u64::from(instance.key(*key, row)) + 1, text, fields)?;
+        push_reference(instance, row, *key, text, fields)?;
     }
+    Ok(())
+}
+
+fn push_reference(
+    instance: &Instance,
+    row: u32,
+    key: u32,
+    text: &mut Vec<u8>,
+    fields: &mut ByteRecord,
+) -> Result<(), AllocError>
+    requires row { LeavesRow instance.now.tables instance.now.schema.keys row key }
+    requires whole { partial_of fields.old ≡ [] }
+    ensures { OnOk result (AddsFields fields.old fields.new (reference instance.now row key ∷ [])) }
+{
+    let target = instance.key(key, row);
+    push_number_field(u64::from(target) + 1, text, fields)?;
     Ok(())
 }

@@ -6,6 +6,7 @@ use Rattle.std.proofs.lemmas.Grind.{flat_map-append}
 use Rattle.std.proofs.lemmas.List.{append-nil, length-append}
 use Rattle.std.proofs.lemmas.List.Folds.{flat_map-map}
 use Rattle.cq_base.specs.declared.name.Name.{Name}
+use Rattle.cq_theory.specs.declared.constant.Con.{Con}
 use Rattle.cq_theory.specs.declared.presentation.Sort.{Sort}
 use Rattle.cq_theory.specs.declared.presentation.Sort.TheVariants.{Plain, Entity}
 use Rattle.cq_theory.specs.declared.schema.Edge.{Edge}
@@ -39,7 +40,7 @@ module _ (S : Schema) (M : Tables) where
   abbrev IsSpelled : Value → Type 0
   IsSpelled v = term_text S (value_term S M v) ≡ spelled S.typeside (sum M.sheet.counts) v
 
-  spelled_const : (n : ℕ) → IsSpelled (Const n)
+  spelled_const : (n : Con) → IsSpelled (Const n)
   spelled_const n =
       ap (term_text S) (values.fold-Const TypeTerm (value_term_step S M) n) ∙ terms.fold-Const (List ℕ) (term_text_step S) n
       ∙ sym (values.fold-Const (List ℕ) (spelled_step S.typeside (sum M.sheet.counts)) n)

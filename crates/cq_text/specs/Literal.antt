@@ -2,6 +2,8 @@
 use Rattle.std.specs.Prelude.{ℕ, List, ◌++◌, ◌+◌, slice_get, fold, codes, decimal}
 use Rattle.std.specs.List.{flat_map}
 use Rattle.cq_base.specs.declared.name.Name.{Name}
+use Rattle.cq_theory.specs.declared.constant.Con.{Con}
+use Rattle.cq_theory.specs.declared.constant.Con.TheVariants.{Named, Open}
 use Rattle.cq_theory.specs.declared.presentation.Sort.{Sort}
 use Rattle.cq_theory.specs.declared.presentation.Sort.TheVariants.{Plain, Entity}
 use Rattle.cq_theory.specs.declared.presentation.Equation.{Equation}
@@ -18,9 +20,10 @@ use Rattle.cq_theory.specs.Canonical.{canonical}
 use Rattle.cq_model.specs.InstanceData.{InstanceData}
 use Rattle.cq_text.specs.Transcript.{name_or_empty, edge_name, line}
 
--- what a constant is the text of
-abbrev pub content_of : Typeside → ℕ → Name
-content_of T c = constant_name (slice_get T.constants c)
+-- the text of a constant, without quotes
+abbrev pub content_of : Typeside → Con → Name
+content_of T (Named c) = constant_name (slice_get T.constants c)
+content_of T (Open text) = text
 
 -- the name of the generator with a number, from 0
 abbrev pub generator_text : ℕ → List ℕ

@@ -1,7 +1,7 @@
 //! The terms of a literal, each appended to what stands before it.
 ghost use Rattle.std.specs.Prelude.{◌≡◌, ◌++◌, ◌<◌, true, map, length, OnOk, slice_get};
 ghost use Rattle.std.specs.List.{list_all};
-ghost use Rattle.cq_theory.specs.ValueText.{application_text, function_name, is_named, quoted, with_commas};
+ghost use Rattle.cq_theory.specs.ValueText.{application_text, function_name, is_named, is_named_con, quoted, with_commas};
 ghost use Rattle.cq_text.specs.Transcript.{edge_name, IsNamedEntry};
 ghost use Rattle.cq_text.specs.Literal.{applied_text, content_of, generator_text};
 ghost use Rattle.cq_text.specs.Spelling.{entry_equation_line, spelled};
@@ -9,15 +9,18 @@ ghost use Rattle.cq_text.specs.Spelling.{entry_equation_line, spelled};
 use crate::pieces::{push_edge_name, push_name, push_number};
 use crate::plan::sum_of;
 use cq_theory::value_text::push_quoted;
-use cq_theory::{Edge, Entry, Typeside, Value};
+use cq_theory::{Con, Edge, Entry, Typeside, Value};
 use std::alloc::AllocError;
 
-/// What a constant is the text of.
-pub fn content(typeside: &Typeside, constant: u32) -> &[u8]
-    requires { constant < length typeside.now.constants }
-    ensures { result.now ≡ content_of typeside.now constant }
+/// The text of a constant, without quotes: a declared one's name, or an open one's text.
+pub fn content<'a>(typeside: &'a Typeside, constant: &'a Con) -> &'a [u8]
+    requires { is_named_con typeside.now constant.now ≡ true }
+    ensures { result.now ≡ content_of typeside.now constant.now }
 {
-    typeside.name_of_constant(constant).as_str().as_bytes()
+    match constant {
+        Con::Named(number) => typeside.name_of_constant(*number).as_str().as_bytes(),
+        Con::Open(text) => text.as_str().as_bytes(),
+    }
 }
 
 /// Appends the name of the generator with this number, from 0.
@@ -61,7 +64,7 @@ pub fn push_spelled(
 {
     match value {
         Value::Const(constant) => {
-            push_content(typeside, *constant, text)?;
+            push_content(typeside, constant, text)?;
             Ok(())
         }
         Value::Null(label) => {
@@ -114,9 +117,9 @@ fn push_spelled_args(
     Ok(())
 }
 
-fn push_content(typeside: &Typeside, constant: u32, text: &mut Vec<u8>) -> Result<(), AllocError>
-    requires { constant < length typeside.now.constants }
-    ensures { OnOk result (text.new.items ≡ text.old.items ++ quoted (content_of typeside.now constant)) }
+fn push_content(typeside: &Typeside, constant: &Con, text: &mut Vec<u8>) -> Result<(), AllocError>
+    requires { is_named_con typeside.now constant.now ≡ true }
+    ensures { OnOk result (text.new.items ≡ text.old.items ++ quoted (content_of typeside.now constant.now)) }
 {
     push_quoted(content(typeside, constant), text)?;
     Ok(())

@@ -3,7 +3,7 @@ use Rattle.std.specs.Prelude.{slice_index}
 use Rattle.cq_theory.specs.Canonical.{below}
 use Rattle.cq_csv.specs.Files.{null_record}
 use Rattle.cq_csv.specs.Records.{HasWritten}
-use Rattle.cq_csv.proofs.algebra.write_nulls.Given as goal
+use Rattle.cq_csv.proofs.algebra.write_null_records.Given as goal
 
 abbrev pub invariant-loop-label : goal.invariant-loop-label
 invariant-loop-label l =
