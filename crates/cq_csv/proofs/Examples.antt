@@ -20,11 +20,11 @@ two_nulls_files : files_of (codes "I") two_nulls ≡
     ∷ (codes "I/entries-2.csv", codes "format-2,left,right\nnull,?0,s\nnull,?1,s\n")
     ∷ []
 unfolding digits escaped fields_text is_blank
-two_nulls_files = simp (fold-Const, fold-Null)
+two_nulls_files = refl
 
 built_files : files_of (codes "J1") built ≡ (codes "J1/E.csv", codes "id,x\n1,\"=plus(zero, zero)\"\n") ∷ (codes "J1/entries-2.csv", codes "format-2,left,right\n") ∷ []
 unfolding digits escaped fields_text is_blank
-built_files = simp (fold-Const, fold-Null, fold-Fun)
+built_files = simp (fold-Const, fold-Fun)
 
 merged_files : files_of (codes "I") merged ≡ (codes "I/entries-2.csv", codes "format-2,left,right\nnull,?0,s\nentry,h(Al),?0\nentry,h(Bob),?0\n") ∷ []
 unfolding digits escaped fields_text is_blank
@@ -32,4 +32,4 @@ merged_files = simp (fold-Const, fold-Null)
 
 open_files : files_of (codes "I") open_text ≡ (codes "I/E.csv", codes "id,x\n1,Al\n2,Zed\n") ∷ (codes "I/entries-2.csv", codes "format-2,left,right\n") ∷ []
 unfolding digits escaped fields_text is_blank
-open_files = simp (fold-Const, fold-Null)
+open_files = refl

@@ -78,8 +78,11 @@ module _ (i : InstanceData) where
 abbrev pub file_name : List ℕ → List ℕ → List ℕ
 file_name folder file = folder ++ codes "/" ++ file ++ codes ".csv"
 
--- the names and the texts of an instance's files, in the folder of its name: those of the entities in order, and that of the algebra
+-- the name and the text of an entity's file
+abbrev pub entity_file : Name → InstanceData → ℕ → List ℕ × List ℕ
+entity_file name i entity = (file_name name (name_or_empty (slice_get i.schema.entities entity)), file_text (entity_records i entity))
+
+-- the files of an instance in the folder of its name: those of the entities in order, and that of the nulls and the entries
 abbrev pub files_of : Name → InstanceData → List (List ℕ × List ℕ)
 files_of name i =
-    map (λ entity. (file_name name (name_or_empty (slice_get i.schema.entities entity)), file_text (entity_records i entity))) (below (length i.schema.entities))
-    ++ (file_name name (codes "entries-2"), file_text (algebra_records i)) ∷ []
+    map (entity_file name i) (below (length i.schema.entities)) ++ (file_name name (codes "entries-2"), file_text (algebra_records i)) ∷ []

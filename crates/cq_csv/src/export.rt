@@ -4,7 +4,7 @@ ghost use Rattle.csv.specs.Records.{fields_of};
 ghost use Rattle.cq_theory.specs.Canonical.{below};
 ghost use Rattle.cq_text.specs.Grouped.{numbers_from};
 ghost use Rattle.cq_text.specs.Transcript.{name_or_empty};
-ghost use Rattle.cq_csv.specs.Files.{entity_records, file_name as name_in, files_of};
+ghost use Rattle.cq_csv.specs.Files.{entity_file, entity_records, file_name as name_in, files_of};
 ghost use Rattle.cq_csv.specs.Records.{file_text};
 
 use crate::algebra::algebra_text;
@@ -43,7 +43,7 @@ fn entity_files(
     name: &Name,
     instance: &Instance,
 ) -> Result<Vec<(String, Vec<u8>)>, AllocError>
-    ensures { IfOk result (λ files. map (λ file. (string_bytes file.0, file.1.items)) files.items ≡ map (λ entity. (name_in name.now (name_or_empty (slice_get instance.now.schema.entities entity)), file_text (entity_records instance.now entity))) (below (length instance.now.schema.entities))) }
+    ensures { IfOk result (λ files. map (λ file. (string_bytes file.0, file.1.items)) files.items ≡ map (entity_file name.now instance.now) (below (length instance.now.schema.entities))) }
 {
     let attributes = attributes_by_entity(alloc, instance)?;
     let keys = keys_by_entity(alloc, instance)?;

@@ -31,11 +31,7 @@ pub fn push_header(
     Ok(())
 }
 
-fn push_names(
-    edges: &[Edge],
-    numbers: &[u32],
-    fields: &mut ByteRecord,
-) -> Result<(), AllocError>
+fn push_names(edges: &[Edge], numbers: &[u32], fields: &mut ByteRecord) -> Result<(), AllocError>
     requires within { All (λ n. n < length edges.now) numbers.now }
     requires whole { partial_of fields.old ≡ [] }
     ensures { OnOk result (AddsFields fields.old fields.new (names_of edges.now numbers.now)) }

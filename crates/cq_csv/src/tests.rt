@@ -121,6 +121,9 @@ fn files_of_two_rows_with_nulls(rt: HostRuntime) -> Result<(), Fail> {
     assert_eq!(rt; files[0].0.as_str(), "I/E.csv");
     assert_eq!(rt; files[0].1.as_slice(), b"id,x\n1,?0\n2,?1\n".as_slice());
     assert_eq!(rt; files[1].0.as_str(), "I/entries-2.csv");
-    assert_eq!(rt; files[1].1.as_slice(), b"format-2,left,right\nnull,?0,s\nnull,?1,s\n".as_slice());
+    assert_eq!(rt;
+        files[1].1.as_slice(),
+        b"format-2,left,right\nnull,?0,s\nnull,?1,s\n".as_slice()
+    );
     Ok(())
 }

@@ -7,10 +7,7 @@ use cq_theory::Edge;
 use std::alloc::{AllocError, Global};
 
 /// The numbers of the attributes of each entity, in their order.
-pub fn attributes_by_entity(
-    alloc: Global,
-    instance: &Instance,
-) -> Result<Vec<Vec<u32>>, AllocError>
+pub fn attributes_by_entity(alloc: Global, instance: &Instance) -> Result<Vec<Vec<u32>>, AllocError>
     ensures { IfOk result (λ groups. IsGrouped instance.now.schema.attributes (length instance.now.schema.entities) groups.items) }
 {
     let schema = instance.schema();

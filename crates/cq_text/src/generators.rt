@@ -101,7 +101,12 @@ fn push_plain_generators(
     ensures { OnOk result (text.new.items ≡ text.old.items ++ flat_map (λ label. plain_line typeside.now (first_null + label) (slice_index sorts.now label)) (below (length sorts.now))) }
 {
     for label in 0..sorts.len() {
-        push_plain_generator(typeside, sum_of(first_null, label as u64)?, sorts[label], text)?;
+        push_plain_generator(
+            typeside,
+            sum_of(first_null, label as u64)?,
+            sorts[label],
+            text,
+        )?;
     }
     Ok(())
 }

@@ -36,11 +36,7 @@ pub fn literal(
 }
 
 /// Appends the generators and the equations of the canonical presentation.
-fn push_presentation(
-    instance: &Instance,
-    plan: &Plan,
-    text: &mut Vec<u8>,
-) -> Result<(), AllocError>
+fn push_presentation(instance: &Instance, plan: &Plan, text: &mut Vec<u8>) -> Result<(), AllocError>
     requires { IsPlan instance.now plan.now }
     ensures { OnOk result (text.new.items ≡ text.old.items ++ presentation_lines instance.now.schema (canonical instance.now.schema instance.now.tables)) }
 {

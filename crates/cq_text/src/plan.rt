@@ -81,7 +81,12 @@ pub fn target_number(
     requires row { LeavesRow instance.now.tables instance.now.schema.keys row key }
     ensures { IfOk result (λ number. number ≡ row_generator instance.now.schema instance.now.tables (target_of (slice_get instance.now.schema.keys key)) (key_at instance.now.tables key row)) }
 {
-    row_number(instance, plan, target(instance, key), instance.key(key, row))
+    row_number(
+        instance,
+        plan,
+        target(instance, key),
+        instance.key(key, row),
+    )
 }
 
 /// The entity to which a key leads.

@@ -34,7 +34,7 @@ loop-row-preserved c =
     let i = c.args.instance.now in
     let attributes = c.args.attributes.now in
     let keys = c.args.keys.now in
-    written_below c.write-2.new.writer (header i attributes keys ∷ []) (row_record i attributes keys) c.loop-row.row (fields_of c.push_row.new.fields)
+    written_below c.write-in-loop-row.new.writer (header i attributes keys ∷ []) (row_record i attributes keys) c.loop-row.row (fields_of c.push_row.new.fields)
     (filled c.clear.new.self c.push_row.new.fields (row_record i attributes keys c.loop-row.row) c.clear.ensures.fields c.in_ok-push_row.ensures)
     (c.in_ok-write-2.ensures _ c.loop-row.invariant)
 
