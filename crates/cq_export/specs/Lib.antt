@@ -1,0 +1,4 @@
+pub mod Choice
+pub mod Files
+pub mod Held
+pub mod Handing
