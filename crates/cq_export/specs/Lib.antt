@@ -1,4 +1,3 @@
-pub mod Choice
 pub mod Files
 pub mod Held
 pub mod Handing

@@ -1,11 +1,9 @@
-//! Exporters: those that a choice of format keeps, and how finished files are handed to each in turn.
+//! Finished files, and how they are handed to each exporter in turn.
 #![tactic(auto)]
 
-pub mod choice;
 pub mod files;
 pub mod handing;
 
-pub use choice::keep_format;
 pub use files::FileLists;
 pub use handing::{Handed, hand_over};
 

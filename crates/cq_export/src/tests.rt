@@ -1,6 +1,6 @@
-//! Exporters that fail, and a choice of format.
+//! Exporters that fail.
 
-use crate::{FileLists, Handed, hand_over, keep_format};
+use crate::{FileLists, Handed, hand_over};
 use cq_io::{Exporter, Format, MemExporter};
 use std::alloc::{AllocError, Global};
 use std::process::Abort;
@@ -63,16 +63,5 @@ fn those_that_fail_are_moved(rt: HostRuntime) -> Result<(), Fail> {
     assert_eq!(rt; ended, Handed::Spoiled);
     hold(&rt, exporters.as_slice(), &[1]);
     hold(&rt, spoiled.as_slice(), &[1, 0]);
-    Ok(())
-}
-
-#[test]
-fn a_choice_of_format_keeps_the_order(rt: HostRuntime) -> Result<(), Fail> {
-    let alloc = rt.alloc();
-    for (only, left) in [(None, 3), (Some(Format::Csv), 2), (Some(Format::Cql), 1)] {
-        let mut exporters = exporters(alloc, [&[], &[], &[]])?;
-        keep_format(&mut exporters, only);
-        assert_eq!(rt; exporters.len(), left);
-    }
     Ok(())
 }

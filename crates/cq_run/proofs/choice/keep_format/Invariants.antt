@@ -1,7 +1,7 @@
 use Rattle.std.proofs.Common.{◌-◌, length}
-use Rattle.cq_export.specs.Choice.{is_kept}
-use Rattle.cq_export.proofs.Kept.{KeptSoFar}
-use Rattle.cq_export.proofs.choice.keep_format.Given as goal
+use Rattle.cq_run.specs.Choice.{is_kept}
+use Rattle.cq_run.proofs.Kept.{KeptSoFar}
+use Rattle.cq_run.proofs.choice.keep_format.Given as goal
 
 abbrev pub invariant-loop-at : goal.invariant-loop-at
 invariant-loop-at g l =

@@ -1,7 +1,7 @@
 //! The exporters that a choice of format keeps.
 
 ghost use Rattle.std.specs.Prelude.{◌≡◌, map, filter};
-ghost use Rattle.cq_export.specs.Choice.{is_kept};
+ghost use Rattle.cq_run.specs.Choice.{is_kept};
 
 use cq_io::{Exporter, Format};
 
