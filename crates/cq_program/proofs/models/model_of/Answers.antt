@@ -4,7 +4,7 @@ use Rattle.cq_theory.specs.Schema.{IsSchema}
 use Rattle.cq_theory.specs.SchemaData.{SchemaData}
 use Rattle.cq_theory.specs.TypesideData.{TypesideData}
 use Rattle.cq_theory.specs.ValueText.{is_named_con}
-use Rattle.cq_program.proofs.Constants.{constants_within}
+use Rattle.cq_program.proofs.Constants.{constants_within, withholds_clash}
 use Rattle.cq_program.proofs.models.model_of.Goals as goal
 
 pub returns-in-Err-Depth-clause-withholds : goal.returns-in-Err-Depth-clause-withholds
@@ -34,3 +34,6 @@ clash-requires-clause-greater c =
     c.deref-in-Err-Inconsistent-2.ensures ∙ ap (λ (S : SchemaData). S.typeside) (c.behind-over.view_is ∙ c.deref-in-Err-Inconsistent.ensures ∙ c.in_ok-over.ensures.cases) in
     subst (λ (T : TypesideData). is_named_con T c.in-Err-Inconsistent.greater ≡ true) (sym typeside)
     (constants_within c.args.schema.value c.args.presentation schema c.requires.presentation c.in-Err-Inconsistent.least c.in-Err-Inconsistent.greater clash).1
+
+pub returns-in-Err-Inconsistent-clause-withholds : goal.returns-in-Err-Inconsistent-clause-withholds
+returns-in-Err-Inconsistent-clause-withholds c = ?
