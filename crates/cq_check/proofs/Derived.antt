@@ -15,6 +15,7 @@ use Rattle.cq_check.specs.Standing.{Stands, generator, constant, cell, function,
 use Rattle.cq_check.specs.Sound.{HasTerm, AreSound}
 use Rattle.cq_check.proofs.Rows.{row_leads, equal_rows}
 use Rattle.cq_check.proofs.Typed.{not_both, IsTyped, EachTyped, args_typed, typed_cell, typed_generator}
+use Rattle.cq_theory.specs.declared.constant.Con.{Con}
 use Rattle.cq_theory.specs.declared.presentation.Presentation.{Presentation}
 use Rattle.cq_theory.specs.declared.presentation.Sort.TheVariants.{Plain}
 use Rattle.cq_theory.specs.SchemaData.{SchemaData as Schema}
@@ -70,13 +71,13 @@ module _ (S : Schema) (P : Presentation) (m : Content) (entries : List ℕ) (sch
   leaf_at : (t : TypeTerm) (p n type : ℕ) → type_of S G t ≡ Some type → t ≡ term.Gen n → p ≡ made_of m + n → slice_get nodes p ≡ Some node.Leaf
   leaf_at t p n type h is at = ap (slice_get nodes) at ∙ leaf n type (typed_as t (term.Gen n) type is h)
 
-  no_constant : (p c : ℕ) → slice_get nodes p ≡ Some node.Leaf → slice_get nodes p ≡ Some (node.Const c) → ⊥
+  no_constant : (p : ℕ) (c : Con) → slice_get nodes p ≡ Some node.Leaf → slice_get nodes p ≡ Some (node.Const c) → ⊥
   no_constant p c h h' = let wrong : Some node.Leaf ≡ Some (node.Const c) = sym h ∙ h' in cc
 
   no_function : (p f : ℕ) (ps : List ℕ) → slice_get nodes p ≡ Some node.Leaf → slice_get nodes p ≡ Some (node.Fun f ps) → ⊥
   no_function p f ps h h' = let wrong : Some node.Leaf ≡ Some (node.Fun f ps) = sym h ∙ h' in cc
 
-  not_both_kinds : (p c f : ℕ) (ps : List ℕ) → slice_get nodes p ≡ Some (node.Const c) → slice_get nodes p ≡ Some (node.Fun f ps) → ⊥
+  not_both_kinds : (p : ℕ) (c : Con) (f : ℕ) (ps : List ℕ) → slice_get nodes p ≡ Some (node.Const c) → slice_get nodes p ≡ Some (node.Fun f ps) → ⊥
   not_both_kinds p c f ps h h' = let wrong : Some (node.Const c) ≡ Some (node.Fun f ps) = sym h ∙ h' in cc
 
   -- the node of a row stands for no type term
@@ -202,7 +203,7 @@ module _ (S : Schema) (P : Presentation) (m : Content) (entries : List ℕ) (sch
   no_leaf f ps h = cc
 
   -- what stands at a constant's node has the type of the constant
-  constant_typed : (t : TypeTerm) (a c type : ℕ) → type_of S G t ≡ Some type → slice_get nodes a ≡ Some (node.Const c) → Stand t a → type_of S G (term.Const c) ≡ Some type
+  constant_typed : (t : TypeTerm) (a : ℕ) (c : Con) (type : ℕ) → type_of S G t ≡ Some type → slice_get nodes a ≡ Some (node.Const c) → Stand t a → type_of S G (term.Const c) ≡ Some type
   constant_typed t a c type h there (generator n is at) = absurd (no_constant a c (leaf_at t a n type h is at) there)
   constant_typed t a c type h there (constant d is there') =
       let same : Some (node.Const d) ≡ Some (node.Const c) = sym there' ∙ there in
@@ -211,7 +212,7 @@ module _ (S : Schema) (P : Presentation) (m : Content) (entries : List ℕ) (sch
   constant_typed t a c type h there (cell b r u is leads there') = absurd (not_both_kinds a c b (r ∷ []) there there')
   constant_typed t a c type h there (function f ts ps is there' each) = absurd (not_both_kinds a c f ps there there')
 
-  constants_linked : (a b c : ℕ) → slice_get nodes a ≡ Some (node.Const c) → slice_get nodes b ≡ Some (node.Const c) → AreLinked a b
+  constants_linked : (a b : ℕ) (c : Con) → slice_get nodes a ≡ Some (node.Const c) → slice_get nodes b ≡ Some (node.Const c) → AreLinked a b
   constants_linked a b c h h' =
       let t = term_of a (node.Const c) h (λ (same : node.Const c ≡ node.Leaf). (let wrong : node.Const c ≡ node.Leaf = same in cc)) in
       let typed = constant_typed t.term a c t.type t.sort h t.stands in

@@ -18,11 +18,14 @@ use Rattle.cq_check.specs.Adding.{HasEquation, HasGiven, HasAtRows}
 use Rattle.cq_check.proofs.Rows.{row_leads, traced_row, derived_row, both_within}
 use Rattle.cq_check.proofs.Placed.{traced_at, stands_at}
 use Rattle.cq_check.proofs.Typed.{type_sorted, EachTyped, args_typed, typed_cell}
+use Rattle.cq_theory.specs.declared.constant.Con.{Con}
+use Rattle.cq_theory.specs.declared.constant.Con.TheVariants.{Named}
 use Rattle.cq_theory.specs.declared.presentation.Equation.{Equation}
 use Rattle.cq_theory.specs.declared.presentation.Equation.TheVariants.{Ent as EntEquation, Typ as TypEquation}
 use Rattle.cq_theory.specs.declared.presentation.Presentation.{Presentation}
 use Rattle.cq_theory.specs.declared.schema.ObsEq.{ObsEq}
 use Rattle.cq_theory.specs.SchemaData.{SchemaData as Schema}
+use Rattle.cq_theory.specs.Constant.{same_con}
 use Rattle.cq_theory.specs.Schema.{IsSchema}
 use Rattle.cq_theory.specs.Presentation.{IsPresentation}
 use Rattle.cq_theory.specs.declared.term.EntTerm.{EntTerm}
@@ -39,13 +42,14 @@ use Rattle.cq_theory.specs.TypeTerm.{substituted}
 use Rattle.cq_theory.specs.Sorts.{entity_of, type_of}
 use Rattle.cq_theory.specs.Tables.{IsPlain, same_plain, all_same_plain}
 use Rattle.cq_theory.specs.Derivation.{Derivation, Derivations, reflexivity, symmetry, transitivity, key, attribute, function, given, path_equation, observation, none, more, IsWithin, Concludes, Conclude, left_of, right_of}
+use Rattle.cq_theory.proofs.Constants.{same_con_true, same_con_itself}
 use Rattle.cq_theory.proofs.Sorted.{type_of-substituted}
 use Rattle.cq_theory.proofs.Sound.{both}
 use Rattle.cq_theory.proofs.TypeTerms.{fold-Gen, fold-Const, fold-Att, fold-Fun, Each, on_terms}
 
 -- Plain values are compared by what they are.
 same_plain_equal : (v w : Value) → same_plain v w ≡ true → v ≡ w
-same_plain_equal (value.Const c) (value.Const d) h = ap value.Const (eqb-true c d h)
+same_plain_equal (value.Const c) (value.Const d) h = ap value.Const (same_con_true c d h)
 same_plain_equal (value.Null n) (value.Null m) h = ap value.Null (eqb-true n m h)
 same_plain_equal (value.Const c) (value.Null m) h = cc
 same_plain_equal (value.Null n) (value.Const d) h = cc
@@ -64,7 +68,7 @@ all_same_equal (v ∷ vs) (w ∷ ws) h =
     λ i. first i ∷ rest i
 
 same_itself : (v : Value) → IsPlain v → same_plain v v ≡ true
-same_itself (value.Const c) p = eq-eqb c c refl
+same_itself (value.Const c) p = same_con_itself c
 same_itself (value.Null n) p = eq-eqb n n refl
 same_itself _ p = absurd p
 
@@ -115,9 +119,9 @@ first_found test values p (x ∷ xs) default q n is passes = go (λ k at. first_
     go before true e = first_here test values p x xs default e
     go before false e = let there = behind_first test x xs q n is passes e in first_later test values p x xs default e (before there.0 there.1)
 
-abbrev is_constant : ℕ → Node → Bool
+abbrev is_constant : Con → Node → Bool
 is_constant c node.Leaf = false
-is_constant c (node.Const d) = d == c
+is_constant c (node.Const d) = same_con d c
 is_constant c (node.Fun g args) = false
 
 abbrev is_application : List Value → ℕ → List Value → Node → Bool
@@ -125,9 +129,9 @@ is_application values f vs node.Leaf = false
 is_application values f vs (node.Const d) = false
 is_application values f vs (node.Fun g args) = (g == f) && all_same_plain vs (map (value_at values) args)
 
-constant_parts : (c : ℕ) (n : Node) → is_constant c n ≡ true → n ≡ node.Const c
+constant_parts : (c : Con) (n : Node) → is_constant c n ≡ true → n ≡ node.Const c
 constant_parts c node.Leaf h = cc
-constant_parts c (node.Const d) h = ap node.Const (eqb-true d c h)
+constant_parts c (node.Const d) h = ap node.Const (same_con_true d c h)
 constant_parts c (node.Fun g args) h = cc
 
 application_parts : (values : List Value) (f : ℕ) (vs : List Value) (n : Node) → is_application values f vs n ≡ true → (args : List ℕ) × (n ≡ node.Fun f args) × (vs ≡ map (value_at values) args)
@@ -188,7 +192,7 @@ module _ (S : Schema) (P : Presentation) (m : Content) (entries : List ℕ) (sch
     value_here = value_at values
 
     valued : (p : ℕ) → p < length nodes → slice_get values p ≡ Some (value_here p)
-    valued p h = slice_get-get_or values p (value.Const 0) (omega (arith, are.count))
+    valued p h = slice_get-get_or values p (value.Const (Named 0)) (omega (arith, are.count))
 
     plain_here : (p : ℕ) → p < length nodes → IsPlain (value_here p)
     plain_here p h = are.plain p (value_here p) (valued p h)
@@ -228,11 +232,11 @@ module _ (S : Schema) (P : Presentation) (m : Content) (entries : List ℕ) (sch
     abbrev applied : ℕ → List Value → Value
     applied f vs = first_value (is_application values f vs) values 0 nodes (value.Fun f vs)
 
-    abbrev constant_value : ℕ → Value
+    abbrev constant_value : Con → Value
     constant_value c = first_value (is_constant c) values 0 nodes (value.Const c)
 
     abbrev cell_value : ℕ → Option ℕ → Value
-    cell_value a None = value.Const 0
+    cell_value a None = value.Const (Named 0)
     cell_value a (Some r) = applied a (value_here r ∷ [])
 
     abbrev meaning_step : layer.TypeTerm-F Value → Value
@@ -244,9 +248,9 @@ module _ (S : Schema) (P : Presentation) (m : Content) (entries : List ℕ) (sch
     abbrev meaning : TypeTerm → Value
     meaning = fold-TypeTerm Value meaning_step
 
-    constant_is : (p c : ℕ) → slice_get nodes p ≡ Some (node.Const c) → constant_value c ≡ value_here p
+    constant_is : (p : ℕ) (c : Con) → slice_get nodes p ≡ Some (node.Const c) → constant_value c ≡ value_here p
     constant_is p c is =
-        let first = first_found (is_constant c) values 0 nodes (value.Const c) p (node.Const c) is (eq-eqb c c refl) in
+        let first = first_found (is_constant c) values 0 nodes (value.Const c) p (node.Const c) is (same_con_itself c) in
         let there : slice_get nodes first.at ≡ Some (node.Const c) = first.is ∙ ap (λ (n : Node). Some n) (constant_parts c first.content first.passes) in
         let here : 0 + first.at ≡ first.at = omega arith in
         first.gives ∙ ap value_here here
@@ -311,7 +315,7 @@ module _ (S : Schema) (P : Presentation) (m : Content) (entries : List ℕ) (sch
           ∙ sym (stands_value (stands_at S m entries at e.entity row.0 row.1 nodes sides.type sides.right there.right_stands))
 
       abbrev means : Term → Value
-      means (Ent t) = value.Const 0
+      means (Ent t) = value.Const (Named 0)
       means (Typ t) = meaning t
 
       abbrev HaveOneMeaning : Term → Term → Type 0

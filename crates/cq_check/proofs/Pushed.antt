@@ -20,6 +20,7 @@ use Rattle.cq_check.proofs.Lists.{extends_append, last_at, one_more}
 use Rattle.cq_check.proofs.Placed.{stands_more, each_more, each_append}
 use Rattle.cq_check.proofs.Readable.{readable_cell, readable_leaf, readable_start}
 use Rattle.cq_check.proofs.Typed.{IsTyped, EachTyped, args_typed}
+use Rattle.cq_theory.specs.declared.constant.Con.{Con}
 use Rattle.cq_theory.specs.SchemaData.{SchemaData as Schema}
 use Rattle.cq_theory.specs.declared.term.EntTerm.{EntTerm}
 use Rattle.cq_theory.specs.declared.term.TypeTerm.{TypeTerm}
@@ -110,7 +111,7 @@ module _ (m : Content) (rows : List ℕ) where
         place_is = (subst (Stands m rows (mid ++ n ∷ []) t) (sym at) stands, omega (arith, at, length-append mid (n ∷ [])), traced);
       })
 
-  pub pushed_constant : (old new : List Node) (c place : ℕ) (t : TypeTerm) → t ≡ term.Const c → place ≡ length old → new ≡ old ++ node.Const c ∷ [] → IsPushed m rows old new t (Some place)
+  pub pushed_constant : (old new : List Node) (c : Con) (place : ℕ) (t : TypeTerm) → t ≡ term.Const c → place ≡ length old → new ≡ old ++ node.Const c ∷ [] → IsPushed m rows old new t (Some place)
   pushed_constant old new c place t is at new_is =
       pushed_last old old (node.Const c) t place (λ p x h. h) (omega arith) (λ h. h) (λ f args same. let wrong : node.Const c ≡ node.Fun f args = same in cc)
       (λ S G type h. none_named S G old) at (constant c is (last_at old (node.Const c))) (ap (is_traced m rows) is ∙ fold-Const Bool (traced_step m rows) c) new new_is

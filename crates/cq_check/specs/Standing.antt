@@ -5,6 +5,7 @@ use Rattle.cq_tables.specs.Content.{Content, made_of}
 use Rattle.cq_rows.specs.Rows.{row_of_term}
 use Rattle.cq_flat.specs.declared.node.Node.{Node}
 use Rattle.cq_flat.specs.declared.node.Node.TheVariants as node
+use Rattle.cq_theory.specs.declared.constant.Con.{Con}
 use Rattle.cq_theory.specs.declared.term.EntTerm.{EntTerm}
 use Rattle.cq_theory.specs.declared.term.TypeTerm.{TypeTerm}
 use Rattle.cq_theory.specs.declared.term.TypeTerm.TheVariants as term
@@ -29,7 +30,7 @@ is_traced m rows = fold-TypeTerm Bool (traced_step m rows)
 mutual
   pub data Stands (m : Content) (rows : List ℕ) (nodes : List Node) : TypeTerm → ℕ → Type 0 where
     generator : {t : TypeTerm} {p : ℕ} (n : ℕ) → t ≡ term.Gen n → p ≡ made_of m + n → Stands m rows nodes t p
-    constant : {t : TypeTerm} {p : ℕ} (c : ℕ) → t ≡ term.Const c → slice_get nodes p ≡ Some (node.Const c) → Stands m rows nodes t p
+    constant : {t : TypeTerm} {p : ℕ} (c : Con) → t ≡ term.Const c → slice_get nodes p ≡ Some (node.Const c) → Stands m rows nodes t p
     cell : {t : TypeTerm} {p : ℕ} (a r : ℕ) (u : EntTerm) → t ≡ term.Att a u → row_of_term m rows u ≡ Some r → slice_get nodes p ≡ Some (node.Fun a (r ∷ [])) → Stands m rows nodes t p
     function : {t : TypeTerm} {p : ℕ} (f : ℕ) (ts : List TypeTerm) (ps : List ℕ) → t ≡ term.Fun f ts → slice_get nodes p ≡ Some (node.Fun f ps)
         → EachStands m rows nodes ts ps → Stands m rows nodes t p

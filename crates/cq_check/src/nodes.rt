@@ -91,7 +91,7 @@ pub fn push_term(
     match term {
         TypeTerm::Gen(generator) => Ok(Some(tables.made() + *generator as u64)),
         TypeTerm::Const(constant) => {
-            let place = push_node(nodes, Node::Const(*constant))?;
+            let place = push_node(nodes, Node::Const(constant.clone()?))?;
             Ok(Some(place))
         }
         TypeTerm::Att(attribute, term) => {

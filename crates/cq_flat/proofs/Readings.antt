@@ -1,5 +1,5 @@
 -- What is read of classes that are exact.
-use Rattle.std.proofs.Common.{◌≡◌, ℕ, ◌<◌, ◌≤◌, List, length, get_or, Option, Some, None, sym, ◌∙◌, ap, subst, refl, arith, inl, inr, ⊎_elim}
+use Rattle.std.proofs.Common.{◌≡◌, ℕ, ◌<◌, List, length, get_or, Option, Some, None, sym, ◌∙◌, ap, subst, refl, arith, inl, inr, ⊎_elim}
 use Rattle.std.proofs.lemmas.Bool.{cases_lt}
 use Rattle.std.proofs.lemmas.List.{get_or_default, get_or_past}
 use Rattle.std.proofs.lemmas.Option.{slice_get_within, slice_get-get_or, same_Some}
@@ -9,7 +9,7 @@ use Rattle.cq_theory.specs.declared.value.Value.TheVariants as value
 use Rattle.cq_theory.specs.Tables.{IsPlain}
 use Rattle.cq_theory.specs.declared.constant.Con.{Con}
 use Rattle.cq_theory.specs.declared.constant.Con.TheVariants.{Named}
-use Rattle.cq_theory.specs.Constant.{IsLesser, IsAtMost}
+use Rattle.cq_theory.specs.Constant.{IsAtMost}
 use Rattle.cq_theory.proofs.Constants.{lesser-at_most, at_most-both, at_most-transitive, at_most-not_lesser, at_most-lesser, at_most-unless}
 use Rattle.cq_flat.specs.declared.node.Node.{Node}
 use Rattle.cq_flat.specs.declared.node.Node.TheVariants.{Const}

@@ -1,5 +1,5 @@
 -- What a node is looked up by.
-use Rattle.std.specs.Prelude.{ℕ, zero, suc, Bool, List, [], ◌∷◌, map, Option, Some, None, nat_eq}
+use Rattle.std.specs.Prelude.{◌≡◌, ℕ, zero, suc, Bool, IsTrue, List, [], ◌∷◌, map, Option, Some, None, nat_eq}
 use Rattle.std.specs.Cmp.Lexicographic.{pointwise, same_text}
 use Rattle.std.specs.Hash as fed
 use Rattle.std.specs.Hash.{HashWrites}
@@ -30,8 +30,8 @@ fed_key [] = []
 fed_key (zero ∷ numbers) = fed.slice fed.u64 numbers
 fed_key (suc n ∷ text) = fed.str text
 
-pub fed_key-alike : fed.Alike (pointwise nat_eq) fed_key
-fed_key-alike = record { fed = λ k q h. ap fed_key (same_text k q (sym h)) }
+pub fed_alike : (k q : List ℕ) → IsTrue (pointwise nat_eq k q) → fed_key k ≡ fed_key q
+fed_alike k q h = ap fed_key (same_text k q (sym h))
 
 -- the node of a table at a key
 abbrev pub found : List (List ℕ × ℕ) → List ℕ → Option ℕ

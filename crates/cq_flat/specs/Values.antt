@@ -1,5 +1,5 @@
 -- The values of nodes, and what can be read of them.
-use Rattle.std.specs.Prelude.{◌≡◌, ◌≢◌, ℕ, ◌<◌, ◌≤◌, ◌↔◌, List, length, map, Option, Some, None, nat_eq, slice_get, slice_index_or, MatchOption}
+use Rattle.std.specs.Prelude.{◌≡◌, ◌≢◌, ℕ, ◌<◌, ◌↔◌, List, length, map, Option, Some, None, nat_eq, slice_get, slice_index_or, MatchOption}
 use Rattle.std.specs.List.{filter_map, range_with_len, enumerate_from}
 use Rattle.cq_theory.specs.declared.constant.Con.{Con}
 use Rattle.cq_theory.specs.declared.constant.Con.TheVariants.{Named}

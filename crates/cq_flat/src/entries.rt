@@ -52,22 +52,23 @@ fn entry(
 {
     let mut list = Vec::with_capacity(alloc, args.len())?;
     for arg in args {
-        list.push(copy_plain(&values[*arg as usize]))?;
+        list.push(copy_plain(&values[*arg as usize])?)?;
     }
+    let value = copy_plain(&values[node])?;
     Ok(Entry {
         function,
         args: Seq::from_vec(list),
-        value: copy_plain(&values[node]),
+        value,
     })
 }
 
-fn copy_plain(value: &Value) -> Value
+fn copy_plain(value: &Value) -> Result<Value, AllocError>
     requires { IsPlain value.now }
-    ensures { result ≡ value.now }
+    ensures { IfOk result (λ copy. copy ≡ value.now) }
 {
     match value {
-        Value::Const(constant) => Value::Const(*constant),
-        Value::Null(label) => Value::Null(*label),
+        Value::Const(constant) => Ok(Value::Const(constant.clone()?)),
+        Value::Null(label) => Ok(Value::Null(*label)),
         Value::Fun(_, _) => unreachable!(),
     }
 }

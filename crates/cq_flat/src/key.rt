@@ -76,11 +76,11 @@ impl Eq for Key {
 }
 
 impl Hash for Key {
-    ghost use Rattle.cq_flat.specs.Keys.{fed_key, fed_key-alike};
+    ghost use Rattle.cq_flat.specs.Keys.{fed_key, fed_alike};
 
     ghost hash_input = { fed_key };
 
-    ghost respects_eq = { fed_key-alike };
+    ghost respects_eq = { fed_alike };
 
     fn hash<H: Hasher>(&self, state: &mut H) {
         match &self.content {

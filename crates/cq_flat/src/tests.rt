@@ -384,7 +384,10 @@ fn two_texts_clash_in_the_order_of_their_bytes(rt: HostRuntime) -> Result<(), Fa
     let equations = vec![in alloc; (0, 1), (1, 2)]?;
     let found = closed(&rt, alloc, nodes, equations)?;
     let ann = Plain::Const(2);
-    assert_eq!(rt; found.values.as_slice(), [ann, ann, ann, ann, ann].as_slice());
+    assert_eq!(rt;
+        found.values.as_slice(),
+        [ann, ann, ann, ann, ann].as_slice()
+    );
     assert_eq!(rt; found.clash, Some((2, 3)));
     Ok(())
 }

@@ -3,6 +3,7 @@ use Rattle.std.proofs.Common.{ℕ, List, [], ◌∷◌, ◌++◌, Option, Some, 
 use Rattle.std.specs.Prelude.{min, MatchOption}
 use Rattle.std.proofs.lemmas.Bool.{cases_lt}
 use Rattle.std.proofs.lemmas.List.Sums.{sum_by-cons}
+use Rattle.cq_theory.specs.declared.constant.Con.TheVariants.{Named}
 use Rattle.cq_theory.specs.declared.term.EntTerm.{EntTerm}
 use Rattle.cq_theory.specs.declared.term.TypeTerm.{TypeTerm}
 use Rattle.cq_theory.specs.declared.term.TypeTerm.TheVariants.{Const, Att, Fun}
@@ -88,8 +89,8 @@ attribute_room-is at base room t u o counted same small h =
     subst (λ m. MatchOption o (room < m) (λ left. m + left ≡ room)) (sym (symbols-substituted at u)) (room_alike o room (symbols_at (min 1025 (ent.symbols_of at)) u) (symbols_at (ent.symbols_of at) u) small alike moved)
 
 -- a constant has one symbol, whatever stands in the variable's place
-pub constant_room : (at : EntTerm) (room : ℕ) (u : TypeTerm) (o : Option ℕ) → u ≡ Const 0 → MatchOption o (room < 1) (λ left. 1 + left ≡ room)
+pub constant_room : (at : EntTerm) (room : ℕ) (u : TypeTerm) (o : Option ℕ) → u ≡ Const (Named 0) → MatchOption o (room < 1) (λ left. 1 + left ≡ room)
     → MatchOption o (room < symbols_of (substituted at u)) (λ left. symbols_of (substituted at u) + left ≡ room)
 constant_room at room u o same h =
-    let one : symbols_of (substituted at u) ≡ 1 = ap (λ t. symbols_of (substituted at t)) same ∙ ap symbols_of (fold-Const TypeTerm (substituted_step at) 0) ∙ fold-Const ℕ symbols_step 0 in
+    let one : symbols_of (substituted at u) ≡ 1 = ap (λ t. symbols_of (substituted at t)) same ∙ ap symbols_of (fold-Const TypeTerm (substituted_step at) (Named 0)) ∙ fold-Const ℕ symbols_step (Named 0) in
     subst (λ m. MatchOption o (room < m) (λ left. m + left ≡ room)) (sym one) h

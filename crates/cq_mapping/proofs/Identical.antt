@@ -9,6 +9,7 @@ use Rattle.cq_theory.specs.declared.schema.Edge.{Edge}
 use Rattle.cq_theory.specs.declared.schema.PathEq.{PathEq}
 use Rattle.cq_theory.specs.declared.schema.ObsEq.{ObsEq}
 use Rattle.cq_theory.specs.SchemaData.{SchemaData as Schema}
+use Rattle.cq_theory.specs.declared.constant.Con.TheVariants.{Named}
 use Rattle.cq_theory.specs.declared.term.EntTerm.{EntTerm}
 use Rattle.cq_theory.specs.declared.term.TypeTerm.{TypeTerm}
 use Rattle.cq_theory.specs.declared.term.TypeTerm.TheVariants.{Const, Att, Fun}
@@ -56,7 +57,7 @@ module _ (S : Schema) (schema : IsSchema S) where
   key_same k h = get_or-map-range_with_len (λ (j : ℕ). j ∷ []) 0 (length S.keys) k k [] h (omega arith)
 
   attribute_same : (a : ℕ) → a < length S.attributes → attribute_image I a ≡ Att a variable
-  attribute_same a h = get_or-map-range_with_len attribute_itself 0 (length S.attributes) a a (Const 0) h (omega arith)
+  attribute_same a h = get_or-map-range_with_len attribute_itself 0 (length S.attributes) a a (Const (Named 0)) h (omega arith)
 
   key_leads : (k : ℕ) (edge : Edge) → slice_get S.keys k ≡ Some edge → IsKeyImage I edge (key_image I k)
   key_leads k edge at =

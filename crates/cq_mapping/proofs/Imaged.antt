@@ -8,6 +8,7 @@ use Rattle.cq_theory.specs.declared.presentation.Sort.{Sort}
 use Rattle.cq_theory.specs.declared.presentation.Sort.TheVariants.{Plain, Entity}
 use Rattle.cq_theory.specs.SchemaData.{SchemaData as Schema}
 use Rattle.cq_theory.specs.TypesideData.{TypesideData as Typeside}
+use Rattle.cq_theory.specs.Typeside.{constant_type}
 use Rattle.cq_theory.specs.declared.term.EntTerm.{EntTerm}
 use Rattle.cq_theory.specs.declared.term.TypeTerm.{TypeTerm}
 use Rattle.cq_theory.specs.declared.term.Term.{Term}
@@ -88,7 +89,7 @@ module _ (F : Mapping) (is : IsMapping F) where
         ∙ type_at-image (slice_get G n) type (sym (fold-Gen (Option ℕ) (type_step S G) n) ∙ h))
         (λ c type h.
         ap (type_of T H) (fold-Const TypeTerm (type_image_step F) c) ∙ fold-Const (Option ℕ) (type_step T H) c
-        ∙ ap (λ (y : Typeside). option_map (λ (constant : Name × ℕ). constant.1) (slice_get y.constants c)) (sym is.typeside) ∙ sym (fold-Const (Option ℕ) (type_step S G) c) ∙ h)
+        ∙ ap (λ (y : Typeside). constant_type y c) (sym is.typeside) ∙ sym (fold-Const (Option ℕ) (type_step S G) c) ∙ h)
         (λ a t type h.
         option_and_then_some (followed (slice_get S.attributes a)) (entity_of S G t) type (sym (fold-Att (Option ℕ) (type_step S G) a t) ∙ h) (λ e led last.
         let edge = followed_some (slice_get S.attributes a) e type last in

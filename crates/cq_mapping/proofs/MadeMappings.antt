@@ -10,7 +10,7 @@ use Rattle.cq_base.specs.Names.{number_of}
 use Rattle.cq_base.proofs.Numbers.{number_of-within}
 use Rattle.cq_theory.specs.declared.lookup.Symbol.TheVariants as symbol
 use Rattle.cq_theory.specs.declared.lookup.TermRefusal.{TermRefusal}
-use Rattle.cq_theory.specs.declared.lookup.TermRefusal.TheVariants.{Unknown, WrongCount, WrongSort, TooLarge}
+use Rattle.cq_theory.specs.declared.lookup.TermRefusal.TheVariants.{Unknown, WrongCount, WrongSort, Reserved, TooLarge}
 use Rattle.cq_theory.specs.declared.lookup.TheoryRefusal.{TheoryRefusal}
 use Rattle.cq_theory.specs.declared.lookup.TheoryRefusal.TheVariants as theory_refusal
 use Rattle.cq_theory.specs.declared.lookup.ArrowRefusal.{ArrowRefusal}
@@ -23,6 +23,7 @@ use Rattle.cq_theory.specs.declared.presentation.Sort.{Sort}
 use Rattle.cq_theory.specs.declared.presentation.Sort.TheVariants.{Plain, Entity}
 use Rattle.cq_theory.specs.declared.schema.Edge.{Edge}
 use Rattle.cq_theory.specs.SchemaData.{SchemaData as Schema}
+use Rattle.cq_theory.specs.declared.constant.Con.TheVariants.{Named}
 use Rattle.cq_theory.specs.declared.term.TypeTerm.{TypeTerm}
 use Rattle.cq_theory.specs.declared.term.TypeTerm.TheVariants.{Const}
 use Rattle.cq_theory.specs.TypeTerm.{symbols_of, symbols_step}
@@ -34,14 +35,14 @@ use Rattle.cq_theory.specs.Paths.{is_among, path_keys, path_start, path_end}
 use Rattle.cq_theory.specs.Routes.{is_at, attribute_last, path_attribute, path_ends, ends_with, attribute_ends, start_before, path_symbols}
 use Rattle.cq_theory.proofs.TypeTerms.{fold-Att}
 use Rattle.cq_theory.proofs.DeclaredParts.{or_else_none, new_name, first_part_fault-each}
-use Rattle.cq_theory.proofs.Faults.{of_four, not_false, at_most}
+use Rattle.cq_theory.proofs.Faults.{of_five, not_false, at_most}
 use Rattle.cq_theory.proofs.MadePaths.{path_keys-target}
 use Rattle.cq_theory.proofs.MadeObservations.{stated_within, side_type, side_fits}
 use Rattle.cq_theory.proofs.OnValues.{All_at}
 use Rattle.cq_mapping.specs.MappingData.{MappingData as Mapping}
 use Rattle.cq_mapping.specs.Images.{key_image, attribute_image}
 use Rattle.cq_mapping.specs.Mapping.{IsMapping, IsKeyImage, IsAttributeImage}
-use Rattle.cq_mapping.specs.MappingParts.{of_mapping, first_missing, entity_ends_fault, entity_part_fault, entity_parts_fault, given_entities, given_arrows, made_entity, made_entities, variables_of, are_ends, has_unknown_image, has_wrong_count_image, is_too_large_image, is_stated, is_image_of_key, is_image_of_attribute, made_path, made_term, path_term, path_in, term_in, made_key, made_attribute, is_right_key, is_right_attribute, is_right, arrow_fault, arrow_part_fault, arrows_fault, arrows_and_rest_fault, made_over, mapping_fault, mapping_made}
+use Rattle.cq_mapping.specs.MappingParts.{of_mapping, first_missing, entity_ends_fault, entity_part_fault, entity_parts_fault, given_entities, given_arrows, made_entity, made_entities, variables_of, are_ends, has_unknown_image, has_wrong_count_image, has_reserved_image, is_too_large_image, is_stated, is_image_of_key, is_image_of_attribute, made_path, made_term, path_term, path_in, term_in, made_key, made_attribute, is_right_key, is_right_attribute, is_right, arrow_fault, arrow_part_fault, arrows_fault, arrows_and_rest_fault, made_over, mapping_fault, mapping_made}
 use Rattle.cq_mapping.proofs.Named.{found_name, get_mapped, symbol_of-key, symbol_of-attribute}
 
 no_refusal : (o : Option TheoryRefusal) → option_map of_mapping o ≡ None → o ≡ None
@@ -209,10 +210,10 @@ module _ (T : Schema) where
   key_image_is (image.Lambda variable entity raw) start end h short = cc
 
   attribute_image_is : IsSchema T → (given : ArrowImage) (start type : ℕ) → is_image_of_attribute T (variables_of given) given start type ≡ true
-      → has_wrong_count_image T given ≡ false → is_too_large_image T given ≡ false
+      → has_wrong_count_image T given ≡ false → has_reserved_image T given ≡ false → is_too_large_image T given ≡ false
       → (type_of T (one_of start) (made_term T (variables_of given) start given) ≡ Some type) × (symbols_of (made_term T (variables_of given) start given) ≤ 1024)
-  attribute_image_is target (image.Key names) start type h counted short = cc
-  attribute_image_is target (image.Path names) start type h counted short =
+  attribute_image_is target (image.Key names) start type h counted free short = cc
+  attribute_image_is target (image.Path names) start type h counted free short =
       let ends = ends_are_type (path_ends T names) start type h in
       let found = attribute_path names (path_attribute T names) refl start type ends in
       let count : path_symbols T names ≤ 1024 = at_most 1024 (path_symbols T names) short in
@@ -220,20 +221,20 @@ module _ (T : Schema) where
       let symbols : symbols_of (path_term T names) ≡ length (path_keys T names) + 1 + 1
       = fold-Att ℕ symbols_step (number_or_zero (path_attribute T names)) (record { generator = 0; path = path_keys T names }) in
       (found.0, omega arith)
-  attribute_image_is target (image.Lambda variable entity raw) start type h counted short =
+  attribute_image_is target (image.Lambda variable entity raw) start type h counted free short =
       let parts = and_parts (is_stated T entity start) (are_of_one_sort (raw_sort T (variable ∷ []) (Entity start ∷ []) raw) (Some (Plain type))) h in
       let sorted = of_sort (raw_sort T (variable ∷ []) (Entity start ∷ []) raw) (Plain type) parts.1 in
-      (side_type T target variable start type raw sorted, side_fits T target (variable ∷ []) (Entity start ∷ []) raw counted short)
+      (side_type T target variable start type raw free sorted, side_fits T target (variable ∷ []) (Entity start ∷ []) raw counted short)
 
 module _ (S T : Schema) (source : IsSchema S) (target : IsSchema T) where
   arrow_rules : (images : List ℕ) (part : ArrowPart) → arrow_fault S T images part ≡ None
       → (has_wrong_count_image T part.image ≡ false) × (is_right S T images (variables_of part.image) (symbol_of S part.name) (entity_in (sort_named S part.block)) part.image ≡ true)
-      × (is_too_large_image T part.image ≡ false)
+      × (has_reserved_image T part.image ≡ false) × (is_too_large_image T part.image ≡ false)
   unfolding arrow_fault
   arrow_rules images part h =
-      let rules = of_four (is_none (sort_named S part.block) || is_none (symbol_of S part.name) || has_unknown_image T (variables_of part.image) part.image) (has_wrong_count_image T part.image)
-      (not (is_right S T images (variables_of part.image) (symbol_of S part.name) (entity_in (sort_named S part.block)) part.image)) (is_too_large_image T part.image) Unknown WrongCount WrongSort TooLarge h in
-      (rules.1, not_false _ rules.2, rules.3)
+      let rules = of_five (is_none (sort_named S part.block) || is_none (symbol_of S part.name) || has_unknown_image T (variables_of part.image) part.image) (has_wrong_count_image T part.image)
+      (not (is_right S T images (variables_of part.image) (symbol_of S part.name) (entity_in (sort_named S part.block)) part.image)) (has_reserved_image T part.image) (is_too_large_image T part.image) Unknown WrongCount WrongSort Reserved TooLarge h in
+      (rules.1, not_false _ rules.2, rules.3, rules.4)
 
   arrows_right : (images : List ℕ) (n : ℕ) (arrows : List ArrowPart) → arrows_fault S T images n arrows ≡ None → (i : ℕ) (part : ArrowPart) → slice_get arrows i ≡ Some part → arrow_fault S T images part ≡ None
   arrows_right images n arrows h i part at =
@@ -265,7 +266,7 @@ module _ (S T : Schema) (source : IsSchema S) (target : IsSchema T) where
         ap (λ o. is_right_key T images o (entity_in (sort_named S part.0.block)) part.0.image) (sym at)
         ∙ ap (λ o. is_right S T images (variables_of part.0.image) o (entity_in (sort_named S part.0.block)) part.0.image) (sym named) ∙ rules.1 in
         let parts = and_parts (is_at edge.from (entity_in (sort_named S part.0.block))) (is_image_of_key T part.0.image (slice_index images edge.from) (slice_index images edge.to)) right in
-        let image_is = key_image_is T part.0.image (slice_index images edge.from) (slice_index images edge.to) parts.1 rules.2 in
+        let image_is = key_image_is T part.0.image (slice_index images edge.from) (slice_index images edge.to) parts.1 rules.3 in
         let made : key_image F k ≡ made_path T part.0.image =
         get_or_from_slice_get (map (made_key T (given_arrows arrows) arrows) S.keys) k (made_key T (given_arrows arrows) arrows edge) [] (get_mapped (made_key T (given_arrows arrows) arrows) S.keys k edge at)
         ∙ ap (λ o. path_in T (option_and_then (slice_get arrows) o)) number.1 ∙ ap (path_in T) part.1 in
@@ -285,9 +286,9 @@ module _ (S T : Schema) (source : IsSchema S) (target : IsSchema T) where
         ap (λ o. is_right_attribute T images (variables_of part.0.image) o (entity_in (sort_named S part.0.block)) part.0.image) (sym at)
         ∙ ap (λ o. is_right S T images (variables_of part.0.image) o (entity_in (sort_named S part.0.block)) part.0.image) (sym named) ∙ rules.1 in
         let parts = and_parts (is_at edge.from (entity_in (sort_named S part.0.block))) (is_image_of_attribute T (variables_of part.0.image) part.0.image start edge.to) right in
-        let image_is = attribute_image_is T target part.0.image start edge.to parts.1 rules.0 rules.2 in
+        let image_is = attribute_image_is T target part.0.image start edge.to parts.1 rules.0 rules.2 rules.3 in
         let made : attribute_image F a ≡ made_term T (variables_of part.0.image) start part.0.image =
-        get_or_from_slice_get (map (made_attribute T images (given_arrows arrows) arrows) S.attributes) a (made_attribute T images (given_arrows arrows) arrows edge) (Const 0)
+        get_or_from_slice_get (map (made_attribute T images (given_arrows arrows) arrows) S.attributes) a (made_attribute T images (given_arrows arrows) arrows edge) (Const (Named 0))
         (get_mapped (made_attribute T images (given_arrows arrows) arrows) S.attributes a edge at)
         ∙ ap (λ o. term_in T start (option_and_then (slice_get arrows) o)) number.1 ∙ ap (term_in T start) part.1 in
         record {

@@ -6,6 +6,7 @@ use Rattle.cq_theory.specs.declared.presentation.Sort.TheVariants.{Plain, Entity
 use Rattle.cq_theory.specs.declared.presentation.Equation.{Equation}
 use Rattle.cq_theory.specs.declared.presentation.Equation.TheVariants as equation
 use Rattle.cq_theory.specs.declared.presentation.Presentation.{Presentation}
+use Rattle.cq_theory.specs.declared.constant.Con.TheVariants.{Named}
 use Rattle.cq_theory.specs.declared.term.EntTerm.{EntTerm}
 use Rattle.cq_theory.specs.declared.term.TypeTerm.{TypeTerm}
 use Rattle.cq_theory.specs.declared.term.TypeTerm.TheVariants as term
@@ -26,7 +27,7 @@ module _ (F : Mapping) where
   key_image k = slice_index_or F.keys k []
 
   abbrev pub attribute_image : ℕ → TypeTerm
-  attribute_image a = slice_index_or F.attributes a (term.Const 0)
+  attribute_image a = slice_index_or F.attributes a (term.Const (Named 0))
 
   -- each foreign key is replaced by its path
   abbrev pub path_image : List ℕ → List ℕ

@@ -18,11 +18,12 @@ use Rattle.cq_theory.specs.declared.presentation.Sort.{Sort}
 use Rattle.cq_theory.specs.declared.presentation.Sort.TheVariants.{Plain, Entity}
 use Rattle.cq_theory.specs.declared.schema.Edge.{Edge}
 use Rattle.cq_theory.specs.SchemaData.{SchemaData as Schema}
+use Rattle.cq_theory.specs.declared.constant.Con.TheVariants.{Named}
 use Rattle.cq_theory.specs.declared.term.TypeTerm.{TypeTerm}
 use Rattle.cq_theory.specs.declared.term.TypeTerm.TheVariants.{Const, Att}
 use Rattle.cq_theory.specs.Schema.{edge_names}
 use Rattle.cq_theory.specs.Resolve as resolve
-use Rattle.cq_theory.specs.Resolve.{or_else, sort_named, symbol_of, entity_in, has_unknown, has_wrong_count, raw_sort, same_sort, are_of_one_sort, in_part}
+use Rattle.cq_theory.specs.Resolve.{or_else, sort_named, symbol_of, entity_in, has_unknown, has_wrong_count, has_reserved, raw_sort, same_sort, are_of_one_sort, in_part}
 use Rattle.cq_theory.specs.Resolved.{resolved, type_term_in}
 use Rattle.cq_theory.specs.Declaring.{first_part_fault, duplicate_or, number_or_zero}
 use Rattle.cq_theory.specs.Paths.{is_among, has_unknown_name, path_keys}
@@ -95,6 +96,12 @@ module _ (T : Schema) where
   has_wrong_count_image (image.Path names) = false
   has_wrong_count_image (image.Lambda variable entity raw) = has_wrong_count T raw
 
+  -- under a typeside with an open type, a text of the image is one that no constant can have
+  abbrev pub has_reserved_image : ArrowImage → Bool
+  has_reserved_image (image.Key names) = false
+  has_reserved_image (image.Path names) = false
+  has_reserved_image (image.Lambda variable entity raw) = has_reserved T raw
+
   abbrev pub is_too_large_image : ArrowImage → Bool
   is_too_large_image (image.Key names) = nat_lt 1024 (path_symbols T names)
   is_too_large_image (image.Path names) = nat_lt 1024 (path_symbols T names)
@@ -132,7 +139,7 @@ module _ (T : Schema) where
     abbrev pub made_term : ℕ → ArrowImage → TypeTerm
     made_term start (image.Path names) = path_term names
     made_term start (image.Lambda variable entity raw) = type_term_in (resolved T variables (Entity start ∷ []) raw)
-    made_term start _ = Const 0
+    made_term start _ = Const (Named 0)
 
 -- the part with the image of a name, in parts for these names
 abbrev pub arrow_named : List Name → List ArrowPart → Name → Option ArrowPart
@@ -143,7 +150,7 @@ path_in T None = []
 path_in T (Some part) = made_path T part.image
 
 abbrev pub term_in : Schema → ℕ → Option ArrowPart → TypeTerm
-term_in T start None = Const 0
+term_in T start None = Const (Named 0)
 term_in T start (Some part) = made_term T (variables_of part.image) start part.image
 
 abbrev pub made_key : Schema → List Name → List ArrowPart → Edge → List ℕ
@@ -174,8 +181,9 @@ module _ (S T : Schema) (entities : List ℕ) where
       if is_none (sort_named S part.block) || is_none (symbol_of S part.name) || has_unknown_image T variables part.image then Some term_refusal.Unknown
       else (if has_wrong_count_image T part.image then Some term_refusal.WrongCount
       else (if not (is_right variables (symbol_of S part.name) (entity_in (sort_named S part.block)) part.image) then Some term_refusal.WrongSort
+      else (if has_reserved_image T part.image then Some term_refusal.Reserved
       else (if is_too_large_image T part.image then Some term_refusal.TooLarge
-      else None)))
+      else None))))
 
   unfoldable pub arrow_fault : ArrowPart → Option TermRefusal
   arrow_fault part = arrow_fault_over (variables_of part.image) part

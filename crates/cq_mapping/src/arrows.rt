@@ -1,21 +1,16 @@
 //! The images of foreign keys and attributes.
-ghost use Rattle.std.specs.Prelude.{◌≡◌, ◌&&◌, ◌-◌, ◌+◌, ◌<◌, ◌^◌, ◌⊎◌, ◌++◌, ◌∷◌, [], IfOk, IfErr, Some, None, length, map, slice_index, option_map};
-ghost use Rattle.cq_theory.specs.declared.presentation.Sort.TheVariants as declared_sort;
-ghost use Rattle.cq_theory.specs.Resolve.{or_else, raw_sort, are_of_one_sort, in_part, same_sort as is_same_sort};
-ghost use Rattle.cq_theory.specs.Routes.{is_at as is_at_entity};
+ghost use Rattle.std.specs.Prelude.{◌≡◌, ◌-◌, ◌+◌, ◌<◌, ◌^◌, ◌⊎◌, ◌++◌, ◌∷◌, [], IfOk, IfErr, Some, None, length, map, option_map};
+ghost use Rattle.cq_theory.specs.Resolve.{or_else, in_part};
 ghost use Rattle.cq_theory.specs.Schema.{edge_names};
-ghost use Rattle.cq_mapping.specs.MappingParts.{of_mapping as refusal_of_mapping, first_missing, variables_of, has_unknown_image as unknown_image, has_wrong_count_image as wrong_count_image, is_too_large_image as too_large_image, are_ends as ends_are, is_stated as stated_is, is_image_of_key as image_of_key, is_image_of_attribute as image_of_attribute, is_right_key as right_key, is_right_attribute as right_attribute, is_right as right_image, arrow_fault_over as fault_over, arrow_fault as fault_of_arrow, arrow_part_fault, arrows_fault, given_arrows, path_term, made_path as path_made, made_term as term_made, made_key, made_attribute, arrows_and_rest_fault};
+ghost use Rattle.cq_mapping.specs.MappingParts.{first_missing, variables_of, arrow_fault as fault_of_arrow, arrow_part_fault, arrows_fault, given_arrows, path_term, made_path as path_made, made_term as term_made, made_key, made_attribute, arrows_and_rest_fault};
 
 use crate::blocks::{check_edges, of_mapping};
-use cq_base::{Name, Names, Raw, Seq};
-use cq_theory::lookup::{
-    build, declare, entity_of_sort, has_unknown, has_unknown_name, has_wrong_count, in_part_of,
-    is_too_large, is_unknown_entity, path_keys, sort_of_raw, table_of, type_term,
-};
-use cq_theory::route::{is_long, path_attribute, path_ends};
+use crate::rules::{arrow_fault_over, image_of};
+use cq_base::{Name, Names, Seq};
+use cq_theory::lookup::{build, declare, in_part_of, path_keys, table_of, type_term};
+use cq_theory::route::path_attribute;
 use cq_theory::{
-    ArrowImage, ArrowPart, ArrowRefusal, Edge, EntTerm, Schema, Sort, Symbol, TermRefusal,
-    TheoryRefusal, TypeTerm,
+    ArrowImage, ArrowPart, ArrowRefusal, Con, Edge, EntTerm, Schema, Sort, TheoryRefusal, TypeTerm,
 };
 use std::alloc::{AllocError, Global};
 
@@ -29,261 +24,6 @@ fn variable_table(alloc: Global, image: &ArrowImage) -> Result<Names, TheoryRefu
         ArrowImage::Path(_) => Ok(Names::new(alloc)),
         ArrowImage::Lambda(variable, _, _) => table_of(alloc, variable),
     }
-}
-
-fn has_unknown_image(target: &Schema, variables: &Names, image: &ArrowImage) -> bool
-    ensures { result ≡ unknown_image target.now variables.now image.now }
-{
-    match image {
-        ArrowImage::Key(names) => has_unknown_name(
-            target,
-            target.attribute_names(),
-            names.as_slice(),
-        ),
-        ArrowImage::Path(names) => has_unknown_name(
-            target,
-            target.attribute_names(),
-            names.as_slice(),
-        ),
-        ArrowImage::Lambda(_, entity, raw) => {
-            is_unknown_entity(target, entity) || has_unknown(target, variables, raw)
-        }
-    }
-}
-
-fn has_wrong_count_image(target: &Schema, image: &ArrowImage) -> bool
-    ensures { result ≡ wrong_count_image target.now image.now }
-{
-    match image {
-        ArrowImage::Key(_) => false,
-        ArrowImage::Path(_) => false,
-        ArrowImage::Lambda(_, _, raw) => has_wrong_count(target, raw),
-    }
-}
-
-fn is_too_large_image(target: &Schema, image: &ArrowImage) -> bool
-    ensures { result ≡ too_large_image target.now image.now }
-{
-    match image {
-        ArrowImage::Key(names) => is_long(target, names.as_slice()),
-        ArrowImage::Path(names) => is_long(target, names.as_slice()),
-        ArrowImage::Lambda(_, _, raw) => is_too_large(raw),
-    }
-}
-
-fn same_sort(left: Sort, right: Sort) -> bool
-    ensures { result ≡ is_same_sort left right }
-{
-    match (left, right) {
-        (Sort::Plain(left), Sort::Plain(right)) => left == right,
-        (Sort::Entity(left), Sort::Entity(right)) => left == right,
-        _ => false,
-    }
-}
-
-fn are_ends(ends: Option<(u32, Sort)>, start: u32, end: Sort) -> bool
-    ensures { result ≡ ends_are ends start end }
-{
-    match ends {
-        Some(ends) => ends.0 == start && same_sort(ends.1, end),
-        None => false,
-    }
-}
-
-fn is_at(entity: u32, reached: Option<u32>) -> bool
-    ensures { result ≡ is_at_entity entity reached }
-{
-    match reached {
-        Some(reached) => reached == entity,
-        None => false,
-    }
-}
-
-fn is_sort(found: Option<Sort>, wanted: Sort) -> bool
-    ensures { result ≡ are_of_one_sort found (Some wanted) }
-{
-    match found {
-        Some(found) => same_sort(found, wanted),
-        None => false,
-    }
-}
-
-fn is_stated(target: &Schema, entity: &Option<Name>, start: u32) -> bool
-    ensures { result ≡ stated_is target.now entity.now start }
-{
-    match entity {
-        Some(name) => is_at(start, entity_of_sort(target.find_sort(name))),
-        None => true,
-    }
-}
-
-fn is_image_of_key(target: &Schema, image: &ArrowImage, start: u32, end: u32) -> bool
-    ensures { result ≡ image_of_key target.now image.now start end }
-{
-    match image {
-        ArrowImage::Key(names) => are_ends(
-            path_ends(target, names.as_slice()),
-            start,
-            Sort::Entity(end),
-        ),
-        ArrowImage::Path(_) => false,
-        ArrowImage::Lambda(_, _, _) => false,
-    }
-}
-
-/// Whether a term over a variable of the entity has the type.
-fn is_term_of(
-    target: &Schema,
-    variables: &Names,
-    entity: &Option<Name>,
-    raw: &Raw,
-    start: u32,
-    end: u32,
-) -> bool
-    ensures { result ≡ (stated_is target.now entity.now start && are_of_one_sort (raw_sort target.now variables.now (declared_sort.Entity start ∷ []) raw.now) (Some (declared_sort.Plain end))) }
-{
-    let sorts = [Sort::Entity(start)];
-    is_stated(target, entity, start)
-        && is_sort(
-            sort_of_raw(target, variables, &sorts, raw),
-            Sort::Plain(end),
-        )
-}
-
-fn is_image_of_attribute(
-    target: &Schema,
-    variables: &Names,
-    image: &ArrowImage,
-    start: u32,
-    end: u32,
-) -> bool
-    ensures { result ≡ image_of_attribute target.now variables.now image.now start end }
-{
-    match image {
-        ArrowImage::Key(_) => false,
-        ArrowImage::Path(names) => are_ends(
-            path_ends(target, names.as_slice()),
-            start,
-            Sort::Plain(end),
-        ),
-        ArrowImage::Lambda(_, entity, raw) => {
-            is_term_of(target, variables, entity, raw, start, end)
-        }
-    }
-}
-
-/// The image of an entity.
-fn image_of(entities: &[u32], entity: u32) -> u32
-    ensures { result ≡ slice_index entities.now entity }
-{
-    match entities.get(entity as usize) {
-        Some(image) => *image,
-        None => 0,
-    }
-}
-
-/// Whether the image can stand for the foreign key, which begins at the block's entity.
-fn is_right_key(
-    target: &Schema,
-    entities: &[u32],
-    edge: &Edge,
-    block: Option<u32>,
-    image: &ArrowImage,
-) -> bool
-    ensures { result ≡ right_key target.now entities.now (Some edge.now) block image.now }
-{
-    is_at(edge.from, block)
-        && is_image_of_key(
-            target,
-            image,
-            image_of(entities, edge.from),
-            image_of(entities, edge.to),
-        )
-}
-
-/// Whether the image can stand for the attribute, which begins at the block's entity.
-fn is_right_attribute(
-    target: &Schema,
-    entities: &[u32],
-    variables: &Names,
-    edge: &Edge,
-    block: Option<u32>,
-    image: &ArrowImage,
-) -> bool
-    ensures { result ≡ right_attribute target.now entities.now variables.now (Some edge.now) block image.now }
-{
-    is_at(edge.from, block)
-        && is_image_of_attribute(
-            target,
-            variables,
-            image,
-            image_of(entities, edge.from),
-            edge.to,
-        )
-}
-
-/// Whether the image can stand for the symbol in the block of an entity.
-fn is_right(
-    source: &Schema,
-    target: &Schema,
-    entities: &[u32],
-    variables: &Names,
-    symbol: Option<Symbol>,
-    block: Option<u32>,
-    image: &ArrowImage,
-) -> bool
-    ensures { result ≡ right_image source.now target.now entities.now variables.now symbol block image.now }
-{
-    match symbol {
-        Some(Symbol::Key(key)) => match source.keys.as_slice().get(key as usize) {
-            Some(edge) => is_right_key(target, entities, edge, block, image),
-            None => false,
-        },
-        Some(Symbol::Attribute(attribute)) => {
-            match source.attributes.as_slice().get(attribute as usize) {
-                Some(edge) => is_right_attribute(target, entities, variables, edge, block, image),
-                None => false,
-            }
-        }
-        Some(Symbol::Function(_)) => false,
-        None => false,
-    }
-}
-
-/// The least rule that an image breaks, with these variables.
-fn arrow_fault_over(
-    source: &Schema,
-    target: &Schema,
-    entities: &[u32],
-    variables: &Names,
-    part: &ArrowPart,
-) -> Option<TermRefusal>
-    ensures { result ≡ fault_over source.now target.now entities.now variables.now part.now }
-{
-    let block = source.find_sort(&part.block);
-    let symbol = source.find_symbol(&part.name);
-    if block.is_none() || symbol.is_none() || has_unknown_image(target, variables, &part.image) {
-        return Some(TermRefusal::Unknown);
-    }
-    if has_wrong_count_image(target, &part.image) {
-        return Some(TermRefusal::WrongCount);
-    }
-    let entity = entity_of_sort(block);
-    if !is_right(
-        source,
-        target,
-        entities,
-        variables,
-        symbol,
-        entity,
-        &part.image,
-    ) {
-        return Some(TermRefusal::WrongSort);
-    }
-    if is_too_large_image(target, &part.image) {
-        return Some(TermRefusal::TooLarge);
-    }
-    None
 }
 
 /// Tests the rules of part `number` but that of names given twice.
@@ -431,7 +171,7 @@ fn make_term_over(
     ensures { IfOk result (λ made. made ≡ term_made target.now variables.now start image.now) }
 {
     match image {
-        ArrowImage::Key(_) => Ok(TypeTerm::Const(0)),
+        ArrowImage::Key(_) => Ok(TypeTerm::Const(Con::Named(0))),
         ArrowImage::Path(names) => {
             let made = make_path_term(alloc, target, names.as_slice())?;
             Ok(made)
@@ -470,14 +210,14 @@ fn make_attribute(
     ensures { IfOk result (λ made. made ≡ made_attribute target.now entities.now given.now parts.now edge.now) }
 {
     let Some(place) = given.find(&edge.name) else {
-        return Ok(TypeTerm::Const(0));
+        return Ok(TypeTerm::Const(Con::Named(0)));
     };
     match parts.get(place as usize) {
         Some(part) => {
             let made = make_term(alloc, target, image_of(entities, edge.from), &part.image)?;
             Ok(made)
         }
-        None => Ok(TypeTerm::Const(0)),
+        None => Ok(TypeTerm::Const(Con::Named(0))),
     }
 }
 

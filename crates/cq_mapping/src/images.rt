@@ -5,7 +5,7 @@ ghost use Rattle.cq_mapping.specs.Images.{entity_image, key_image, attribute_ima
 
 use crate::mapping::Mapping;
 use cq_base::Seq;
-use cq_theory::{EntTerm, TypeTerm, substitute};
+use cq_theory::{Con, EntTerm, TypeTerm, substitute};
 use std::alloc::{AllocError, Global};
 
 impl Mapping {
@@ -80,7 +80,7 @@ fn attribute_at(
             let made = substitute(alloc, term, at)?;
             Ok(made)
         }
-        None => Ok(TypeTerm::Const(0)),
+        None => Ok(TypeTerm::Const(Con::Named(0))),
     }
 }
 
@@ -89,7 +89,7 @@ fn make_image(mapping: &Mapping, alloc: Global, term: &TypeTerm) -> Result<TypeT
 {
     match term {
         TypeTerm::Gen(n) => Ok(TypeTerm::Gen(*n)),
-        TypeTerm::Const(n) => Ok(TypeTerm::Const(*n)),
+        TypeTerm::Const(constant) => Ok(TypeTerm::Const(constant.clone()?)),
         TypeTerm::Att(attribute, term) => {
             let at = image_of_ent(mapping, alloc, term)?;
             let made = attribute_at(mapping, alloc, *attribute, &at)?;

@@ -8,6 +8,7 @@ pub mod duties;
 pub mod images;
 pub mod laws;
 pub mod mapping;
+pub(crate) mod rules;
 pub mod sigma;
 
 pub use duties::Duty;

@@ -27,6 +27,7 @@ use Rattle.cq_model.proofs.BuiltRows.{entity_at_some, counts_are, least_name}
 use Rattle.cq_model.proofs.ListedHolds.{well_formed, initial}
 use Rattle.cq_model.proofs.ListedNodes.{all_plain, nulls_listed, entries_listed}
 use Rattle.cq_model.proofs.ListedClash.{inconsistent_at}
+use Rattle.cq_model.proofs.FewArguments.{entries_few}
 
 -- the keys of a path that can be followed exist
 keys_within : (keys : List Edge) (path : List ℕ) (start e : ℕ) → target_of keys path start ≡ Some e → (n k : ℕ) → slice_get path n ≡ Some k → k < length keys
@@ -85,7 +86,10 @@ module _ (S : Schema) (P : Presentation) (m : Content) (rows : List ℕ) (schema
 
   pub is_instance : flat.clash ≡ None → IsInstance (record { schema = S; presentation = P; names = names; tables = M; assignment = A })
   is_instance consistent = record {
+    presented = presentation;
     well_formed = well_formed S P m rows schema presentation closed order names numbers places nodes equations types built flat closure consistent;
+    satisfies = (listed consistent).0.initial.holds.schema;
+    entries_fit = entries_few S P schema presentation M A (listed consistent).0;
     entities = built.numbered.names_entities;
     counted = counted;
     assigned = (listed consistent).0.initial.holds.count;

@@ -1,5 +1,5 @@
 -- What is kept of given tables is an instance, whose rows have their least names.
-use Rattle.std.proofs.Common.{ℕ, List, [], ◌≡◌, ◌<◌, inl, inr, map, length, sym, ap, subst, ◌∙◌, arith}
+use Rattle.std.proofs.Common.{ℕ, List, [], ◌≡◌, ◌<◌, ◌≤◌, inl, inr, map, length, sym, ap, subst, ◌∙◌, arith}
 use Rattle.std.specs.Prelude.{slice_get, slice_index_or, All}
 use Rattle.std.proofs.lemmas.Bool.{cases_lt}
 use Rattle.std.proofs.lemmas.List.{get_or_past}
@@ -12,10 +12,10 @@ use Rattle.cq_theory.specs.Tables.{Tables, Assignment, count_of, Initial}
 use Rattle.cq_theory.specs.Canonical.{below, row_generator, row_term, canonical, canonical_assignment}
 use Rattle.cq_theory.specs.Listed.{IsLeastName}
 use Rattle.cq_model.specs.InstanceData.{InstanceData, IsInstance, IsName, names_at, name_at}
-use Rattle.cq_model.specs.Given.{IsModel, HasLeastNames, row_names, given}
+use Rattle.cq_model.specs.Given.{IsModel, HasLeastNames, size_of, row_names, given}
 use Rattle.cq_model.proofs.Lists.{get-map_from, in_range, All_from}
 use Rattle.cq_model.proofs.CanonicalGenerators.{generator_count}
-use Rattle.cq_model.proofs.CanonicalHolds.{holds}
+use Rattle.cq_model.proofs.CanonicalHolds.{holds, presented}
 use Rattle.cq_model.proofs.CanonicalDerived.{initial, count_within}
 use Rattle.cq_model.proofs.CanonicalEquations.{generator_fits}
 use Rattle.cq_model.proofs.CanonicalNames.{least_name}
@@ -51,11 +51,14 @@ module _ (S : Schema) (M : Tables) (schema : IsSchema S) (model : IsModel S M) w
       let row = get-map_from (row_term S M e.0) (below (count_of M e.0)) j t (ap (λ l. slice_get l j) e.2 ∙ here) in
       name_is e.0 row.0 t within (in_range (count_of M e.0) row.0 (record { place = j; is = row.1 })) row.2))
 
-  pub is_instance : IsInstance (given S M)
-  is_instance =
+  pub is_instance : size_of M ≤ 16000000 → IsInstance (given S M)
+  is_instance few =
       let of_all = holds S M schema model.well_formed model.satisfies in
       record {
+        presented = presented S M schema model.well_formed model.cells_fit model.entries_fit few;
         well_formed = model.well_formed;
+        satisfies = model.satisfies;
+        entries_fit = model.entries_fit;
         entities = length-map-range_with_len (row_names S M) 0 (length S.entities);
         counted = counted;
         named = all_named;
@@ -81,8 +84,8 @@ module _ (S : Schema) (M : Tables) (schema : IsSchema S) (model : IsModel S M) w
     pub parts_are : parts ≡ given S M
     parts_are = λ i. record { schema = S; presentation = presentation_is i; names = names_are i; tables = M; assignment = assignment_is i }
 
-    pub parts_instance : IsInstance parts
-    parts_instance = subst IsInstance (sym parts_are) is_instance
+    pub parts_instance : size_of M ≤ 16000000 → IsInstance parts
+    parts_instance few = subst IsInstance (sym parts_are) (is_instance few)
 
     module _ (i : InstanceData) (is : i ≡ parts) where
       pub made_is : i ≡ given S M

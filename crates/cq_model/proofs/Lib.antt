@@ -31,6 +31,7 @@ pub mod NodeList
 pub mod ListedHolds
 pub mod ListedNodes
 pub mod ListedClash
+pub mod FewArguments
 pub mod BuiltListed
 pub mod Columned
 pub mod BuiltReading

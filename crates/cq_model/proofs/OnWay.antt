@@ -1,5 +1,5 @@
 -- Paths that are followed in well-formed tables.
-use Rattle.std.proofs.Common.{ℕ, zero, suc, List, [], ◌∷◌, Option, Some, None, ◌≡◌, ◌<◌, map, length, get_or, IfSome, refl, sym, ap, subst, ◌∙◌}
+use Rattle.std.proofs.Common.{ℕ, zero, suc, List, [], ◌∷◌, Option, Some, None, ◌≡◌, ◌<◌, map, length, get_or, IfSome, refl, sym, ap, subst, ◌∙◌, arith}
 use Rattle.std.specs.Prelude.{slice_get, slice_index_or, option_map}
 use Rattle.std.proofs.lemmas.Option.{slice_get_within, slice_get-get_or, get_or_from_slice_get, option_and_then_some}
 use Rattle.cq_theory.specs.declared.presentation.Presentation.{Presentation}
@@ -11,9 +11,10 @@ use Rattle.cq_theory.specs.declared.term.TypeTerm.{TypeTerm}
 use Rattle.cq_theory.specs.declared.term.Term.TheVariants.{Ent, Typ}
 use Rattle.cq_theory.specs.SchemaData.{SchemaData as Schema}
 use Rattle.cq_theory.specs.Sorts.{Generators, followed, target_of, entity_at, entity_of, type_of, IsGround}
-use Rattle.cq_theory.specs.Tables.{Tables, Meaning, AtRow, AtValue, count_of, key_at, row_in, IsWellFormed, HasSort}
+use Rattle.cq_theory.specs.Tables.{Tables, Meaning, AtRow, AtValue, Assignment, count_of, key_at, row_in, IsWellFormed, HasSort}
 use Rattle.cq_theory.proofs.Sound.{followed_some}
 use Rattle.cq_model.specs.InstanceData.{InstanceData, IsInstance}
+use Rattle.cq_model.specs.Terms.{IsOnWay, AreStandings, IsEntTermOf, IsTypeTermOf}
 use Rattle.cq_model.proofs.Lists.{get-map}
 use Rattle.cq_model.proofs.BuiltRows.{entity_at_some}
 use Rattle.cq_model.proofs.BuiltTerms.{IsTyped, EachTyped}
@@ -39,12 +40,6 @@ type_ground S P t typed = (Plain typed.0, ap (option_map Plain) typed.1)
 pub get_or-map : {X Y : Type 0} (f : X → Y) (xs : List X) (n : ℕ) (d : Y) (x : X) → n < length xs → x ≡ get_or xs n x → f x ≡ get_or (map f xs) n d
 get_or-map f xs n d x within is = sym (get_or_from_slice_get (map f xs) n (f x) d (get-map f xs n x (slice_get-get_or xs n x within ∙ ap (λ y. Some y) (sym is))))
 
--- the path leads from the row's entity to the target
-pub record IsOnWay (S : Schema) (M : Tables) (path : List ℕ) (row target : ℕ) : Type 0 where
-  pub entity : ℕ
-  pub within : row < count_of M entity
-  pub leads : target_of S.keys path entity ≡ Some target
-
 module _ (S : Schema) (M : Tables) (well_formed : IsWellFormed S M) where
   -- one key further
   pub record IsNext (k row : ℕ) (path : List ℕ) (target : ℕ) : Type 0 where
@@ -69,21 +64,33 @@ row_in-within : (S : Schema) (M : Tables) (m : Meaning) (e : ℕ) → HasSort S 
 row_in-within S M (AtRow r) e h = h
 row_in-within S M (AtValue v) e h = absurd h
 
-module _ (i : InstanceData) (t : EntTerm) (e : ℕ) (h : entity_of i.schema i.presentation.generators t ≡ Some e) where
-  pub generator_known : t.generator < length i.presentation.generators
-  generator_known = option_and_then_some (target_of i.schema.keys t.path) (entity_at (slice_get i.presentation.generators t.generator)) e h (λ start first rest.
-      let g = entity_at_some (slice_get i.presentation.generators t.generator) start first in
-      slice_get_within i.presentation.generators t.generator g.0 g.1)
+-- The generator of an entity term stands for a row, from which the path leads.
+module _ (S : Schema) (M : Tables) (A : Assignment) (t : EntTerm) (e : ℕ) (h : IsEntTermOf S M A t e) where
+  pub generator_known : t.generator < length A
+  generator_known = option_and_then_some (target_of S.keys t.path) (entity_at (slice_get h.generators t.generator)) e h.of_entity (λ start first rest.
+      let g = entity_at_some (slice_get h.generators t.generator) start first in
+      omega (arith, slice_get_within h.generators t.generator g.0 g.1, h.standings.count))
 
-  pub begins : IsInstance i → IsOnWay i.schema i.tables t.path (row_in (slice_index_or i.assignment t.generator (AtRow 0))) e
-  begins instance_is = option_and_then_some (target_of i.schema.keys t.path) (entity_at (slice_get i.presentation.generators t.generator)) e h (λ start first rest.
-      let g = entity_at_some (slice_get i.presentation.generators t.generator) start first in
-      let m = slice_index_or i.assignment t.generator (AtRow 0) in
+  pub begins : IsOnWay S M t.path (row_in (slice_index_or A t.generator (AtRow 0))) e
+  begins = option_and_then_some (target_of S.keys t.path) (entity_at (slice_get h.generators t.generator)) e h.of_entity (λ start first rest.
+      let g = entity_at_some (slice_get h.generators t.generator) start first in
+      let m = slice_index_or A t.generator (AtRow 0) in
       record {
         entity = start;
-        within = row_in-within i.schema i.tables m start (subst (λ (sort : Sort). HasSort i.schema i.tables sort m) g.2 (instance_is.sorts t.generator g.0 g.1));
+        within = row_in-within S M m start (subst (λ (sort : Sort). HasSort S M sort m) g.2 (h.standings.sorts t.generator g.0 g.1));
         leads = rest;
       })
+
+-- The generators of an instance's presentation stand for what the instance says.
+module _ (i : InstanceData) (is : IsInstance i) where
+  standings_are : AreStandings i.schema i.tables i.presentation.generators i.assignment
+  standings_are = record { count = is.assigned; sorts = is.sorts }
+
+  pub ent_term_of : (t : EntTerm) (e : ℕ) → entity_of i.schema i.presentation.generators t ≡ Some e → IsEntTermOf i.schema i.tables i.assignment t e
+  ent_term_of t e h = record { generators = i.presentation.generators; standings = standings_are; of_entity = h }
+
+  pub type_term_of : (t : TypeTerm) (type : ℕ) → type_of i.schema i.presentation.generators t ≡ Some type → IsTypeTermOf i.schema i.tables i.assignment t type
+  type_term_of t type h = record { generators = i.presentation.generators; standings = standings_are; typed = h }
 
 -- each argument has a type
 pub typed_at : (S : Schema) (G : Generators) (ts : List TypeTerm) (n : ℕ) (t : TypeTerm) → n < length ts → t ≡ get_or ts n t → EachTyped S G ts → IsTyped S G t

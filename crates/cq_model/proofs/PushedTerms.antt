@@ -187,7 +187,7 @@ module _ (S : Schema) (m : Content) (places : Places) where
   last_term [] t = refl
   last_term (u ∷ us) t = last_term us t
 
-  pub pushed_const : (rows : List ℕ) (old new : NodeListData) (c kind place : ℕ) → place ≡ length old.nodes
+  pub pushed_const : (rows : List ℕ) (old new : NodeListData) (c : Con) (kind place : ℕ) → place ≡ length old.nodes
       → new ≡ record { nodes = old.nodes ++ node.Const c ∷ []; types = old.types ++ kind ∷ []; equations = old.equations }
       → ((G : Generators) (type : ℕ) → type_of S G (term.Const c) ≡ Some type → type ≡ kind) → IsPushed S m places rows old new (term.Const c) place
   pushed_const rows old new c kind place place_is added kinds = record {

@@ -1,5 +1,5 @@
 -- What it says of a term that it can be read: of an attribute its cell, of a constant and of a function its place, and of arguments that they can be read.
-use Rattle.std.proofs.Common.{ℕ, zero, suc, true, List, [], ◌∷◌, ◌++◌, Option, Some, ◌≡◌, ◌<◌, ◌≤◌, map, length, get_or, Result, Ok, Err, sym, ap, subst, ◌∙◌, arith}
+use Rattle.std.proofs.Common.{ℕ, zero, suc, true, List, [], ◌∷◌, ◌++◌, Option, Some, ◌≡◌, ◌<◌, ◌≤◌, map, length, get_or, Result, Ok, Err, refl, sym, ap, subst, ◌∙◌, arith}
 use Rattle.std.specs.Prelude.{slice_get, slice_index, option_and_then, IsSome, IfOk, OnOk}
 use Rattle.std.proofs.lemmas.Option.{same_Some, option_and_then_some, slice_get_within, slice_get-get_or}
 use Rattle.cq_base.specs.declared.name.Name.{Name}
@@ -90,7 +90,7 @@ module _ (S : Schema) (m : Content) (places : Places) where
   pub constant_known : (rows : List ℕ) (count : ℕ) (c : Con) (t : TypeTerm) → t ≡ Const c → IsReadable S m places rows count t → IsSome (constant_type S.typeside c)
   constant_known rows count c t is h =
       let sort : type_of S h.generators (Const c) ≡ Some h.type = ap (type_of S h.generators) (sym is) ∙ h.sort in
-      subst (λ (o : Option ℕ). IsSome o) (sym (sym (fold-Const (Option ℕ) (type_step S h.generators) c) ∙ sort)) tt
+      subst (λ (o : Option ℕ). IsSome o) (sym (sym (fold-Const (Option ℕ) (type_step S h.generators) c) ∙ sort)) refl
 
   -- a constant behind the others
   pub readable_constant : (rows : List ℕ) (old new : NodeListData) (c : Con) (place kind : ℕ) → constant_type S.typeside c ≡ Some kind → place ≡ length old.nodes

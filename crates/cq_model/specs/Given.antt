@@ -1,5 +1,6 @@
 -- Tables of which an instance is made as they stand.
-use Rattle.std.specs.Prelude.{ℕ, List, ◌+◌, ◌<◌, ◌≤◌, All, sum, map, length}
+use Rattle.std.specs.Prelude.{ℕ, Bool, List, ◌+◌, ◌<◌, ◌≤◌, ◌||◌, All, sum, map, length, nat_lt}
+use Rattle.std.specs.List.{list_any}
 use Rattle.cq_theory.specs.declared.term.EntTerm.{EntTerm}
 use Rattle.cq_theory.specs.declared.value.Sheet.{Sheet}
 use Rattle.cq_theory.specs.declared.value.Algebra.{Algebra}
@@ -24,6 +25,14 @@ pub record IsModel (S : Schema) (M : Tables) : Type 0 where
 -- how many rows and nulls there are
 abbrev pub size_of : Tables → ℕ
 size_of M = sum M.sheet.counts + length M.algebra.nulls
+
+-- some value in a cell has over 1,024 symbols
+abbrev pub has_long_cell : Tables → Bool
+has_long_cell M = list_any (list_any (λ v. nat_lt 1024 (symbols_of v))) M.sheet.cells
+
+-- there are over 16,000,000 rows and nulls together, or a value in a cell is too long
+abbrev pub is_oversized : Tables → Bool
+is_oversized M = nat_lt 16000000 (size_of M) || has_long_cell M
 
 module _ (S : Schema) (M : Tables) where
   -- each row is named by its own generator

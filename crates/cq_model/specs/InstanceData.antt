@@ -1,11 +1,12 @@
 -- What contracts see of an instance.
-use Rattle.std.specs.Prelude.{ℕ, List, [], ◌≡◌, ◌<◌, All, Some, length, slice_get, slice_index_or}
+use Rattle.std.specs.Prelude.{ℕ, List, [], ◌≡◌, ◌<◌, ◌≤◌, All, Some, length, slice_get, slice_index_or}
 use Rattle.cq_theory.specs.declared.presentation.Presentation.{Presentation}
 use Rattle.cq_theory.specs.declared.term.EntTerm.{EntTerm}
 use Rattle.cq_theory.specs.SchemaData.{SchemaData}
 use Rattle.cq_base.specs.declared.name.Name.{Name}
 use Rattle.cq_theory.specs.declared.presentation.Sort.{Sort}
-use Rattle.cq_theory.specs.Tables.{Tables, Assignment, AtRow, count_of, IsWellFormed, HasSort}
+use Rattle.cq_theory.specs.Presentation.{IsPresentation}
+use Rattle.cq_theory.specs.Tables.{Tables, Assignment, AtRow, count_of, IsWellFormed, Satisfies, HasSort}
 
 -- a schema, the presentation that is modelled, the name of each row by entity, the tables, and what each generator stands for
 pub record InstanceData : Type 0 where
@@ -27,10 +28,13 @@ name_at names entity row = slice_index_or (names_at names entity) row (record { 
 abbrev pub IsName : InstanceData → EntTerm → Type 0
 IsName i t = (t.generator < length i.presentation.generators) × All (λ k. k < length i.schema.keys) t.path
 
--- the tables are well formed over the schema, each row has a name over the presentation, and each generator stands for
--- something of its sort
+-- the presentation is one over the schema, the tables are well formed over the schema and satisfy it, an entry has no more arguments than a term of
+-- 1,024 symbols can have, each row has a name over the presentation, and each generator stands for something of its sort
 pub record IsInstance (i : InstanceData) : Type 0 where
+  pub presented : IsPresentation i.schema i.presentation
   pub well_formed : IsWellFormed i.schema i.tables
+  pub satisfies : Satisfies i.schema i.tables
+  pub entries_fit : All (λ e. length e.args ≤ 1023) i.tables.algebra.entries
   pub entities : length i.names ≡ length i.schema.entities
   pub counted : (entity : ℕ) → length (names_at i.names entity) ≡ count_of i.tables entity
   pub named : All (λ names. All (IsName i) names) i.names

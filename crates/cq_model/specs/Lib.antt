@@ -15,3 +15,5 @@ pub mod Standing
 pub mod Given
 pub mod Numbers
 pub mod BuiltParts
+pub mod Terms
+pub mod Moving

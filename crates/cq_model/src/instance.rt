@@ -1,17 +1,12 @@
 //! Instances, and what is read from them.
-ghost use Rattle.std.specs.Prelude.{ℕ, ◌≡◌, ◌<◌, ◌^◌, map, length, IfSome, IfOk, Some, slice_get, slice_index_or};
-ghost use Rattle.cq_theory.specs.declared.term.Term.TheVariants.{Ent, Typ};
-ghost use Rattle.cq_theory.specs.Sorts.{entity_of, IsGround};
-ghost use Rattle.cq_theory.specs.Tables.{AtRow, count_of, key_at, cell_at, row_of as row_named, value_of as value_meant};
+ghost use Rattle.std.specs.Prelude.{◌≡◌, ◌<◌, map, length, IfSome, slice_get};
+ghost use Rattle.cq_theory.specs.Tables.{count_of, key_at, cell_at};
 ghost use Rattle.cq_model.specs.InstanceData.{IsInstance, name_at};
 ghost use Rattle.cq_model.specs.Standing.{meaning};
 
-use crate::application::applied;
-use crate::standing::{Standing, row_in, value_in};
-use crate::values::copied;
+use crate::standing::Standing;
 use cq_base::Seq;
-use cq_theory::{Algebra, EntTerm, Presentation, Schema, Sheet, TypeTerm, Value};
-use std::alloc::{AllocError, Global};
+use cq_theory::{Algebra, EntTerm, Presentation, Schema, Sheet, Value};
 use std::marker::Model;
 use std::rc::Rc;
 
@@ -77,6 +72,13 @@ impl Instance {
             algebra,
             standings,
         }
+    }
+
+    /// Every instance is well formed and satisfies its schema. The call does nothing.
+    pub fn is_instance(&self)
+        ensures { IsInstance self.now }
+    {
+        let _sheet = &self.sheet;
     }
 
     /// The schema.
@@ -149,49 +151,11 @@ impl Instance {
         &names.as_slice()[row as usize]
     }
 
-    /// What a generator stands for.
-    fn standing(&self, generator: u32) -> &Standing
-        requires { generator < length self.now.presentation.generators }
+    /// What each generator stands for.
+    pub(crate) fn standings(&self) -> &[Standing]
+        ensures standings { map meaning result.now ≡ self.now.assignment }
         ensures instance { IsInstance self.now }
-        ensures stands { meaning result.now ≡ slice_index_or self.now.assignment generator (AtRow 0) }
     {
-        &self.standings.as_slice()[generator as usize]
-    }
-
-    /// The row that an entity term over the presentation names.
-    pub fn row_of(&self, term: &EntTerm) -> u32
-        requires { IsGround self.now.schema self.now.presentation (Ent term.now) }
-        ensures row { result ≡ row_named self.now.tables self.now.assignment term.now }
-        ensures within { (entity : ℕ) → entity_of self.now.schema self.now.presentation.generators term.now ≡ Some entity → result < count_of self.now.tables entity }
-    {
-        let path = term.path.as_slice();
-        let mut row = row_in(self.standing(term.generator));
-        for key in path {
-            row = self.key(*key, row);
-        }
-        row
-    }
-
-    /// The value of a type term over the presentation. A function without an entry for its arguments gives the value that is
-    /// built of them.
-    pub fn value_of(&self, alloc: Global, term: &TypeTerm) -> Result<Value, AllocError>
-        requires { IsGround self.now.schema self.now.presentation (Typ term.now) }
-        ensures { IfOk result (λ value. value ≡ value_meant self.now.tables self.now.assignment term.now) }
-    {
-        match term {
-            TypeTerm::Gen(generator) => value_in(alloc, self.standing(*generator)),
-            TypeTerm::Const(constant) => Ok(Value::Const(constant.clone()?)),
-            TypeTerm::Att(attribute, term) => copied(
-                alloc,
-                self.cell(*attribute, self.row_of(term)),
-            ),
-            TypeTerm::Fun(function, args) => {
-                let mut values = Vec::new(alloc);
-                for arg in args.as_slice() {
-                    values.push(self.value_of(alloc, arg)?)?;
-                }
-                applied(alloc, self.algebra.entries.as_slice(), *function, values)
-            }
-        }
+        self.standings.as_slice()
     }
 }

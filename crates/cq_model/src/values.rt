@@ -1,8 +1,8 @@
-//! Copies of values.
+//! Copies of values, entries and algebras.
 ghost use Rattle.std.specs.Prelude.{◌≡◌, IfOk};
 
 use cq_base::Seq;
-use cq_theory::{Entry, Value};
+use cq_theory::{Algebra, Entry, Value};
 use std::alloc::{AllocError, Global};
 
 /// The same value.
@@ -55,4 +55,16 @@ pub fn copied_entries(alloc: Global, entries: &[Entry]) -> Result<Seq<Entry>, Al
         made.push(copied_entry(alloc, entry)?)?;
     }
     Ok(Seq::from_vec(made))
+}
+
+/// The same nulls and entries.
+pub fn copied_algebra(alloc: Global, algebra: &Algebra) -> Result<Algebra, AllocError>
+    ensures { IfOk result (λ made. made ≡ algebra.now) }
+{
+    let nulls = Vec::from_slice(alloc, algebra.nulls.as_slice())?;
+    let entries = copied_entries(alloc, algebra.entries.as_slice())?;
+    Ok(Algebra {
+        nulls: Seq::from_vec(nulls),
+        entries,
+    })
 }

@@ -1,8 +1,12 @@
 -- Constants that a presentation makes equal.
-use Rattle.std.proofs.Common.{ℕ, ◌≡◌, ◌≤◌, ◌<◌, Option, Some, None, length, sym, ap, ◌∙◌, subst, arith}
-use Rattle.std.specs.Prelude.{option_map, slice_get}
-use Rattle.std.proofs.lemmas.Option.{slice_get_within}
-use Rattle.cq_base.specs.declared.name.Name.{Name}
+use Rattle.std.proofs.Common.{ℕ, true, ◌≡◌, ◌<◌, Option, Some, None, length, refl, sym, ap, ◌∙◌, subst, arith}
+use Rattle.std.specs.Prelude.{option_map}
+use Rattle.std.proofs.lemmas.Bool.Decides.{nat_tests}
+use Rattle.cq_theory.specs.declared.constant.Con.{Con}
+use Rattle.cq_theory.specs.declared.constant.Con.TheVariants.{Named, Open}
+use Rattle.cq_theory.specs.Constant.{IsLesser}
+use Rattle.cq_theory.specs.TypesideData.{TypesideData}
+use Rattle.cq_theory.specs.Typeside.{constant_type}
 use Rattle.cq_theory.specs.declared.presentation.Presentation.{Presentation}
 use Rattle.cq_theory.specs.declared.presentation.Sort.{Sort}
 use Rattle.cq_theory.specs.declared.presentation.Sort.TheVariants.{Plain}
@@ -17,7 +21,8 @@ use Rattle.cq_theory.specs.Closing.{AreEqual, IsInconsistent, IsInconsistentAt}
 use Rattle.cq_theory.specs.Listed.{Lists}
 use Rattle.cq_theory.specs.Sorts.{sort_of, type_of, type_step}
 use Rattle.cq_theory.specs.Tables.{Tables, Assignment, meaning_of, value_in, value_step}
-use Rattle.cq_theory.specs.ValueText.{value_text}
+use Rattle.cq_theory.specs.ValueText.{value_text, is_named_con}
+use Rattle.cq_theory.proofs.Constants.{lesser-irreflexive, at_most-both, named_within}
 use Rattle.cq_theory.proofs.Sorted.{sort_of-derived}
 use Rattle.cq_theory.proofs.Sound.{meaning_of-derived}
 use Rattle.cq_theory.proofs.TypeTerms.{fold-Const}
@@ -30,15 +35,18 @@ mapped : {A B : Type 0} (f : A → B) (o : Option A) (b : B) → option_map f o 
 mapped f None b h = absurd (cc h)
 mapped f (Some a) b h = (a, cc)
 
+in_range : (T : TypesideData) (c : Con) (type : ℕ) → constant_type T c ≡ Some type → is_named_con T c ≡ true
+in_range T (Named n) type is = let within : n < length T.constants = named_within T n type is in grind (arith, nat_tests)
+in_range T (Open text) type is = refl
+
 -- a constant that has a sort is one of the typeside
-constant_within : (S : SchemaData) (P : Presentation) (c : ℕ) (sort : Sort) → sort_of S P.generators (Typ (term.Const c)) ≡ Some sort → c < length S.typeside.constants
+constant_within : (S : SchemaData) (P : Presentation) (c : Con) (sort : Sort) → sort_of S P.generators (Typ (term.Const c)) ≡ Some sort → is_named_con S.typeside c ≡ true
 constant_within S P c sort is =
     let type = mapped Plain (type_of S P.generators (term.Const c)) sort is in
-    let here = mapped (λ (constant : Name × ℕ). constant.1) (slice_get S.typeside.constants c) type.0 (sym (fold-Const (Option ℕ) (type_step S P.generators) c) ∙ type.1) in
-    slice_get_within S.typeside.constants c here.0 here.1
+    in_range S.typeside c type.0 (sym (fold-Const (Option ℕ) (type_step S P.generators) c) ∙ type.1)
 
-pub constants_within : (S : SchemaData) (P : Presentation) → IsSchema S → IsPresentation S P → (c d : ℕ) → IsInconsistentAt S P c d
-    → (c < length S.typeside.constants) × (d < length S.typeside.constants)
+pub constants_within : (S : SchemaData) (P : Presentation) → IsSchema S → IsPresentation S P → (c d : Con) → IsInconsistentAt S P c d
+    → (is_named_con S.typeside c ≡ true) × (is_named_con S.typeside d ≡ true)
 constants_within S P schema is c d clash =
     let sorts = sort_of-derived S P schema is (Typ (term.Const c)) (Typ (term.Const d)) clash.equal in
     (constant_within S P c sorts.0 sorts.1, constant_within S P d sorts.0 sorts.2)
@@ -51,21 +59,18 @@ consistent S P M A schema lists clash =
     let values : Const clash.0 ≡ Const clash.1 =
     sym (fold-Const Value (value_step M A) clash.0) ∙ ap value_in means ∙ fold-Const Value (value_step M A) clash.1 in
     let same : clash.0 ≡ clash.1 = cc in
-    absurd (omega (arith, clash.2.greater, same))
+    absurd (lesser-irreflexive clash.1 (subst (λ c. IsLesser c clash.1) same clash.2.greater))
 
 -- one pair is the least
-module _ (S : SchemaData) (P : Presentation) (c d c' d' : ℕ) (one : IsInconsistentAt S P c d) (other : IsInconsistentAt S P c' d') where
+module _ (S : SchemaData) (P : Presentation) (c d c' d' : Con) (one : IsInconsistentAt S P c d) (other : IsInconsistentAt S P c' d') where
   same_least : c ≡ c'
-  same_least =
-      let up : c ≤ c' = one.least c' d' other.greater other.equal in
-      let down : c' ≤ c = other.least c d one.greater one.equal in
-      omega arith
+  same_least = at_most-both c c' (one.least c' d' other.greater other.equal) (other.least c d one.greater one.equal)
 
   same_greater : d ≡ d'
   same_greater =
-      let up : d ≤ d' = one.least_greater d' (subst (λ n. n < d') (sym same_least) other.greater) (subst (λ n. AreEqual S P n d') (sym same_least) other.equal) in
-      let down : d' ≤ d = other.least_greater d (subst (λ n. n < d) same_least one.greater) (subst (λ n. AreEqual S P n d) same_least one.equal) in
-      omega arith
+      at_most-both d d'
+      (one.least_greater d' (subst (λ n. IsLesser n d') (sym same_least) other.greater) (subst (λ n. AreEqual S P n d') (sym same_least) other.equal))
+      (other.least_greater d (subst (λ n. IsLesser n d) same_least one.greater) (subst (λ n. AreEqual S P n d) same_least one.equal))
 
 pub one_clash : (S : SchemaData) (P : Presentation) (reason other : Reason) → TellsClash S P reason → TellsClash S P other → reason ≡ other
 one_clash S P reason other tells tells' =

@@ -18,7 +18,8 @@ use Rattle.cq_theory.specs.declared.parts.TypesideParts.{TypesideParts}
 use Rattle.cq_theory.specs.declared.parts.SchemaParts.{SchemaParts}
 use Rattle.cq_theory.specs.declared.parts.PresentationParts.{PresentationParts}
 use Rattle.cq_theory.specs.declared.parts.MappingParts.{MappingParts}
-use Rattle.cq_program.specs.Parts.{group_parts, function_parts, edge_parts, path_eq_part, observation_part, equation_part, key_part, attribute_part, arrow_parts, typeside_parts, schema_parts, instance_parts, mapping_parts, typeside_count, schema_count, instance_count, mapping_count}
+use Rattle.cq_theory.specs.TypesideParts.{literals_count}
+use Rattle.cq_program.specs.Parts.{name_of, group_parts, function_parts, edge_parts, path_eq_part, observation_part, equation_part, key_part, attribute_part, arrow_parts, typeside_parts, schema_parts, instance_parts, mapping_parts, typeside_count, schema_count, instance_count, mapping_count}
 
 group_count : (gs : List GroupSyn) → length (flat_map group_parts gs) ≡ sum_by (λ g. length g.names) gs
 group_count gs = length-flat_map group_parts gs ∙ (λ i. sum_by (λ (g : GroupSyn). length-map {B = Name × Name} g.names (λ (spot : Spot). (spot.name, g.sort)) i) gs)
@@ -39,7 +40,7 @@ arrow_count : (bs : List MapBlock) → length (flat_map arrow_parts bs) ≡ sum_
 arrow_count bs = length-flat_map arrow_parts bs ∙ (λ i. sum_by (λ (b : MapBlock). block_count b i) bs)
 
 abbrev typeside_size : TypesideParts → ℕ
-typeside_size parts = length parts.types + length parts.constants + length parts.functions
+typeside_size parts = length parts.types + literals_count parts.literals + length parts.constants + length parts.functions
 
 abbrev schema_size : SchemaParts → ℕ
 schema_size parts = length parts.entities + length parts.keys + length parts.path_eqs + length parts.attributes + length parts.obs_eqs
@@ -52,7 +53,8 @@ mapping_size parts = length parts.entities + length parts.arrows
 
 typeside_counted : (t : TypesideLit) → typeside_size (typeside_parts t) ≡ typeside_count t
 unfolding typeside_parts
-typeside_counted t = λ i. length-map t.types (λ (spot : Spot). spot.name) i + group_count t.constants i + function_count t.functions i
+typeside_counted t = λ i.
+    length-map t.types (λ (spot : Spot). spot.name) i + literals_count (name_of t.literals) + group_count t.constants i + function_count t.functions i
 
 schema_counted : (s : SchemaLit) → schema_size (schema_parts s) ≡ schema_count s
 unfolding schema_parts

@@ -1,5 +1,5 @@
 -- The parts of literals, and the place of each. A name in a group is a part of its own.
-use Rattle.std.specs.Prelude.{ℕ, List, ◌+◌, ◌++◌, map, length, sum_by}
+use Rattle.std.specs.Prelude.{ℕ, List, ◌+◌, ◌++◌, map, length, sum_by, Option, option_map, option_to_list}
 use Rattle.std.specs.List.{flat_map}
 use Rattle.cq_base.specs.declared.name.Name.{Name}
 use Rattle.cq_base.specs.declared.place.Place.{Place}
@@ -20,6 +20,7 @@ use Rattle.cq_syntax.specs.declared.literal.AttSyn.TheVariants.{Path, Lambda}
 use Rattle.cq_syntax.specs.declared.literal.AttImage.{AttImage}
 use Rattle.cq_syntax.specs.declared.literal.MapBlock.{MapBlock}
 use Rattle.cq_syntax.specs.declared.literal.MappingLit.{MappingLit}
+use Rattle.cq_theory.specs.TypesideParts.{literals_count}
 use Rattle.cq_theory.specs.declared.parts.ObsPart.{ObsPart}
 use Rattle.cq_theory.specs.declared.parts.TypesideParts.{TypesideParts}
 use Rattle.cq_theory.specs.declared.parts.SchemaParts.{SchemaParts}
@@ -31,6 +32,9 @@ use Rattle.cq_theory.specs.declared.parts.MappingParts.{MappingParts}
 
 abbrev pub names_of : List Spot → List Name
 names_of spots = map (λ spot. spot.name) spots
+
+abbrev pub name_of : Option Spot → Option Name
+name_of = option_map (λ spot. spot.name)
 
 abbrev pub places_of : List Spot → List Place
 places_of spots = map (λ spot. spot.place) spots
@@ -92,13 +96,22 @@ arrow_places b = map (λ k. k.place) b.keys ++ map (λ a. a.place) b.attributes
 
 -- The parts that a literal gives, the places of these parts in the order in which they are numbered, and how many they are.
 unfoldable pub typeside_parts : TypesideLit → TypesideParts
-typeside_parts t = record { types = names_of t.types; constants = flat_map group_parts t.constants; functions = flat_map function_parts t.functions }
+typeside_parts t = record {
+  types = names_of t.types;
+  literals = name_of t.literals;
+  constants = flat_map group_parts t.constants;
+  functions = flat_map function_parts t.functions;
+}
 
 unfoldable pub typeside_places : TypesideLit → List Place
-typeside_places t = places_of t.types ++ flat_map group_places t.constants ++ flat_map function_places t.functions
+typeside_places t =
+    places_of t.types ++ places_of (option_to_list t.literals) ++ flat_map group_places t.constants
+    ++ flat_map function_places t.functions
 
 abbrev pub typeside_count : TypesideLit → ℕ
-typeside_count t = length t.types + sum_by (λ g. length g.names) t.constants + sum_by (λ f. length f.names) t.functions
+typeside_count t =
+    length t.types + literals_count (name_of t.literals) + sum_by (λ g. length g.names) t.constants
+    + sum_by (λ f. length f.names) t.functions
 
 unfoldable pub schema_parts : SchemaLit → SchemaParts
 schema_parts s = record {

@@ -11,6 +11,7 @@ use Rattle.cq_syntax.specs.declared.program.MappingExp.TheVariants as mapping_ex
 use Rattle.cq_syntax.specs.declared.program.Decl.{Decl}
 use Rattle.cq_syntax.specs.declared.program.Program.{Program}
 use Rattle.cq_theory.specs.declared.presentation.Presentation.{Presentation}
+use Rattle.cq_theory.specs.declared.constant.Con.{Con}
 use Rattle.cq_theory.specs.SchemaData.{SchemaData}
 use Rattle.cq_theory.specs.Closing.{Closes, IsInconsistent, IsInconsistentAt, IsWide}
 use Rattle.cq_theory.specs.ValueText.{value_text}
@@ -45,8 +46,8 @@ Stands (a_presentation n S P) m = (i : InstanceData) × (m ≡ instance n i) × 
 
 -- A presentation makes two constants equal: the least that equals a greater one and the least such greater one, whose texts the reason tells.
 pub record TellsClash (S : SchemaData) (P : Presentation) (reason : Reason) : Type 0 where
-  pub least : ℕ
-  pub greater : ℕ
+  pub least : Con
+  pub greater : Con
   pub equal : IsInconsistentAt S P least greater
   pub told : reason ≡ Inconsistent (value_text S.typeside (Const least)) (value_text S.typeside (Const greater))
 

@@ -3,11 +3,12 @@ ghost use Rattle.std.specs.Prelude.{◌≡◌, ◌+◌, ◌-◌, ◌<◌, ◌≤
 ghost use Rattle.std.specs.Option.{SomeIff};
 ghost use Rattle.cq_syntax.specs.declared.program.Body.TheVariants.{Mapping, Instance};
 ghost use Rattle.cq_program.specs.Program.{HasFewParts, part_count};
-ghost use Rattle.cq_program.specs.Parts.{typeside_count, schema_count, mapping_count, instance_count};
+ghost use Rattle.cq_theory.specs.TypesideParts.{literals_count};
+ghost use Rattle.cq_program.specs.Parts.{name_of, typeside_count, schema_count, mapping_count, instance_count};
 
 use cq_syntax::{
     Body, Decl, EdgeSyn, FunSyn, GroupSyn, InstanceExp, InstanceLit, MapBlock, MappingExp,
-    MappingLit, Program, SchemaExp, SchemaLit, TypesideLit,
+    MappingLit, Program, SchemaExp, SchemaLit, Spot, TypesideLit,
 };
 
 /// Whether a program has fewer than 2^32 - 1 declarations, and each of them fewer than 2^32 parts, as every program in
@@ -45,10 +46,23 @@ fn has_few_in_typeside(literal: &TypesideLit) -> bool
     let Some(room) = room_after(u32::MAX, literal.types.len()) else {
         return false;
     };
+    let Some(room) = room_after(room, count_of(&literal.literals)) else {
+        return false;
+    };
     let Some(room) = room_after_groups(room, literal.constants.as_slice()) else {
         return false;
     };
     room_after_functions(room, literal.functions.as_slice()).is_some()
+}
+
+/// How many parts the name of an open type is.
+fn count_of(literals: &Option<Spot>) -> usize
+    ensures { result ≡ literals_count (name_of literals.now) }
+{
+    match literals {
+        Some(_) => 1,
+        None => 0,
+    }
 }
 
 fn has_few_in_schema(literal: &SchemaLit) -> bool

@@ -1,7 +1,7 @@
 //! What declarations stand for that pass the checks of names and parts.
-ghost use Rattle.std.specs.Prelude.{◌≡◌, ◌<◌, ◌≤◌, IfOk, IfErr, length};
+ghost use Rattle.std.specs.Prelude.{◌≡◌, ◌≤◌, true, IfOk, IfErr};
 ghost use Rattle.cq_theory.specs.Presentation.{IsPresentation};
-ghost use Rattle.cq_theory.specs.ValueText.{value_text as text_of};
+ghost use Rattle.cq_theory.specs.ValueText.{value_text as text_of, is_named_con};
 ghost use Rattle.cq_theory.specs.declared.value.Value.TheVariants.{Const};
 ghost use Rattle.cq_program.specs.Program.{Stands};
 ghost use Rattle.cq_program.specs.Environment.{meant};
@@ -16,7 +16,7 @@ use cq_check::{CheckRefusal, check_mapping};
 use cq_mapping::Mapping;
 use cq_model::{BuildRefusal, Instance, build};
 use cq_theory::value_text::value_text;
-use cq_theory::{Presentation, Schema, Typeside, Value};
+use cq_theory::{Con, Presentation, Schema, Typeside, Value};
 use std::alloc::{AllocError, Global};
 use std::rc::Rc;
 
@@ -115,11 +115,11 @@ fn clash(
     alloc: Global,
     place: Place,
     typeside: &Typeside,
-    least: u32,
-    greater: u32,
+    least: Con,
+    greater: Con,
 ) -> ProgramRefusal
-    requires least { least < length typeside.now.constants }
-    requires greater { greater < length typeside.now.constants }
+    requires least { is_named_con typeside.now least ≡ true }
+    requires greater { is_named_con typeside.now greater ≡ true }
     ensures { TellsConstants place (text_of typeside.now (Const least)) (text_of typeside.now (Const greater)) result }
 {
     match constant_texts(alloc, typeside, least, greater) {
@@ -132,11 +132,11 @@ fn clash(
 fn constant_texts(
     alloc: Global,
     typeside: &Typeside,
-    least: u32,
-    greater: u32,
+    least: Con,
+    greater: Con,
 ) -> Result<(Seq<u8>, Seq<u8>), AllocError>
-    requires least { least < length typeside.now.constants }
-    requires greater { greater < length typeside.now.constants }
+    requires least { is_named_con typeside.now least ≡ true }
+    requires greater { is_named_con typeside.now greater ≡ true }
     ensures { IfOk result (λ texts. texts ≡ (text_of typeside.now (Const least), text_of typeside.now (Const greater))) }
 {
     let first = constant_text(alloc, typeside, least)?;
@@ -145,8 +145,8 @@ fn constant_texts(
 }
 
 /// The text of a constant.
-fn constant_text(alloc: Global, typeside: &Typeside, constant: u32) -> Result<Seq<u8>, AllocError>
-    requires { constant < length typeside.now.constants }
+fn constant_text(alloc: Global, typeside: &Typeside, constant: Con) -> Result<Seq<u8>, AllocError>
+    requires { is_named_con typeside.now constant ≡ true }
     ensures { IfOk result (λ text. text ≡ text_of typeside.now (Const constant)) }
 {
     let text = value_text(alloc, typeside, &Value::Const(constant))?;

@@ -1,7 +1,7 @@
 //! The parts that literals give. A name in a group is a part of its own.
 ghost use Rattle.std.specs.Prelude.{◌≡◌, ◌++◌, IfOk, OnOk, map};
 ghost use Rattle.std.specs.List.{flat_map};
-ghost use Rattle.cq_program.specs.Parts.{names_of, group_parts, function_parts, edge_parts, path_eq_part, observation_part, equation_part, attribute_image, key_part, attribute_part, arrow_parts, typeside_parts, schema_parts, instance_parts, mapping_parts};
+ghost use Rattle.cq_program.specs.Parts.{names_of, name_of, group_parts, function_parts, edge_parts, path_eq_part, observation_part, equation_part, attribute_image, key_part, attribute_part, arrow_parts, typeside_parts, schema_parts, instance_parts, mapping_parts};
 
 use crate::raw::copy_raw;
 use cq_base::{Name, Raw, Seq};
@@ -20,10 +20,12 @@ pub fn typeside_parts(alloc: Global, literal: &TypesideLit) -> Result<TypesidePa
     ensures { IfOk result (λ parts. parts ≡ typeside_parts literal.now) }
 {
     let types = names_in(alloc, literal.types.as_slice())?;
+    let literals = name_in(&literal.literals)?;
     let constants = groups_in(alloc, literal.constants.as_slice())?;
     let functions = functions_in(alloc, literal.functions.as_slice())?;
     Ok(TypesideParts {
         types,
+        literals,
         constants,
         functions,
     })
@@ -159,6 +161,15 @@ fn copy_optional(name: &Option<Name>) -> Result<Option<Name>, AllocError>
 {
     match name {
         Some(name) => Ok(Some(name.clone()?)),
+        None => Ok(None),
+    }
+}
+
+fn name_in(spot: &Option<Spot>) -> Result<Option<Name>, AllocError>
+    ensures { IfOk result (λ name. name ≡ name_of spot.now) }
+{
+    match spot {
+        Some(spot) => Ok(Some(spot.name.clone()?)),
         None => Ok(None),
     }
 }

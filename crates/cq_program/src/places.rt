@@ -1,5 +1,5 @@
 //! The places of the parts of a literal, in the order in which the parts are numbered.
-ghost use Rattle.std.specs.Prelude.{◌≡◌, ◌++◌, IfOk, OnOk, map};
+ghost use Rattle.std.specs.Prelude.{◌≡◌, ◌++◌, IfOk, OnOk, map, option_to_list};
 ghost use Rattle.std.specs.List.{flat_map};
 ghost use Rattle.cq_program.specs.Parts.{places_of, group_places, function_places, edge_places, path_eq_place, equation_place, arrow_places, typeside_places, schema_places, instance_places, mapping_places};
 
@@ -17,6 +17,7 @@ pub fn typeside_places(alloc: Global, literal: &TypesideLit) -> Result<Vec<Place
 {
     let mut places = Vec::new(alloc);
     push_spots(&mut places, literal.types.as_slice())?;
+    push_optional(&mut places, &literal.literals)?;
     push_groups(&mut places, literal.constants.as_slice())?;
     push_functions(&mut places, literal.functions.as_slice())?;
     Ok(places)
@@ -62,6 +63,15 @@ fn push_spots(places: &mut Vec<Place>, spots: &[Spot]) -> Result<(), AllocError>
     ensures { OnOk result (places.new.items ≡ places.old.items ++ places_of spots.now) }
 {
     for spot in spots {
+        places.push(spot.place)?;
+    }
+    Ok(())
+}
+
+fn push_optional(places: &mut Vec<Place>, spot: &Option<Spot>) -> Result<(), AllocError>
+    ensures { OnOk result (places.new.items ≡ places.old.items ++ places_of (option_to_list spot.now)) }
+{
+    if let Some(spot) = spot {
         places.push(spot.place)?;
     }
     Ok(())

@@ -24,7 +24,9 @@ use Rattle.cq_theory.specs.declared.value.Value.TheVariants as value
 use Rattle.cq_theory.specs.EntTerm as ent
 use Rattle.cq_theory.specs.TypeTerm as typ
 use Rattle.cq_theory.specs.SchemaData.{SchemaData as Schema}
+use Rattle.cq_theory.specs.declared.constant.Con.TheVariants.{Named}
 use Rattle.cq_theory.specs.TypesideData.{TypesideData as Typeside}
+use Rattle.cq_theory.specs.Typeside.{constant_type}
 use Rattle.cq_theory.specs.Sorts.{Generators, target_of, entity_at, type_at, entity_of, is_type, have_types, applied_type, type_of, type_step}
 use Rattle.cq_theory.specs.Derivation.{left_of, right_of}
 use Rattle.cq_theory.specs.Presentation.{IsSort, IsPresentation, term_symbols}
@@ -207,7 +209,7 @@ module _ (Q : Query) (query : IsQuery Q) (M : Tables) (tables : IsWellFormed Q.t
   value_typed = on_values IsTyped
       (λ c type h.
       ap (type_of S H) (values.fold-Const TypeTerm (value_term_step (null_start Q counts) (length nulls)) c) ∙ fold-Const (Option ℕ) (type_step S H) c
-      ∙ ap (λ (y : Typeside). option_map (λ (constant : Name × ℕ). constant.1) (slice_get y.constants c)) query.typeside
+      ∙ ap (λ (y : Typeside). constant_type y c) query.typeside
       ∙ sym (values.fold-Const (Option ℕ) (value_type_step Q.target nulls) c) ∙ h)
       (λ label type h.
       let typed : slice_get nulls label ≡ Some type = sym (values.fold-Null (Option ℕ) (value_type_step Q.target nulls) label) ∙ h in
@@ -257,7 +259,7 @@ module _ (Q : Query) (query : IsQuery Q) (M : Tables) (tables : IsWellFormed Q.t
           Plain edge.to,
           ap (option_map Plain) (ap (λ (o : Option TypeTerm). type_of S H (put_type (row_terms Q counts e row) (term_or_constant o))) is.found
               ∙ put_type_sorted Q H (row_terms Q counts e row) edge.from stands is.term edge.to is.typed),
-          ap (option_map Plain) (value_typed (slice_index_or column row (value.Const 0)) edge.to (of.1 row (value.Const 0) there).0),
+          ap (option_map Plain) (value_typed (slice_index_or column row (value.Const (Named 0))) edge.to (of.1 row (value.Const (Named 0)) there).0),
         )
 
     cells_right : All_in IsRight (map (cell_equation Q M.sheet (length nulls) e row) (positions (attribute_sources Q) e))

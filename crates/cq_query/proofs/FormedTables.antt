@@ -4,6 +4,7 @@ use Rattle.std.specs.Prelude.{if◌then◌else◌, Option, Some, None, All, slic
 use Rattle.std.specs.List.{AllZip}
 use Rattle.std.proofs.lemmas.List.Elements.{All-nil, All-cons}
 use Rattle.cq_theory.specs.SchemaData.{SchemaData as Schema}
+use Rattle.cq_theory.specs.declared.constant.Con.TheVariants.{Named}
 use Rattle.cq_theory.specs.declared.schema.Edge.{Edge}
 use Rattle.cq_theory.specs.declared.typeside.Fun.{Fun as Function}
 use Rattle.cq_theory.specs.declared.value.Entry.{Entry}
@@ -70,12 +71,12 @@ module _ (S : Schema) (M : Tables) (edge : Edge) (from to : ℕ) (source : edge.
       (size ∙ ap (count_of M) (sym source), subst (λ n. All (λ v. (value_type S M.algebra.nulls v ≡ Some n) × (normal_of M v ≡ v)) column) (sym target) cells)
 
 -- two rows with one row as their key, a constant and a null
-pub keyed_formed : (S : Schema) (sheet : Sheet) (algebra : Algebra) → sheet ≡ record { counts = 2 ∷ 1 ∷ []; keys = (0 ∷ 0 ∷ []) ∷ []; cells = (value.Const 0 ∷ value.Null 0 ∷ []) ∷ [] }
+pub keyed_formed : (S : Schema) (sheet : Sheet) (algebra : Algebra) → sheet ≡ record { counts = 2 ∷ 1 ∷ []; keys = (0 ∷ 0 ∷ []) ∷ []; cells = (value.Const (Named 0) ∷ value.Null 0 ∷ []) ∷ [] }
     → algebra ≡ record { nulls = 0 ∷ []; entries = [] } → length S.entities ≡ 2 → map (λ (e : Edge). e.from) S.keys ≡ 0 ∷ [] → map (λ (e : Edge). e.to) S.keys ≡ 1 ∷ []
     → map (λ (e : Edge). e.from) S.attributes ≡ 0 ∷ [] → map (λ (e : Edge). e.to) S.attributes ≡ 0 ∷ [] → 0 < length S.typeside.types
     → option_map (λ c. c.1) (slice_get S.typeside.constants 0) ≡ Some 0 → IsWellFormed S (record { sheet = sheet; algebra = algebra })
 keyed_formed S sheet algebra sheet_is algebra_is entities key_from key_to attribute_from attribute_to types constant =
-    let rows : Sheet = record { counts = 2 ∷ 1 ∷ []; keys = (0 ∷ 0 ∷ []) ∷ []; cells = (value.Const 0 ∷ value.Null 0 ∷ []) ∷ [] } in
+    let rows : Sheet = record { counts = 2 ∷ 1 ∷ []; keys = (0 ∷ 0 ∷ []) ∷ []; cells = (value.Const (Named 0) ∷ value.Null 0 ∷ []) ∷ [] } in
     let M : Tables = tables S rows (0 ∷ []) in
     let key = one_edge S.keys 0 1 key_from key_to in
     let attribute = one_edge S.attributes 0 0 attribute_from attribute_to in
@@ -83,13 +84,13 @@ keyed_formed S sheet algebra sheet_is algebra_is entities key_from key_to attrib
     (formed S rows (0 ∷ []) (sym entities)
     (subst (λ (es : List Edge). AllZip (IsKeyColumn S M) es rows.keys) (sym key.1)
     (key_column S M key.0 0 1 key.2 key.3 (0 ∷ 0 ∷ []) refl (All-cons (λ row. row < 1) 0 (0 ∷ []) (omega arith) (All-cons (λ row. row < 1) 0 [] (omega arith) (All-nil (λ row. row < 1)))), tt))
-    (subst (λ (es : List Edge). AllZip (IsCellColumn S M) es rows.cells) (sym attribute.1) (cell_column S M attribute.0 0 0 attribute.2 attribute.3 (value.Const 0 ∷ value.Null 0 ∷ []) refl (cells M), tt))
+    (subst (λ (es : List Edge). AllZip (IsCellColumn S M) es rows.cells) (sym attribute.1) (cell_column S M attribute.0 0 0 attribute.2 attribute.3 (value.Const (Named 0) ∷ value.Null 0 ∷ []) refl (cells M), tt))
     (All-cons (λ n. n < length S.typeside.types) 0 [] types (All-nil (λ n. n < length S.typeside.types))))
   where
-    cells : (M : Tables) → All (λ v. (value_type S (0 ∷ []) v ≡ Some 0) × (normal_of M v ≡ v)) (value.Const 0 ∷ value.Null 0 ∷ [])
+    cells : (M : Tables) → All (λ v. (value_type S (0 ∷ []) v ≡ Some 0) × (normal_of M v ≡ v)) (value.Const (Named 0) ∷ value.Null 0 ∷ [])
     cells M =
-        All-cons (λ v. (value_type S (0 ∷ []) v ≡ Some 0) × (normal_of M v ≡ v)) (value.Const 0) (value.Null 0 ∷ [])
-        (values.fold-Const (Option ℕ) (value_type_step S (0 ∷ [])) 0 ∙ constant, values.fold-Const Value (normal_step M) 0)
+        All-cons (λ v. (value_type S (0 ∷ []) v ≡ Some 0) × (normal_of M v ≡ v)) (value.Const (Named 0)) (value.Null 0 ∷ [])
+        (values.fold-Const (Option ℕ) (value_type_step S (0 ∷ [])) (Named 0) ∙ constant, values.fold-Const Value (normal_step M) (Named 0))
         (All-cons (λ v. (value_type S (0 ∷ []) v ≡ Some 0) × (normal_of M v ≡ v)) (value.Null 0) []
         (values.fold-Null (Option ℕ) (value_type_step S (0 ∷ [])) 0, values.fold-Null Value (normal_step M) 0)
         (All-nil (λ v. (value_type S (0 ∷ []) v ≡ Some 0) × (normal_of M v ≡ v))))
@@ -107,8 +108,8 @@ unary_type (Some f) args gives =
     let args_are : f.args ≡ 1 ∷ [] = cc in
     ap (λ types. if have_types (Some 1 ∷ []) types then Some f.result else None) args_are ∙ gives
 
-pub constant_cell : IsCell (value.Const 1)
-constant_cell S M constant args gives no_entries = (values.fold-Const (Option ℕ) (value_type_step S M.algebra.nulls) 1 ∙ constant, values.fold-Const Value (normal_step M) 1)
+pub constant_cell : IsCell (value.Const (Named 1))
+constant_cell S M constant args gives no_entries = (values.fold-Const (Option ℕ) (value_type_step S M.algebra.nulls) (Named 1) ∙ constant, values.fold-Const Value (normal_step M) (Named 1))
 
 pub applied_cell : (v w : Value) → w ≡ value.Fun 0 (v ∷ []) → IsCell v → IsCell w
 applied_cell v w is cell = subst IsCell (sym is) (λ S M constant args gives no_entries.

@@ -14,7 +14,7 @@ use Rattle.cq_base.specs.Names.{same_name, number_of, AreDistinct}
 use Rattle.cq_theory.specs.declared.lookup.Symbol.{Symbol}
 use Rattle.cq_theory.specs.declared.lookup.Symbol.TheVariants as symbol
 use Rattle.cq_theory.specs.declared.lookup.TermRefusal.{TermRefusal}
-use Rattle.cq_theory.specs.declared.lookup.TermRefusal.TheVariants.{Unknown, WrongCount, WrongSort, TooLarge}
+use Rattle.cq_theory.specs.declared.lookup.TermRefusal.TheVariants.{Unknown, WrongCount, WrongSort, Reserved, TooLarge}
 use Rattle.cq_theory.specs.declared.lookup.TheoryRefusal.TheVariants as theory_refusal
 use Rattle.cq_theory.specs.declared.lookup.ArrowRefusal.TheVariants.{Missing}
 use Rattle.cq_theory.specs.declared.presentation.Equation.{Equation}
@@ -33,11 +33,11 @@ use Rattle.cq_theory.specs.Sorts.{entity_of, type_of, sort_of}
 use Rattle.cq_theory.specs.Derivation.{left_of, right_of}
 use Rattle.cq_theory.specs.Canonical.{below}
 use Rattle.cq_theory.specs.Presentation.{IsSort, IsEquation, IsPresentation, term_symbols}
-use Rattle.cq_theory.specs.Resolve.{or_else, symbol_of, has_wrong_count, raw_sort, raw_symbols, are_of_one_sort, is_too_large, in_part}
+use Rattle.cq_theory.specs.Resolve.{or_else, symbol_of, has_wrong_count, has_reserved, raw_sort, raw_symbols, are_of_one_sort, is_too_large, in_part}
 use Rattle.cq_theory.specs.Resolved.{resolved, type_term_in, entity_term_in}
 use Rattle.cq_theory.specs.Parts.{equation_of}
 use Rattle.cq_theory.proofs.DeclaredParts.{or_else_none}
-use Rattle.cq_theory.proofs.Faults.{of_four, not_false, neither, at_most, made_of}
+use Rattle.cq_theory.proofs.Faults.{of_five, not_false, neither, at_most, made_of}
 use Rattle.cq_theory.proofs.OnValues.{All_at}
 use Rattle.cq_theory.proofs.RawSymbols.{resolved-no_longer, type_part}
 use Rattle.cq_theory.proofs.ResolvedSorts.{map_some, sort_of-resolved, type_of-in}
@@ -106,8 +106,8 @@ module _ (S : Schema) (vs : List (Name × ℕ)) where
       let found = map_some (λ (v : Name × ℕ). Entity v.1) (slice_get vs n) sort (sym (slice_get-map (λ (v : Name × ℕ). Entity v.1) vs n) ∙ h) in
       (generator found.0, slice_get-map generator vs n ∙ ap (option_map generator) found.1, found.2)
 
-  made_sort : (raw : Raw) (sort : Sort) → raw_sort S (names_of vs) (sorts_of vs) raw ≡ Some sort → sort_of S (map generator vs) (made raw) ≡ Some sort
-  made_sort raw sort h = sort_of-resolved S (map generator vs) (names_of vs) (sorts_of vs) agrees raw sort h
+  made_sort : (raw : Raw) (sort : Sort) → has_reserved S raw ≡ false → raw_sort S (names_of vs) (sorts_of vs) raw ≡ Some sort → sort_of S (map generator vs) (made raw) ≡ Some sort
+  made_sort raw sort free h = sort_of-resolved S (map generator vs) (names_of vs) (sorts_of vs) agrees raw free sort h
 
   made_fits : (raw : Raw) → has_wrong_count S raw ≡ false → is_too_large raw ≡ false → term_symbols (made raw) ≤ 1024
   made_fits raw counted short =
@@ -136,12 +136,13 @@ module _ (S : Schema) (vs : List (Name × ℕ)) where
   test_is : (T : Schema) (scopes : List (List (Name × ℕ))) (e : ℕ) (left right : Raw) → clause_rule S T scopes vs e (clause.Test left right) ≡ None → (equations : List Equation)
       → IsEquation S (record { generators = map generator vs; equations = equations }) (equation_of (made left) (made right))
   test_is T scopes e left right h equations =
-      let rules = of_four _ _ _ _ Unknown WrongCount WrongSort TooLarge h in
+      let rules = of_five _ _ _ _ _ Unknown WrongCount WrongSort Reserved TooLarge h in
       let counted = neither (has_wrong_count S left) (has_wrong_count S right) rules.1 in
-      let short = neither (is_too_large left) (is_too_large right) rules.3 in
+      let free = neither (has_reserved S left) (has_reserved S right) rules.3 in
+      let short = neither (is_too_large left) (is_too_large right) rules.4 in
       let found = one_sort (raw_sort S (names_of vs) (sorts_of vs) left) (raw_sort S (names_of vs) (sorts_of vs) right) (not_false _ rules.2) in
-      let first = made_sort left found.0 found.1 in
-      let second = made_sort right found.0 found.2 in
+      let first = made_sort left found.0 free.0 found.1 in
+      let second = made_sort right found.0 free.1 found.2 in
       let same = sides (made left) (made right) found.0 first second in
       record {
         sort = found.0;
@@ -177,6 +178,7 @@ module _ (S T : Schema) (scopes : List (List (Name × ℕ))) where
     there : slice_get scopes e ≡ Some vs
     sorted : raw_sort S (names_of vs) (sorts_of vs) raw ≡ Some sort
     counted : has_wrong_count S raw ≡ false
+    free : has_reserved S raw ≡ false
     short : is_too_large raw ≡ false
 
   -- the term that a clause gives to an attribute
@@ -188,7 +190,7 @@ module _ (S T : Schema) (scopes : List (List (Name × ℕ))) where
   attribute_right a edge at e (clause.Att name other) raw h rule =
       let given = cond_some (is_attribute a (symbol_of T name)) other raw h in
       let scope = with_scope e (clause.Att name other) rule in
-      let rules = of_four _ _ _ _ Unknown WrongCount WrongSort TooLarge scope.2 in
+      let rules = of_five _ _ _ _ _ Unknown WrongCount WrongSort Reserved TooLarge scope.2 in
       let found : attribute_edge T (symbol_of T name) ≡ Some edge = ap (attribute_edge T) (attribute_symbol a (symbol_of T name) given.0) ∙ at in
       let right : is_right_attribute e (Some edge) (raw_sort S (names_of scope.0) (sorts_of scope.0) other) ≡ true =
       ap (λ o. is_right_attribute e o (raw_sort S (names_of scope.0) (sorts_of scope.0) other)) (sym found) ∙ not_false _ rules.2 in
@@ -199,7 +201,8 @@ module _ (S T : Schema) (scopes : List (List (Name × ℕ))) where
           there = scope.1;
           sorted = ap (raw_sort S (names_of scope.0) (sorts_of scope.0)) (sym given.1) ∙ of_sort _ (Plain edge.to) parts.1;
           counted = ap (has_wrong_count S) (sym given.1) ∙ rules.1;
-          short = ap is_too_large (sym given.1) ∙ rules.3;
+          free = ap (has_reserved S) (sym given.1) ∙ rules.3;
+          short = ap is_too_large (sym given.1) ∙ rules.4;
         },
       )
 
@@ -214,7 +217,7 @@ module _ (S T : Schema) (scopes : List (List (Name × ℕ))) where
       let given = cond_some (is_key k (symbol_of T key) && same_name v.0 variable) other raw h in
       let names = and_parts (is_key k (symbol_of T key)) (same_name v.0 variable) given.0 in
       let scope = with_scope e (clause.Assign key variable other) rule in
-      let rules = of_four _ _ _ _ Unknown WrongCount WrongSort TooLarge scope.2 in
+      let rules = of_five _ _ _ _ _ Unknown WrongCount WrongSort Reserved TooLarge scope.2 in
       let found : key_edge T (symbol_of T key) ≡ Some edge = ap (key_edge T) (key_symbol k (symbol_of T key) names.0) ∙ at in
       let same : v.0 ≡ variable = same_text v.0 variable (sym names.1) in
       let number : number_of (names_of to) variable ≡ Some n =
@@ -232,7 +235,8 @@ module _ (S T : Schema) (scopes : List (List (Name × ℕ))) where
           there = scope.1;
           sorted = ap (raw_sort S (names_of scope.0) (sorts_of scope.0)) (sym given.1) ∙ of_sort _ (Entity v.1) sorted;
           counted = ap (has_wrong_count S) (sym given.1) ∙ rules.1;
-          short = ap is_too_large (sym given.1) ∙ rules.3;
+          free = ap (has_reserved S) (sym given.1) ∙ rules.3;
+          short = ap is_too_large (sym given.1) ∙ rules.4;
         },
       )
 
@@ -403,7 +407,7 @@ module _ (S T : Schema) (source : IsSchema S) (target : IsSchema T) (entities : 
           term = term;
           found = attribute_found ∙ ap (λ (t : TypeTerm). Some t) made_is;
           typed = ap (λ (P : Presentation). type_of S P.generators term) (frozen_there edge.from attribute_within)
-              ∙ type_of-in S (map generator (vars edge.from)) (made S (vars edge.from) given.0) edge.to (made_sort S (vars edge.from) given.0 (Plain edge.to) sorted);
+              ∙ type_of-in S (map generator (vars edge.from)) (made S (vars edge.from) given.0) edge.to (made_sort S (vars edge.from) given.0 (Plain edge.to) term_is.free sorted);
           fits = omega arith;
         }
 
@@ -445,7 +449,7 @@ module _ (S T : Schema) (source : IsSchema S) (target : IsSchema T) (entities : 
         let same : term_is.vs ≡ vars edge.from = (let both : Some term_is.vs ≡ Some (vars edge.from) = sym term_is.there ∙ scope_there edge.from key_within.0 in cc) in
         let sorted : raw_sort S (names_of (vars edge.from)) (sorts_of (vars edge.from)) given.0 ≡ Some (Entity v.1) = ap (λ vs. raw_sort S (names_of vs) (sorts_of vs) given.0) (sym same) ∙ term_is.sorted in
         let made_is : term_for v ≡ entity_term_in (made S (vars edge.from) given.0) = ap (entity_made S (Some (vars edge.from))) given.1 in
-        let ends = entity_parts S (vars edge.from) (made S (vars edge.from) given.0) v.1 (made_sort S (vars edge.from) given.0 (Entity v.1) sorted) in
+        let ends = entity_parts S (vars edge.from) (made S (vars edge.from) given.0) v.1 (made_sort S (vars edge.from) given.0 (Entity v.1) term_is.free sorted) in
         let fits = made_fits S (vars edge.from) given.0 term_is.counted term_is.short in
         let small : ent.symbols_of (entity_term_in (made S (vars edge.from) given.0)) ≤ 1024 = subst (λ s. s ≤ 1024) ends.1 fits in
         (ap (entity_of S (map generator (vars edge.from))) made_is ∙ ends.0, subst (λ (t : EntTerm). ent.symbols_of t ≤ 1024) (sym made_is) small)

@@ -12,6 +12,7 @@ use Rattle.cq_theory.specs.declared.presentation.Sort.{Sort}
 use Rattle.cq_theory.specs.declared.presentation.Sort.TheVariants.{Plain, Entity}
 use Rattle.cq_theory.specs.declared.schema.Edge.{Edge}
 use Rattle.cq_theory.specs.declared.term.EntTerm.{EntTerm}
+use Rattle.cq_theory.specs.Typeside.{constant_type}
 use Rattle.cq_theory.specs.declared.term.TypeTerm.{TypeTerm}
 use Rattle.cq_theory.specs.declared.term.TypeTerm.TheOpen as layer
 use Rattle.cq_theory.specs.EntTerm.{extended}
@@ -188,7 +189,7 @@ module _ (Q : Query) where
             (λ n type h. absurd (no_variable n type (sym (fold-Gen (Option ℕ) (type_step Q.target (one_of entity)) n) ∙ h)))
             (λ c type h.
             ap (type_of Q.source H) (fold-Const TypeTerm (translated_step Q terms) c) ∙ fold-Const (Option ℕ) (type_step Q.source H) c
-            ∙ ap (λ T. option_map (λ (constant : Name × ℕ). constant.1) (slice_get T.constants c)) query.typeside
+            ∙ ap (λ T. constant_type T c) query.typeside
             ∙ sym (fold-Const (Option ℕ) (type_step Q.target (one_of entity)) c) ∙ h)
             (λ a t type h.
             let looked_up : type_step Q.target (one_of entity) (layer.Att a t) ≡ Some type = sym (fold-Att (Option ℕ) (type_step Q.target (one_of entity)) a t) ∙ h in

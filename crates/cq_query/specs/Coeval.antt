@@ -1,6 +1,7 @@
 -- The presentation of coeval: a generator for each row and variable, and the equations that the query makes of the tables.
 use Rattle.std.specs.Prelude.{ℕ, Bool, List, [], ◌++◌, ◌+◌, ◌*◌, ◌||◌, if◌then◌else◌, map, length, sum, Option, Some, None, nat_lt, slice_get, slice_index, slice_index_or}
 use Rattle.std.specs.List.{flat_map, list_any, range_with_len}
+use Rattle.cq_theory.specs.declared.constant.Con.TheVariants.{Named}
 use Rattle.cq_theory.specs.declared.presentation.Equation.{Equation}
 use Rattle.cq_theory.specs.declared.presentation.Equation.TheVariants.{Ent as EntEquation, Typ as TypEquation}
 use Rattle.cq_theory.specs.declared.presentation.Presentation.{Presentation}
@@ -92,7 +93,7 @@ module _ (Q : Query) (sheet : Sheet) (nulls : ℕ) where
   abbrev pub cell_equation : ℕ → ℕ → ℕ → Equation
   cell_equation entity row a =
       TypEquation (put_type (row_terms Q sheet.counts entity row) (attribute_term Q a))
-      (value_term (null_start Q sheet.counts) nulls (slice_index_or (slice_index_or sheet.cells a []) row (value.Const 0)))
+      (value_term (null_start Q sheet.counts) nulls (slice_index_or (slice_index_or sheet.cells a []) row (value.Const (Named 0))))
 
   -- the where equations on the row's generators, then the keys from the entity, then its attributes
   abbrev pub row_equations : ℕ → ℕ → List Equation

@@ -17,11 +17,12 @@ use Rattle.cq_theory.specs.declared.presentation.Sort.TheVariants.{Plain, Entity
 use Rattle.cq_theory.specs.declared.presentation.Equation.{Equation}
 use Rattle.cq_theory.specs.declared.schema.Edge.{Edge}
 use Rattle.cq_theory.specs.declared.term.EntTerm.{EntTerm}
+use Rattle.cq_theory.specs.declared.constant.Con.TheVariants.{Named}
 use Rattle.cq_theory.specs.declared.term.TypeTerm.{TypeTerm}
 use Rattle.cq_theory.specs.declared.term.TypeTerm.TheVariants.{Const}
 use Rattle.cq_theory.specs.SchemaData.{SchemaData as Schema}
 use Rattle.cq_theory.specs.Canonical.{below}
-use Rattle.cq_theory.specs.Resolve.{or_else, sort_named, symbol_of, entity_in, has_unknown, has_wrong_count, raw_sort, are_of_one_sort, is_too_large, in_part}
+use Rattle.cq_theory.specs.Resolve.{or_else, sort_named, symbol_of, entity_in, has_unknown, has_wrong_count, has_reserved, raw_sort, are_of_one_sort, is_too_large, in_part}
 use Rattle.cq_theory.specs.Resolved.{resolved, type_term_in, entity_term_in}
 use Rattle.cq_theory.specs.Parts.{equation_of}
 use Rattle.cq_theory.specs.Paths.{is_among}
@@ -125,13 +126,14 @@ abbrev pub sorts_of : List (Name × ℕ) → List Sort
 sorts_of variables = map (λ v. Entity v.1) variables
 
 -- the least rule, where the rules are broken or not
-abbrev pub least_rule : Bool → Bool → Bool → Bool → Option TermRefusal
-least_rule unknown count sort size =
+abbrev pub least_rule : Bool → Bool → Bool → Bool → Bool → Option TermRefusal
+least_rule unknown count sort reserved size =
     if unknown then Some term_refusal.Unknown
     else (if count then Some term_refusal.WrongCount
     else (if sort then Some term_refusal.WrongSort
+    else (if reserved then Some term_refusal.Reserved
     else (if size then Some term_refusal.TooLarge
-    else None)))
+    else None))))
 
 abbrev pub is_from : ℕ → Option Edge → Bool
 is_from entity None = false
@@ -180,14 +182,14 @@ module _ (S T : Schema) (scopes : List (List (Name × ℕ))) where
     abbrev pub clause_rule : ℕ → Clause → Option TermRefusal
     clause_rule entity (clause.Test left right) =
         least_rule (is_unknown left || is_unknown right) (has_wrong_count S left || has_wrong_count S right)
-        (not (are_of_one_sort (sort_in left) (sort_in right))) (is_too_large left || is_too_large right)
+        (not (are_of_one_sort (sort_in left) (sort_in right))) (has_reserved S left || has_reserved S right) (is_too_large left || is_too_large right)
     clause_rule entity (clause.Att name raw) =
         least_rule (is_none (symbol_of T name) || is_unknown raw) (has_wrong_count S raw)
-        (not (is_right_attribute entity (attribute_edge T (symbol_of T name)) (sort_in raw))) (is_too_large raw)
-    clause_rule entity (clause.Key name) = least_rule (is_none (symbol_of T name)) false (not (is_from entity (key_edge T (symbol_of T name)))) false
+        (not (is_right_attribute entity (attribute_edge T (symbol_of T name)) (sort_in raw))) (has_reserved S raw) (is_too_large raw)
+    clause_rule entity (clause.Key name) = least_rule (is_none (symbol_of T name)) false (not (is_from entity (key_edge T (symbol_of T name)))) false false
     clause_rule entity (clause.Assign key variable raw) =
         least_rule (is_none (target_sort T scopes key variable) || is_unknown raw) (has_wrong_count S raw)
-        (not (is_from entity (key_edge T (symbol_of T key)) && are_of_one_sort (sort_in raw) (target_sort T scopes key variable))) (is_too_large raw)
+        (not (is_from entity (key_edge T (symbol_of T key)) && are_of_one_sort (sort_in raw) (target_sort T scopes key variable))) (has_reserved S raw) (is_too_large raw)
 
   -- where there is no such block, it is unknown
   abbrev pub rule_over : Option (List (Name × ℕ)) → ℕ → Clause → Option TermRefusal
@@ -293,7 +295,7 @@ module _ (T : Schema) (scopes : List (List (Name × ℕ))) (clauses : List (ℕ 
 -- The terms that the clauses give, over the variables of a block; others stand here only in parts that break a rule.
 abbrev pub type_made : Schema → Option (List (Name × ℕ)) → Option Raw → TypeTerm
 type_made S (Some variables) (Some raw) = type_term_in (resolved S (names_of variables) (sorts_of variables) raw)
-type_made S _ _ = Const 0
+type_made S _ _ = Const (Named 0)
 
 abbrev pub entity_made : Schema → Option (List (Name × ℕ)) → Option Raw → EntTerm
 entity_made S (Some variables) (Some raw) = entity_term_in (resolved S (names_of variables) (sorts_of variables) raw)
@@ -314,7 +316,7 @@ tests_made S entities scopes clauses entity = flat_map (test_in S entities (scop
 
 module _ (S T : Schema) (scopes : List (List (Name × ℕ))) (clauses : List (ℕ × Clause)) where
   abbrev pub attribute_made_at : ℕ → Option Edge → TypeTerm
-  attribute_made_at a None = Const 0
+  attribute_made_at a None = Const (Named 0)
   attribute_made_at a (Some edge) = type_made S (slice_get scopes edge.from) (attribute_in T clauses a)
 
   abbrev pub attribute_made : ℕ → TypeTerm

@@ -6,6 +6,7 @@ use Rattle.cq_theory.specs.declared.schema.Edge.{Edge}
 use Rattle.cq_theory.specs.declared.schema.PathEq.{PathEq}
 use Rattle.cq_theory.specs.declared.schema.ObsEq.{ObsEq}
 use Rattle.cq_theory.specs.declared.term.EntTerm.{EntTerm}
+use Rattle.cq_theory.specs.declared.constant.Con.TheVariants.{Named}
 use Rattle.cq_theory.specs.declared.term.TypeTerm.{TypeTerm}
 use Rattle.cq_theory.specs.declared.term.TypeTerm.TheVariants as term
 use Rattle.cq_theory.specs.declared.term.TypeTerm.TheOpen.{TypeTerm-F, Gen, Const, Att, Fun}
@@ -38,7 +39,7 @@ terms_or_none None = []
 terms_or_none (Some terms) = terms
 
 abbrev pub term_or_constant : Option TypeTerm → TypeTerm
-term_or_constant None = term.Const 0
+term_or_constant None = term.Const (Named 0)
 term_or_constant (Some t) = t
 
 module _ (Q : Query) where

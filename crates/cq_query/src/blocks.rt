@@ -18,7 +18,7 @@ use crate::query::Block;
 use crate::scopes::Scope;
 use cq_base::{Name, Raw, Seq};
 use cq_theory::lookup::{build, type_term};
-use cq_theory::{Edge, EntTerm, Equation, Schema, Term, TypeTerm};
+use cq_theory::{Con, Edge, EntTerm, Equation, Schema, Term, TypeTerm};
 use std::alloc::{AllocError, Global};
 
 /// An equation of two terms of one kind, which they are where the parts break no rule.
@@ -28,7 +28,10 @@ fn make_equation(left: Term, right: Term) -> Equation
     match (left, right) {
         (Term::Ent(left), Term::Ent(right)) => Equation::Ent(left, right),
         (Term::Typ(left), Term::Typ(right)) => Equation::Typ(left, right),
-        _ => Equation::Typ(TypeTerm::Const(0), TypeTerm::Const(0)),
+        _ => Equation::Typ(
+            TypeTerm::Const(Con::Named(0)),
+            TypeTerm::Const(Con::Named(0)),
+        ),
     }
 }
 
@@ -68,10 +71,10 @@ fn make_type(
     ensures { IfOk result (λ term. term ≡ type_made source.now (option_copied scope.entry) (option_copied raw.entry)) }
 {
     let Some(scope) = scope else {
-        return Ok(TypeTerm::Const(0));
+        return Ok(TypeTerm::Const(Con::Named(0)));
     };
     let Some(raw) = raw else {
-        return Ok(TypeTerm::Const(0));
+        return Ok(TypeTerm::Const(Con::Named(0)));
     };
     let term = make_term(alloc, source, scope, raw)?;
     Ok(type_term(term))
@@ -178,7 +181,7 @@ fn make_attribute(
     ensures { IfOk result (λ made. made ≡ attribute_made source.now target.now scopes.now clauses.now attribute) }
 {
     let Some(edge) = target.attributes.as_slice().get(attribute) else {
-        return Ok(TypeTerm::Const(0));
+        return Ok(TypeTerm::Const(Con::Named(0)));
     };
     let scope = scopes.get(edge.from as usize);
     let raw = find_attribute(target, clauses, index, attribute);

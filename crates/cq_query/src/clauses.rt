@@ -13,7 +13,9 @@ use crate::owners::{entity_at, of_query};
 use crate::parts::Clause;
 use crate::scopes::Scope;
 use cq_base::{Name, Raw};
-use cq_theory::lookup::{has_unknown, has_wrong_count, in_part_of, is_too_large, sort_of_raw};
+use cq_theory::lookup::{
+    has_reserved, has_unknown, has_wrong_count, in_part_of, is_too_large, sort_of_raw,
+};
 use cq_theory::{ArrowRefusal, Edge, Schema, Sort, Symbol, TermRefusal, TheoryRefusal};
 use std::alloc::{AllocError, Global};
 use std::collections::HashSet;
@@ -29,8 +31,14 @@ fn have_one_sort(left: Option<Sort>, right: Option<Sort>) -> bool
 }
 
 /// The least rule that is broken.
-fn least_rule(unknown: bool, count: bool, sort: bool, size: bool) -> Option<TermRefusal>
-    ensures { result ≡ rule_least unknown count sort size }
+fn least_rule(
+    unknown: bool,
+    count: bool,
+    sort: bool,
+    reserved: bool,
+    size: bool,
+) -> Option<TermRefusal>
+    ensures { result ≡ rule_least unknown count sort reserved size }
 {
     if unknown {
         Some(TermRefusal::Unknown)
@@ -38,6 +46,8 @@ fn least_rule(unknown: bool, count: bool, sort: bool, size: bool) -> Option<Term
         Some(TermRefusal::WrongCount)
     } else if sort {
         Some(TermRefusal::WrongSort)
+    } else if reserved {
+        Some(TermRefusal::Reserved)
     } else if size {
         Some(TermRefusal::TooLarge)
     } else {
@@ -123,6 +133,7 @@ fn test_rule(source: &Schema, scope: &Scope, left: &Raw, right: &Raw) -> Option<
         is_unknown(source, scope, left) || is_unknown(source, scope, right),
         has_wrong_count(source, left) || has_wrong_count(source, right),
         !have_one_sort(sort_in(source, scope, left), sort_in(source, scope, right)),
+        has_reserved(source, left) || has_reserved(source, right),
         is_too_large(left) || is_too_large(right),
     )
 }
@@ -144,6 +155,7 @@ fn attribute_rule(
         symbol.is_none() || is_unknown(source, scope, raw),
         has_wrong_count(source, raw),
         !is_right_attribute(entity, attribute_edge(target, symbol), sort),
+        has_reserved(source, raw),
         is_too_large(raw),
     )
 }
@@ -157,6 +169,7 @@ fn key_rule(target: &Schema, entity: u32, name: &Name) -> Option<TermRefusal>
         symbol.is_none(),
         false,
         !is_from(entity, key_edge(target, symbol)),
+        false,
         false,
     )
 }
@@ -181,6 +194,7 @@ fn assign_rule(
         wanted.is_none() || is_unknown(source, scope, raw),
         has_wrong_count(source, raw),
         !(is_from(entity, key_edge(target, symbol)) && have_one_sort(sort, wanted)),
+        has_reserved(source, raw),
         is_too_large(raw),
     )
 }

@@ -20,7 +20,7 @@ fn copy_type_term(alloc: Global, term: &TypeTerm) -> Result<TypeTerm, AllocError
 {
     match term {
         TypeTerm::Gen(n) => Ok(TypeTerm::Gen(*n)),
-        TypeTerm::Const(n) => Ok(TypeTerm::Const(*n)),
+        TypeTerm::Const(constant) => Ok(TypeTerm::Const(constant.clone()?)),
         TypeTerm::Att(attribute, term) => {
             Ok(TypeTerm::Att(*attribute, copy_entity_term(alloc, term)?))
         }

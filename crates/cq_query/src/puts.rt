@@ -89,7 +89,7 @@ pub(crate) fn put_into_type(
 {
     match term {
         TypeTerm::Gen(n) => Ok(TypeTerm::Gen(*n)),
-        TypeTerm::Const(n) => Ok(TypeTerm::Const(*n)),
+        TypeTerm::Const(constant) => Ok(TypeTerm::Const(constant.clone()?)),
         TypeTerm::Att(attribute, term) => {
             Ok(TypeTerm::Att(*attribute, put_entity(alloc, terms, term)?))
         }

@@ -1,6 +1,7 @@
 //! The equations of the rows in the coeval presentation.
 ghost use Rattle.std.specs.Prelude.{ℕ, ◌≡◌, ◌+◌, ◌*◌, ◌++◌, ◌∷◌, ◌<◌, ◌≤◌, ◌^◌, [], IfOk, OnOk, Some, length, map, slice_get, slice_index, slice_index_or};
 ghost use Rattle.std.specs.List.{flat_map};
+ghost use Rattle.cq_theory.specs.declared.constant.Con.TheVariants.{Named};
 ghost use Rattle.cq_theory.specs.declared.value.Value.TheVariants as value_of;
 ghost use Rattle.cq_theory.specs.Canonical.{below};
 ghost use Rattle.cq_query.specs.Groups.{positions};
@@ -186,7 +187,7 @@ fn push_cell_equation(
     made: &mut Vec<Equation>,
 ) -> Result<(), AllocError>
     requires { first + nulls < 2 ^ 32 }
-    ensures { OnOk result (made.new.items ≡ made.old.items ++ Equation.Typ (put_type terms.now (attribute_term query.now attribute)) (value_term first nulls (slice_index_or column.now row (value_of.Const 0))) ∷ []) }
+    ensures { OnOk result (made.new.items ≡ made.old.items ++ Equation.Typ (put_type terms.now (attribute_term query.now attribute)) (value_term first nulls (slice_index_or column.now row (value_of.Const (Named 0)))) ∷ []) }
 {
     let left = put_attribute(alloc, query, terms, attribute)?;
     let right = cell_term(alloc, first, nulls, column, row)?;

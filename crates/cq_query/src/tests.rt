@@ -49,6 +49,7 @@ fn typeside_parts(alloc: Global) -> Result<TypesideParts, Fail> {
     constants.push(pair(alloc, "Al", "s")?)?;
     Ok(TypesideParts {
         types: names(alloc, &["s"])?,
+        literals: None,
         constants: Seq::from_vec(constants),
         functions: Seq::from_vec(Vec::new(alloc)),
     })

@@ -6,7 +6,7 @@ ghost use Rattle.cq_query.specs.Translation.{variable_terms, found_terms as foun
 use crate::puts::{generators, put_each, put_into_type};
 use crate::query::Query;
 use cq_base::Seq;
-use cq_theory::{EntTerm, TypeTerm};
+use cq_theory::{Con, EntTerm, TypeTerm};
 use std::alloc::{AllocError, Global};
 
 /// The terms that a foreign key of the target assigns.
@@ -55,7 +55,7 @@ pub(crate) fn put_attribute(
 {
     match found_term(query, attribute) {
         Some(term) => put_into_type(alloc, terms, term),
-        None => Ok(TypeTerm::Const(0)),
+        None => Ok(TypeTerm::Const(Con::Named(0))),
     }
 }
 
@@ -86,7 +86,7 @@ pub(crate) fn translate(
 {
     match term {
         TypeTerm::Gen(n) => Ok(TypeTerm::Gen(*n)),
-        TypeTerm::Const(n) => Ok(TypeTerm::Const(*n)),
+        TypeTerm::Const(constant) => Ok(TypeTerm::Const(constant.clone()?)),
         TypeTerm::Att(attribute, term) => {
             let terms = terms_along(alloc, query, entity, term.path.as_slice())?;
             put_attribute(alloc, query, terms.as_slice(), *attribute as usize)

@@ -1,11 +1,12 @@
 //! Values as terms, in which nulls stand as generators.
 ghost use Rattle.std.specs.Prelude.{◌≡◌, ◌+◌, ◌++◌, ◌<◌, ◌≤◌, ◌^◌, [], IfOk, OnOk, length, map, slice_index, slice_index_or};
 ghost use Rattle.std.specs.List.{range_with_len};
+ghost use Rattle.cq_theory.specs.declared.constant.Con.TheVariants.{Named};
 ghost use Rattle.cq_theory.specs.declared.value.Value.TheVariants as value_of;
 ghost use Rattle.cq_query.specs.Coeval.{value_term as term_of_value, entry_equation as equation_of_entry};
 
 use cq_base::Seq;
-use cq_theory::{Entry, Equation, TypeTerm, Value};
+use cq_theory::{Con, Entry, Equation, TypeTerm, Value};
 use std::alloc::{AllocError, Global};
 
 /// The generator of a null, of which there are `count`, from `first` on.
@@ -31,7 +32,7 @@ pub(crate) fn value_term(
     ensures { IfOk result (λ made. made ≡ term_of_value first count value.now) }
 {
     match value {
-        Value::Const(n) => Ok(TypeTerm::Const(*n)),
+        Value::Const(constant) => Ok(TypeTerm::Const(constant.clone()?)),
         Value::Null(label) => Ok(TypeTerm::Gen(null_generator(first, count, *label))),
         Value::Fun(function, args) => {
             let mut made = Vec::new(alloc);
@@ -68,11 +69,11 @@ pub(crate) fn cell_term(
     row: u32,
 ) -> Result<TypeTerm, AllocError>
     requires { first + count < 2 ^ 32 }
-    ensures { IfOk result (λ made. made ≡ term_of_value first count (slice_index_or column.now row (value_of.Const 0))) }
+    ensures { IfOk result (λ made. made ≡ term_of_value first count (slice_index_or column.now row (value_of.Const (Named 0)))) }
 {
     match column.get(row as usize) {
         Some(value) => value_term(alloc, first, count, value),
-        None => value_term(alloc, first, count, &Value::Const(0)),
+        None => value_term(alloc, first, count, &Value::Const(Con::Named(0))),
     }
 }
 

@@ -15,7 +15,9 @@ use cq_base::Name;
 pub use declares::declare;
 pub use faults::{in_part_of, is_too_large};
 pub use observations::{is_unknown_entity, table_of};
-pub use passes::{entity_of_sort, has_reserved, has_unknown, has_wrong_count, sort_of_raw, type_of_sort};
+pub use passes::{
+    entity_of_sort, has_reserved, has_unknown, has_wrong_count, sort_of_raw, type_of_sort,
+};
 pub use paths::{has_unknown_name, path_keys};
 
 /// A function, a foreign key or an attribute, by its number.

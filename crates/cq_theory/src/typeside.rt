@@ -69,8 +69,11 @@ impl Typeside {
             functions,
         } = parts;
         let type_table = add_types(alloc, types.as_slice())?;
-        let (open_type, first_constant) =
-            find_open_type(&type_table, types.len() as u32, &literals)?;
+        let (open_type, first_constant) = find_open_type(
+            &type_table,
+            types.len() as u32,
+            &literals,
+        )?;
         let first_function = first_constant + constants.len() as u32;
         let (constant_table, constants) = add_constants(
             alloc,

@@ -12,7 +12,7 @@ use std::alloc::{AllocError, Global};
 use std::rc::Rc;
 use std::test::Fail;
 
-/// A term: each word with the number of its arguments, which stand before it.
+/// A term: each word with the number of its arguments, which stand before it. `'two` stands for a text.
 pub type Words = &'static [(&'static str, usize)];
 
 pub type Texts = &'static [&'static str];
@@ -91,6 +91,13 @@ fn paths(alloc: Global, texts: &[(Texts, Texts)]) -> Result<Seq<(Seq<Name>, Seq<
     Ok(Seq::from_vec(paths))
 }
 
+fn word_or_text(alloc: Global, text: &str) -> Result<Raw, Fail> {
+    match text.strip_prefix("'") {
+        Some(content) => Ok(Raw::Text(name(alloc, content)?)),
+        None => Ok(Raw::Word(name(alloc, text)?)),
+    }
+}
+
 /// Puts a word in the place of its arguments, the last terms of a list.
 fn push_word(alloc: Global, terms: &mut Vec<Raw>, text: &str, args: usize) -> Result<(), Fail> {
     if args > terms.len() {
@@ -98,11 +105,10 @@ fn push_word(alloc: Global, terms: &mut Vec<Raw>, text: &str, args: usize) -> Re
     }
     let first = terms.len() - args;
     let args = terms.split_off(first)?;
-    let word = name(alloc, text)?;
     if args.is_empty() {
-        terms.push(Raw::Word(word))?;
+        terms.push(word_or_text(alloc, text)?)?;
     } else {
-        terms.push(Raw::App(word, Seq::from_vec(args)))?;
+        terms.push(Raw::App(name(alloc, text)?, Seq::from_vec(args)))?;
     }
     Ok(())
 }
@@ -139,10 +145,11 @@ fn new_typeside(alloc: Global, parts: TypesideParts) -> Result<Typeside, TheoryR
     Typeside::new(alloc, parts)
 }
 
-/// A type with two constants and a function.
+/// An open type with two constants and a function.
 pub fn typeside(alloc: Global) -> Result<Rc<Typeside>, Fail> {
     let parts = TypesideParts {
         types: names(alloc, &["n"])?,
+        literals: Some(name(alloc, "n")?),
         constants: pairs(alloc, &[("one", "n"), ("zero", "n")])?,
         functions: functions(alloc, &[("succ", &["n"], "n")])?,
     };

@@ -118,8 +118,9 @@ static PATHS: [Case; 5] = [
     },
 ];
 
-/// Observation equations: one that is derived within depth 1 where the schema never closes, one by congruence, and one between constants that are equal.
-static OBSERVATIONS: [Case; 5] = [
+/// Observation equations: one that is derived within depth 1 where the schema never closes, one by congruence, one between constants that are equal, and
+/// two with a text, which is equal to itself alone.
+static OBSERVATIONS: [Case; 6] = [
     Case {
         source: Shape {
             entity: "E",
@@ -242,6 +243,28 @@ static OBSERVATIONS: [Case; 5] = [
         ],
         depth: 0,
         answer: Ok(()),
+    },
+    Case {
+        source: Shape {
+            entity: "E",
+            keys: &[],
+            path_eqs: &[],
+            attributes: &["w"],
+            obs_eqs: &[
+                (&[("e", 0), ("w", 1)], &[("'two", 0)]),
+                (&[("e", 0), ("w", 1)], &[("'three", 0)]),
+            ],
+        },
+        target: Shape {
+            entity: "G",
+            keys: &[],
+            path_eqs: &[],
+            attributes: &["v"],
+            obs_eqs: &[(&[("e", 0), ("v", 1)], &[("'two", 0)])],
+        },
+        arrows: &[Arrow("w", Image::Path(&["v"]))],
+        depth: 0,
+        answer: Err(CheckRefusal::NotPreserved(2)),
     },
 ];
 

@@ -1,5 +1,5 @@
 //! Schemas and mappings from texts. Commas stand between the parts of a text, and a part is made of words. `l*3` stands for
-//! `l l l`; in a term the arguments stand before their function, as in `e v/1 zero plus/2`.
+//! `l l l`; in a term the arguments stand before their function, as in `e v/1 zero plus/2`, and `'Bo` stands for a text.
 ghost use Rattle.std.specs.Prelude.{◌≡◌, IfOk};
 
 use crate::Mapping;
@@ -147,6 +147,13 @@ fn path_eqs(alloc: Global, text: &str) -> Result<Seq<(Seq<Name>, Seq<Name>)>, Fa
     Ok(Seq::from_vec(paths))
 }
 
+fn word_or_text(alloc: Global, text: &str) -> Result<Raw, Fail> {
+    match text.strip_prefix("'") {
+        Some(content) => Ok(Raw::Text(name(alloc, content)?)),
+        None => Ok(Raw::Word(name(alloc, text)?)),
+    }
+}
+
 /// Puts a word in the place of its arguments, the last terms of a list.
 fn push_word(alloc: Global, terms: &mut Vec<Raw>, text: &str, args: usize) -> Result<(), Fail> {
     if args > terms.len() {
@@ -154,11 +161,10 @@ fn push_word(alloc: Global, terms: &mut Vec<Raw>, text: &str, args: usize) -> Re
     }
     let first = terms.len() - args;
     let args = terms.split_off(first)?;
-    let word = name(alloc, text)?;
     if args.is_empty() {
-        terms.push(Raw::Word(word))?;
+        terms.push(word_or_text(alloc, text)?)?;
     } else {
-        terms.push(Raw::App(word, Seq::from_vec(args)))?;
+        terms.push(Raw::App(name(alloc, text)?, Seq::from_vec(args)))?;
     }
     Ok(())
 }
@@ -212,12 +218,13 @@ fn new_typeside(alloc: Global, parts: TypesideParts) -> Result<Typeside, TheoryR
     Typeside::new(alloc, parts)
 }
 
-/// Two types with a constant each, and two functions.
+/// Two types with a constant each, of which s is open, and three functions.
 pub fn typeside(alloc: Global) -> Result<Rc<Typeside>, Fail> {
     let parts = TypesideParts {
         types: names(alloc, "s n")?,
+        literals: Some(name(alloc, "s")?),
         constants: pairs(alloc, "Al s, zero n")?,
-        functions: functions(alloc, "succ : n -> n, plus : n n -> n")?,
+        functions: functions(alloc, "succ : n -> n, plus : n n -> n, size : s -> n")?,
     };
     Ok(Rc::new(alloc, new_typeside(alloc, parts)?)?)
 }

@@ -2,12 +2,12 @@
 ghost use Rattle.std.specs.Prelude.{◌≡◌, IfOk};
 ghost use Rattle.cq_theory.specs.Presentation.{IsPresentation};
 
-use super::given::{ENTITIES, SOURCE, Shape, TARGET, mapping, pairs, schema, term, typeside};
+use super::given::{ENTITIES, SOURCE, Shape, TARGET, mapping, name, pairs, schema, term, typeside};
 use crate::{Duty, Mapping};
 use cq_base::{Raw, Seq};
 use cq_theory::{
-    EntTerm, Equation, Presentation, PresentationParts, Schema, SizeRefusal, Sort, TheoryRefusal,
-    TypeTerm,
+    Con, EntTerm, Equation, Presentation, PresentationParts, Schema, SizeRefusal, Sort,
+    TheoryRefusal, TypeTerm,
 };
 use std::alloc::{AllocError, Global};
 use std::test::Fail;
@@ -39,7 +39,14 @@ fn is_attribute(term: &TypeTerm, attribute: u32, generator: u32, path: &[u32]) -
 
 fn is_constant(term: &TypeTerm, constant: u32) -> bool {
     match term {
-        TypeTerm::Const(found) => *found == constant,
+        TypeTerm::Const(Con::Named(found)) => *found == constant,
+        _ => false,
+    }
+}
+
+fn is_text(term: &TypeTerm, text: &str) -> bool {
+    match term {
+        TypeTerm::Const(Con::Open(found)) => found.as_str() == text,
         _ => false,
     }
 }
@@ -244,8 +251,10 @@ fn image_of_term(alloc: Global, mapping: &Mapping, term: &TypeTerm) -> Result<Ty
 /// Terms without an attribute stay.
 fn keeps_symbols(alloc: Global, mapping: &Mapping) -> Result<bool, Fail> {
     let generator = image_of_term(alloc, mapping, &TypeTerm::Gen(7))?;
-    let constant = image_of_term(alloc, mapping, &TypeTerm::Const(0))?;
-    Ok(is_generator(&generator, 7) && is_constant(&constant, 0))
+    let constant = image_of_term(alloc, mapping, &TypeTerm::Const(Con::Named(0)))?;
+    let text = TypeTerm::Const(Con::Open(name(alloc, "Bo")?));
+    let text = image_of_term(alloc, mapping, &text)?;
+    Ok(is_generator(&generator, 7) && is_constant(&constant, 0) && is_text(&text, "Bo"))
 }
 
 fn sends_attribute(alloc: Global, mapping: &Mapping) -> Result<bool, Fail> {

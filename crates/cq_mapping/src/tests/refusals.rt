@@ -127,6 +127,25 @@ static IN_SIZE: [Case; 12] = [
     (ENTITIES, "w, E w lambda . e v/1 succ/1*1023", "Duplicate 3"),
 ];
 
+// Texts that no constant can have: empty, or with a mark in front.
+static IN_TEXTS: [Case; 6] = [
+    (ENTITIES, "j, k, w, F x lambda . 'Bo", "Ok"),
+    (ENTITIES, "F x lambda . '?Bo, Q j = l", "Reserved 2"),
+    (ENTITIES, "F x lambda . '", "Reserved 2"),
+    // Behind a wrong type, and before a term that is too large.
+    (ENTITIES, "E w lambda . '=Bo", "WrongSort 2"),
+    (
+        ENTITIES,
+        "E w lambda . '=Bo size/1 succ/1*1023",
+        "Reserved 2",
+    ),
+    (
+        ENTITIES,
+        "E w lambda . 'Bo size/1 succ/1*1023",
+        "TooLarge 2",
+    ),
+];
+
 /// The refusal of a call, or Ok.
 fn told(alloc: Global, made: &Result<Mapping, ArrowRefusal>) -> Result<String, AllocError> {
     match made {
@@ -182,6 +201,11 @@ fn wrong_blocks_and_images(rt: HostRuntime) -> Result<(), Fail> {
 #[test]
 fn the_first_fault_of_arrows(rt: HostRuntime) -> Result<(), Fail> {
     try_cases(&rt, rt.alloc(), &IN_ORDER)
+}
+
+#[test]
+fn texts_that_no_constant_can_have(rt: HostRuntime) -> Result<(), Fail> {
+    try_cases(&rt, rt.alloc(), &IN_TEXTS)
 }
 
 #[test]

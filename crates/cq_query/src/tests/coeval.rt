@@ -1,5 +1,6 @@
 //! The presentation of coeval, written out and at its limits.
 ghost use Rattle.std.specs.Prelude.{◌≡◌, ◌<◌, ◌∷◌, [], true, length, map, option_map, slice_get, Some, All, IfOk};
+ghost use Rattle.cq_theory.specs.declared.constant.Con.TheVariants.{Named};
 ghost use Rattle.cq_theory.specs.declared.value.Value.TheVariants as value_of;
 ghost use Rattle.cq_theory.specs.SchemaData.{SchemaData};
 ghost use Rattle.cq_theory.specs.Tables.{Tables, value_type, normal_of};
@@ -8,7 +9,8 @@ use super::given::{Given, Part, Scopes, Shape, are_paths, is_attribute, query};
 use crate::Query;
 use cq_base::{Name, Seq};
 use cq_theory::{
-    Algebra, Edge, Equation, Fun, Presentation, Schema, Sheet, SizeRefusal, Sort, TypeTerm, Value,
+    Algebra, Con, Edge, Equation, Fun, Presentation, Schema, Sheet, SizeRefusal, Sort, TypeTerm,
+    Value,
 };
 use std::alloc::{AllocError, Global};
 use std::test::Fail;
@@ -81,10 +83,10 @@ fn is_keyed(schema: &Schema) -> bool
 
 /// Two rows of the first entity, both with the one row of the second, and with a constant and a null.
 fn keyed_sheet(alloc: Global) -> Result<Sheet, AllocError>
-    ensures { IfOk result (λ made. made ≡ record { counts = 2 ∷ 1 ∷ []; keys = (0 ∷ 0 ∷ []) ∷ []; cells = (value_of.Const 0 ∷ value_of.Null 0 ∷ []) ∷ [] }) }
+    ensures { IfOk result (λ made. made ≡ record { counts = 2 ∷ 1 ∷ []; keys = (0 ∷ 0 ∷ []) ∷ []; cells = (value_of.Const (Named 0) ∷ value_of.Null 0 ∷ []) ∷ [] }) }
 {
     let column = Seq::from_vec(vec![in alloc; 0, 0]?);
-    let cells = Seq::from_vec(vec![in alloc; Value::Const(0), Value::Null(0)]?);
+    let cells = Seq::from_vec(vec![in alloc; Value::Const(Con::Named(0)), Value::Null(0)]?);
     Ok(Sheet {
         counts: Seq::from_vec(vec![in alloc; 2, 1]?),
         keys: Seq::from_vec(vec![in alloc; column]?),
@@ -138,7 +140,7 @@ fn are_generators(generators: &[(Name, Sort)]) -> bool {
 
 fn is_first_cell(equation: &Equation) -> bool {
     match equation {
-        Equation::Typ(left, TypeTerm::Const(0)) => is_attribute(left, 0, 0, &[]),
+        Equation::Typ(left, TypeTerm::Const(Con::Named(0))) => is_attribute(left, 0, 0, &[]),
         _ => false,
     }
 }
@@ -343,7 +345,7 @@ fn applied(alloc: Global, value: Value) -> Result<Value, AllocError>
 fn tower(alloc: Global, levels: usize) -> Result<Value, AllocError>
     ensures { IfOk result (λ made. (S : SchemaData) (M : Tables) → option_map (λ c. c.1) (slice_get S.typeside.constants 1) ≡ Some 1 → option_map (λ f. f.args) (slice_get S.typeside.functions 0) ≡ Some (1 ∷ []) → option_map (λ f. f.result) (slice_get S.typeside.functions 0) ≡ Some 1 → M.algebra.entries ≡ [] → (value_type S M.algebra.nulls made ≡ Some 1) × (normal_of M made ≡ made)) }
 {
-    let mut value = Value::Const(1);
+    let mut value = Value::Const(Con::Named(1));
     for _level in 0..levels {
         value = applied(alloc, value)?;
     }

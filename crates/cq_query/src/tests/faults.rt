@@ -74,6 +74,37 @@ static COUNTS: [Case; 9] = [
     },
 ];
 
+// Texts that no constant can have: empty, or with a mark in front. A wrong sort comes before them.
+static TEXTS: [Case; 6] = [
+    Case {
+        clauses: &[
+            W,
+            Part(0, Given::Test(&[("y", 0), ("x", 1)], &[("'Bo", 0)])),
+        ],
+        wanted: "Missing t",
+    },
+    Case {
+        clauses: &[Part(0, Given::Test(&[("y", 0), ("x", 1)], &[("'?Bo", 0)]))],
+        wanted: "Reserved 6",
+    },
+    Case {
+        clauses: &[Part(0, Given::Test(&[("'", 0)], &[("y", 0), ("x", 1)]))],
+        wanted: "Reserved 6",
+    },
+    Case {
+        clauses: &[Part(0, Given::Att("w", &[("'=Bo", 0), ("size", 1)]))],
+        wanted: "Reserved 6",
+    },
+    Case {
+        clauses: &[Part(0, Given::Att("w", &[("'=Bo", 0)]))],
+        wanted: "WrongSort 6",
+    },
+    Case {
+        clauses: &[Part(0, Given::Assign("t", "o", &[("'?Bo", 0)]))],
+        wanted: "WrongSort 6",
+    },
+];
+
 // The first clause that breaks a rule, in each order.
 static IN_ORDER: [Case; 6] = [
     Case {
@@ -127,6 +158,11 @@ fn try_cases(rt: &impl Abort, alloc: Global, cases: &[Case]) -> Result<(), Fail>
 #[test]
 fn wrong_counts(rt: HostRuntime) -> Result<(), Fail> {
     try_cases(&rt, rt.alloc(), &COUNTS)
+}
+
+#[test]
+fn texts_that_no_constant_can_have(rt: HostRuntime) -> Result<(), Fail> {
+    try_cases(&rt, rt.alloc(), &TEXTS)
 }
 
 #[test]
@@ -206,6 +242,8 @@ fn the_first_fault_of_variables(rt: HostRuntime) -> Result<(), Fail> {
 /// Where a term of many symbols stands in a clause of the block of P.
 enum Place {
     Attribute(&'static str),
+    /// The term of w, with this text at its bottom.
+    Text(&'static str),
     /// The left side of a where equation, with this right side.
     Left(Words),
     /// The right side of a where equation, with this left side.
@@ -221,6 +259,10 @@ fn large_value(alloc: Global, symbols: usize) -> Result<Raw, Fail> {
 fn large_clause(alloc: Global, place: &Place, symbols: usize) -> Result<Clause, Fail> {
     match place {
         Place::Attribute(text) => Ok(Clause::Att(name(alloc, text)?, large_value(alloc, symbols)?)),
+        Place::Text(text) => Ok(Clause::Att(
+            name(alloc, "w")?,
+            grown(alloc, &[(*text, 0), ("size", 1)], "succ", symbols)?,
+        )),
         Place::Left(other) => Ok(Clause::Test(large_value(alloc, symbols)?, term(alloc, other)?)),
         Place::Right(other) => Ok(Clause::Test(term(alloc, other)?, large_value(alloc, symbols)?)),
         Place::Assigned(variable) => Ok(Clause::Assign(
@@ -300,7 +342,21 @@ static SIZES: [SizeCase; 8] = [
 ];
 
 // Each other rule comes before the size of a term, and of two clauses the first decides.
-static SIZES_IN_ORDER: [SizeCase; 9] = [
+static SIZES_IN_ORDER: [SizeCase; 11] = [
+    SizeCase {
+        before: &[],
+        place: Place::Text("'?Bo"),
+        symbols: 1025,
+        after: &[],
+        wanted: "Reserved 6",
+    },
+    SizeCase {
+        before: &[],
+        place: Place::Text("'Bo"),
+        symbols: 1025,
+        after: &[],
+        wanted: "TooLarge 6",
+    },
     SizeCase {
         before: &[W],
         place: Place::Attribute("w"),

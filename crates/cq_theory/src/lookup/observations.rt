@@ -5,7 +5,9 @@ ghost use Rattle.cq_theory.specs.SchemaParts.{source_of as entity_from, is_varia
 
 use crate::lookup::builds::{build, type_term};
 use crate::lookup::faults::{in_part_of, is_too_large};
-use crate::lookup::passes::{entity_of_sort, has_reserved, has_unknown, has_wrong_count, sort_of_raw};
+use crate::lookup::passes::{
+    entity_of_sort, has_reserved, has_unknown, has_wrong_count, sort_of_raw,
+};
 use crate::lookup::{Symbol, TermRefusal, TheoryRefusal};
 use crate::parts::ObsPart;
 use crate::presentation::Sort;

@@ -2,7 +2,7 @@ use Rattle.std.proofs.Common.{◌≡◌, length, arith, refl, sym, ap, ◌∙◌
 use Rattle.std.proofs.lemmas.Option.{slice_get_read, same_Some}
 use Rattle.cq_flat.proofs.Leasts.{least_none, least_plain, least_more}
 use Rattle.cq_flat.proofs.constants.least_constants.Goals as goal
-use Rattle.cq_flat.proofs.constants.least_constants.Goals.{in-Const, in_default}
+use Rattle.cq_flat.proofs.constants.least_constants.Goals.{in-Const+in_ok-lower, in_default}
 
 pub loop-node-init : goal.loop-node-init
 loop-node-init c =
@@ -16,7 +16,7 @@ pub loop-node-preserved : goal.loop-node-preserved
 loop-node-preserved c =
     let is = slice_get_read c.args.nodes.now (length c.args.nodes.now) c.loop-node.node c.index-nodes-node.result refl c.loop-node-test.true c.index-nodes-node.is in
     elim c.match-content.branch [
-      | in-Const w ↦ rw (w.least-is, w.lower.ensures)
+      | in-Const+in_ok-lower w ↦ rw (w.least-is, w.in_ok-lower.ensures)
           (least_more c.args.nodes.now c.args.classes.now c.loop-node.node c.loop-node.least.items c.loop-node.invariant w.in-Const.constant (is ∙ ap Some w.in-Const.is)
           (c.requires.within c.loop-node.node 0 (omega arith)))
       | in_default w ↦ rw w.least-is (least_plain c.args.nodes.now c.args.classes.now c.loop-node.node c.loop-node.least.items c.loop-node.invariant (λ d e. w.in_default.not-Const d (same_Some _ _ (sym is ∙ e))))

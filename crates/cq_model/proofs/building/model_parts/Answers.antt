@@ -1,6 +1,7 @@
-use Rattle.std.proofs.Common.{◌≡◌, None, length, sym, ap, subst, ◌∙◌, arith}
+use Rattle.std.proofs.Common.{◌≡◌, Bor, None, option_map, length, sym, ap, subst, ◌∙◌, arith}
 use Rattle.cq_tables.specs.Content.{Content}
 use Rattle.cq_theory.specs.declared.presentation.Presentation.{Presentation}
+use Rattle.cq_theory.specs.declared.constant.Con.{Con}
 use Rattle.cq_theory.specs.SchemaData.{SchemaData as Schema}
 use Rattle.cq_model.specs.declared.numbers.NumberedRows.{NumberedRows}
 use Rattle.cq_model.specs.Built.{IsBuilt}
@@ -9,6 +10,10 @@ use Rattle.cq_model.specs.Listed.{IsListed}
 use Rattle.cq_model.proofs.BuiltListed.{inconsistent}
 use Rattle.cq_model.proofs.ModelMade.{earlier_arguments, sides_within, parts_instance, parts_listed, listed_consistent}
 use Rattle.cq_model.proofs.building.model_parts.Goals as goal
+
+-- two constants that are lent, as they are
+abbrev seen : Bor Con × Bor Con → Con × Con
+seen pair = (pair.0.now, pair.1.now)
 
 pub close_nodes-requires : goal.close_nodes-requires
 close_nodes-requires c =
@@ -27,8 +32,9 @@ returns-in-Some-clause-refused c =
     let P : Presentation = c.args.presentation.now in
     let m : Content = c.args.tables.now in
     let numbered : NumberedRows = c.args.numbered.now in
-    inconsistent S P m c.args.entries.now c.is_well_sorted.ensures c.requires.presentation c.requires.closed numbered.order numbered.names numbered.numbers c.in_ok-list.places c.in_ok-list.list.nodes c.in_ok-list.list.equations c.in_ok-list.list.types
-    c.in_ok-list.ensures c.in_ok-flat.flat c.in_ok-flat.ensures.closure c.in-Some.least c.in-Some.greater (sym c.clash.ensures ∙ c.in-Some.is)
+    rw (c.in_ok-clone.ensures.cases, c.in_ok-clone-2.ensures.cases)
+    (inconsistent S P m c.args.entries.now c.is_well_sorted.ensures c.requires.presentation c.requires.closed numbered.order numbered.names numbered.numbers c.in_ok-list.places c.in_ok-list.list.nodes c.in_ok-list.list.equations c.in_ok-list.list.types
+    c.in_ok-list.ensures c.in_ok-flat.flat c.in_ok-flat.ensures.closure c.in-Some.least.now c.in-Some.greater.now (sym c.clash.ensures ∙ ap (option_map seen) c.in-Some.is))
 
 pub read_parts-requires : goal.read_parts-requires
 read_parts-requires c =
@@ -54,7 +60,7 @@ returns c =
     let types : c.in_ok-list.list.types ≡ c.as_slice.result.now = sym (c.as_slice.ensures.value ∙ c.in_ok-flat.ensures.types) in
     let built : IsBuilt S P m c.args.entries.now numbered.order numbered.names numbered.numbers c.in_ok-list.places c.in_ok-list.list.nodes c.in_ok-list.list.equations c.as_slice.result.now =
     subst (IsBuilt S P m c.args.entries.now numbered.order numbered.names numbered.numbers c.in_ok-list.places c.in_ok-list.list.nodes c.in_ok-list.list.equations) types c.in_ok-list.ensures in
-    let consistent : c.in_ok-flat.flat.clash ≡ None = sym c.clash.ensures ∙ c.in_default.is in
+    let consistent : c.in_ok-flat.flat.clash ≡ None = sym c.clash.ensures ∙ ap (option_map seen) c.in_default.is in
     let listed : IsListed (instance_of S P numbered.names c.in_ok-parts.parts) =
     parts_listed S P m c.args.entries.now numbered.order numbered.names numbered.numbers c.in_ok-list.places c.in_ok-list.list.nodes c.in_ok-list.list.equations c.as_slice.result.now built
     c.is_well_sorted.ensures c.requires.presentation c.requires.closed c.in_ok-flat.flat c.in_ok-flat.ensures.closure consistent c.in_ok-parts.parts c.in_ok-parts.ensures.tables c.in_ok-parts.ensures.assignment in

@@ -16,8 +16,8 @@ use Rattle.cq_model.proofs.PushedTerms.{HavePlaces-wider, pushed_gen, ArePushed,
 use Rattle.cq_model.proofs.ReadableTerms.{read_at, if_answered, IsReadable-wider, readable_cell, constant_known, readable_constant, function_known, argument_readable, readable_application}
 use Rattle.cq_model.proofs.nodes.+push_term.Goals as goal
 
-pub type_of-requires : goal.type_of-requires
-type_of-requires t c = constant_known c.args.schema.now c.args.tables.now c.args.places.now c.args.rows.now (length c.args.list.now.nodes) c.in-Const.constant.now c.args.term.now c.in-Const.is c.requires.term
+pub type_of-kind-requires : goal.type_of-kind-requires
+type_of-kind-requires t c = constant_known c.args.schema.now c.args.tables.now c.args.places.now c.args.rows.now (length c.args.list.now.nodes) c.in-Const.constant c.args.term.now c.in-Const.is c.requires.term
 
 pub place_of_cell-requires : goal.place_of_cell-requires
 place_of_cell-requires t c =
@@ -33,13 +33,13 @@ place_of_cell-requires t c =
 pub bounds-as_slice-function : goal.bounds-as_slice-function
 bounds-as_slice-function t c =
     let S : Schema = c.args.schema.now in
-    let same : c.as_slice-in-Fun.result.now ≡ S.typeside.functions = c.as_slice-in-Fun.ensures ∙ ap (λ (x : TypesideData). x.functions) (c.behind-schema-in-Fun.view_is ∙ c.deref-in-Fun.ensures) ∙ ap (λ (s : Schema). s.typeside.functions) c.schema.view_is in
+    let same : c.as_slice-in-Fun.result.now ≡ S.typeside.functions = c.as_slice-in-Fun.ensures ∙ ap (λ (x : TypesideData). x.functions) (c.behind-schema.view_is ∙ c.deref.ensures) ∙ ap (λ (s : Schema). s.typeside.functions) c.schema.view_is in
     function_known S c.args.tables.now c.args.places.now c.args.rows.now (length c.args.list.now.nodes) c.in-Fun.function c.in-Fun.args c.args.term.now c.as_slice-in-Fun.result.now c.in-Fun.is same c.requires.term
 
 pub bounds-as_slice-function-in-Fun : goal.bounds-as_slice-function-in-Fun
 bounds-as_slice-function-in-Fun t c =
     let S : Schema = c.args.schema.now in
-    let same : c.as_slice-in-Fun.result.now ≡ S.typeside.functions = c.as_slice-in-Fun.ensures ∙ ap (λ (x : TypesideData). x.functions) (c.behind-schema-in-Fun.view_is ∙ c.deref-in-Fun.ensures) ∙ ap (λ (s : Schema). s.typeside.functions) c.schema.view_is in
+    let same : c.as_slice-in-Fun.result.now ≡ S.typeside.functions = c.as_slice-in-Fun.ensures ∙ ap (λ (x : TypesideData). x.functions) (c.behind-schema.view_is ∙ c.deref.ensures) ∙ ap (λ (s : Schema). s.typeside.functions) c.schema.view_is in
     function_known S c.args.tables.now c.args.places.now c.args.rows.now (length c.args.list.now.nodes) c.in-Fun.function c.in-Fun.args c.args.term.now c.as_slice-in-Fun.result.now c.in-Fun.is same c.requires.term
 
 pub push_term-requires : goal.push_term-requires
@@ -79,8 +79,8 @@ returns-in-Gen t c =
     subst (λ (u : TypeTerm). IsPushed S m places rows c.args.list.now c.args.list.now u place) (sym c.in-Gen.is)
     (pushed_gen S m places rows c.args.list.now n place (ap (λ (l : List ℕ). slice_index l n) c.as_slice.ensures) readable)
 
-pub returns-in-Const : goal.returns-in-Const
-returns-in-Const t c =
+pub returns-in_ok-clone-in-Const : goal.returns-in_ok-clone-in-Const
+returns-in_ok-clone-in-Const t c =
     let S : Schema = c.args.schema.now in
     let m : Content = c.args.tables.now in
     let places : Places = c.args.places.now in
@@ -88,10 +88,13 @@ returns-in-Const t c =
     let old : NodeListData = c.args.list.now in
     let new : NodeListData = c.push.new.self in
     let constant : Con = c.in-Const.constant in
+    let copy : Con = c.in_ok-clone-in-Const.field-0 in
     let kind : ℕ = c.type_of-kind.result in
-    if_answered c.push.result (λ place. place ≡ length old.nodes) (new ≡ record { nodes = old.nodes ++ node.Const c.clone.result ∷ []; types = old.types ++ kind ∷ []; equations = old.equations })
+    if_answered c.push.result (λ place. place ≡ length old.nodes) (new ≡ record { nodes = old.nodes ++ node.Const copy ∷ []; types = old.types ++ kind ∷ []; equations = old.equations })
     (λ place. IsPushed S m places rows old new c.args.term.now place)
-    (λ place place_is added. subst (λ (u : TypeTerm). IsPushed S m places rows old new u place) (sym c.in-Const.is) (readable_constant S m places rows old new constant place kind c.type_of-kind.ensures place_is added))
+    (λ place place_is added. subst (λ (u : TypeTerm). IsPushed S m places rows old new u place) (sym c.in-Const.is)
+    (readable_constant S m places rows old new constant place kind c.type_of-kind.ensures place_is
+    (added ∙ ap (λ (d : Con). record { nodes = old.nodes ++ node.Const d ∷ []; types = old.types ++ kind ∷ []; equations = old.equations }) c.in_ok-clone-in-Const.ensures.cases)))
     c.push.ensures.place c.push.ensures.added
 
 pub returns-in-Att : goal.returns-in-Att
@@ -120,7 +123,7 @@ returns-after-loop-arg t c =
     let found : List ℕ = c.loop-arg.found.items in
     let functions : List Function = c.as_slice-in-Fun.result.now in
     let function : Function = get_or functions f c.index-as_slice-function.result in
-    let same : functions ≡ S.typeside.functions = c.as_slice-in-Fun.ensures ∙ ap (λ (x : TypesideData). x.functions) (c.behind-schema-in-Fun.view_is ∙ c.deref-in-Fun.ensures) ∙ ap (λ (s : Schema). s.typeside.functions) c.schema.view_is in
+    let same : functions ≡ S.typeside.functions = c.as_slice-in-Fun.ensures ∙ ap (λ (x : TypesideData). x.functions) (c.behind-schema.view_is ∙ c.deref.ensures) ∙ ap (λ (s : Schema). s.typeside.functions) c.schema.view_is in
     let known : slice_get S.typeside.functions f ≡ Some function =
     read_at S.typeside.functions functions f c.index-as_slice-function.result same (function_known S m places rows (length old.nodes) f ts c.args.term.now functions c.in-Fun.is same c.requires.term) in
     let all : ArePushed S m places rows old mid ts found =

@@ -1,8 +1,9 @@
-use Rattle.std.proofs.Common.{◌≡◌, ◌<◌, length, refl, sym, ap, subst, ◌∙◌, inl, inr}
+use Rattle.std.proofs.Common.{◌≡◌, true, refl, sym, ap, subst, ◌∙◌, inl, inr}
 use Rattle.cq_theory.specs.Closing.{IsInconsistentAt}
 use Rattle.cq_theory.specs.Schema.{IsSchema}
 use Rattle.cq_theory.specs.SchemaData.{SchemaData}
 use Rattle.cq_theory.specs.TypesideData.{TypesideData}
+use Rattle.cq_theory.specs.ValueText.{is_named_con}
 use Rattle.cq_program.proofs.Constants.{constants_within}
 use Rattle.cq_program.proofs.models.model_of.Goals as goal
 
@@ -21,7 +22,7 @@ clash-requires-clause-least c =
     let schema : IsSchema c.args.schema.value = subst IsSchema c.deref.ensures c.is_well_sorted.ensures in
     let typeside : c.deref-in-Err-Inconsistent-2.result.now ≡ c.args.schema.value.typeside =
     c.deref-in-Err-Inconsistent-2.ensures ∙ ap (λ (S : SchemaData). S.typeside) (c.behind-over.view_is ∙ c.deref-in-Err-Inconsistent.ensures ∙ c.in_ok-over.ensures.cases) in
-    subst (λ (T : TypesideData). c.in-Err-Inconsistent.least < length T.constants) (sym typeside)
+    subst (λ (T : TypesideData). is_named_con T c.in-Err-Inconsistent.least ≡ true) (sym typeside)
     (constants_within c.args.schema.value c.args.presentation schema c.requires.presentation c.in-Err-Inconsistent.least c.in-Err-Inconsistent.greater clash).0
 
 pub clash-requires-clause-greater : goal.clash-requires-clause-greater
@@ -31,5 +32,5 @@ clash-requires-clause-greater c =
     let schema : IsSchema c.args.schema.value = subst IsSchema c.deref.ensures c.is_well_sorted.ensures in
     let typeside : c.deref-in-Err-Inconsistent-2.result.now ≡ c.args.schema.value.typeside =
     c.deref-in-Err-Inconsistent-2.ensures ∙ ap (λ (S : SchemaData). S.typeside) (c.behind-over.view_is ∙ c.deref-in-Err-Inconsistent.ensures ∙ c.in_ok-over.ensures.cases) in
-    subst (λ (T : TypesideData). c.in-Err-Inconsistent.greater < length T.constants) (sym typeside)
+    subst (λ (T : TypesideData). is_named_con T c.in-Err-Inconsistent.greater ≡ true) (sym typeside)
     (constants_within c.args.schema.value c.args.presentation schema c.requires.presentation c.in-Err-Inconsistent.least c.in-Err-Inconsistent.greater clash).1

@@ -15,8 +15,8 @@ entries_of-requires-clause-values c =
     rw (c.as_slice-6.ensures.value, c.as_slice-7.ensures.value, c.as_slice-8.ensures.value)
     (values_serve c.args.nodes.items c.args.equations.items c.in_ok-classes.classes.items exact c.in_ok-least.least.items least c.in_ok-values.values.items values)
 
-pub clash_of-clash-requires-clause-within : goal.clash_of-clash-requires-clause-within
-clash_of-clash-requires-clause-within c =
+pub clash_of-requires-clause-within : goal.clash_of-requires-clause-within
+clash_of-requires-clause-within c =
     let exact = rw c.as_slice.ensures.value at c.in_ok-classes.ensures in
     rw (c.as_slice-9.ensures.value, c.as_slice-10.ensures.value) (within_all c.args.nodes.items c.args.equations.items c.in_ok-classes.classes.items exact)
 

@@ -1,9 +1,9 @@
-use Rattle.std.proofs.Common.{map, sym, ap, subst, ◌∙◌}
+use Rattle.std.proofs.Common.{◌≤◌, map, rules, sym, ap, subst, ◌∙◌}
 use Rattle.cq_theory.specs.SchemaData.{SchemaData as Schema}
 use Rattle.cq_theory.specs.Schema.{IsSchema}
 use Rattle.cq_theory.specs.Tables.{Tables}
 use Rattle.cq_theory.specs.Canonical.{canonical, canonical_assignment}
-use Rattle.cq_model.specs.Given.{IsModel, tables, given}
+use Rattle.cq_model.specs.Given.{IsModel, size_of, tables, given}
 use Rattle.cq_model.specs.Standing.{meaning}
 use Rattle.cq_model.proofs.GivenTables.{parts_instance, made_initial, made_least}
 use Rattle.cq_model.proofs.instance.Instance.of_tables.Goals as goal
@@ -15,11 +15,13 @@ pub from_parts-requires : goal.from_parts-requires
 from_parts-requires c =
     let S : Schema = c.args.schema.value in
     let M : Tables = tables c.args.sheet c.args.algebra in
+    let few : size_of M ≤ 16000000 = search rules in
     parts_instance S M (subst IsSchema c.deref.ensures c.is_well_sorted.ensures) c.requires
     c.in-Ok.parts.presentation c.in-Ok.parts.names (map meaning c.in-Ok.parts.standings)
     (c.in-Ok.ensures.presentation ∙ ap (λ (s : Schema). canonical s M) c.deref-2.ensures)
     (c.in-Ok.ensures.names ∙ ap (λ (s : Schema). (given s M).names) c.deref-2.ensures)
     (c.in-Ok.ensures.standings ∙ ap (λ (s : Schema). canonical_assignment s M) c.deref-2.ensures)
+    few
 
 pub returns-in-Ok-clause-initial : goal.returns-in-Ok-clause-initial
 returns-in-Ok-clause-initial c =
