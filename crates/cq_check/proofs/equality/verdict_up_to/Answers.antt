@@ -5,7 +5,7 @@ use Rattle.cq_check.proofs.Depths.{one_open_more, all_open, wide_at}
 use Rattle.cq_theory.specs.declared.presentation.Equation.{Equation}
 use Rattle.cq_theory.specs.declared.presentation.Presentation.{Presentation}
 use Rattle.cq_theory.specs.SchemaData.{SchemaData as Schema}
-use Rattle.cq_check.proofs.equality.equal.Goals as goal
+use Rattle.cq_check.proofs.equality.verdict_up_to.Goals as goal
 
 pub loop-stage-init : goal.loop-stage-init
 loop-stage-init c = λ j less. absurd (omega (arith, less))
