@@ -62,13 +62,7 @@ pub fn check_mapping(alloc: Global, mapping: &Mapping, depth: u32) -> Result<(),
     for (place, duty) in duties.iter().enumerate() {
         let number = place as u64 + 1;
         let presentation = over_one(alloc, duty.schema_entity)?;
-        match verdict_up_to(
-            alloc,
-            target(mapping),
-            &presentation,
-            depth,
-            &duty.equation,
-        ) {
+        match verdict_up_to(alloc, target(mapping), &presentation, depth, &duty.equation) {
             Ok(Verdict::Yes) => {}
             Ok(Verdict::No) => return Err(CheckRefusal::NotPreserved(number)),
             Err(EqualRefusal::Depth) => return Err(CheckRefusal::Depth(number)),

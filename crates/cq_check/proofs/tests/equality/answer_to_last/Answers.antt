@@ -32,7 +32,13 @@ module _ (S : Schema) (generators : List (Name × Sort)) (all others : List Equa
       record { sort = h.sort; left = h.left; right = h.right }
 
 pub equal-requires-clause-presentation : goal.equal-requires-clause-presentation
-equal-requires-clause-presentation c = ?
+equal-requires-clause-presentation c =
+    subst (λ (es : List Equation). IsPresentation c.args.schema.value (record { generators = c.args.presentation.generators; equations = es })) (sym c.from_vec.ensures)
+    (without_last c.args.schema.value c.args.presentation.generators c.args.presentation.equations c.pop.new.self.items c.in_ok-asked.asked c.requires.presentation
+    (sym c.into_vec-others.ensures ∙ c.in_ok-asked.ensures.items))
 
 pub equal-requires-clause-sorted : goal.equal-requires-clause-sorted
-equal-requires-clause-sorted c = ?
+equal-requires-clause-sorted c =
+    subst (λ (es : List Equation). IsWellSorted c.args.schema.value (record { generators = c.args.presentation.generators; equations = es }) c.in_ok-asked.asked) (sym c.from_vec.ensures)
+    (last_sorted c.args.schema.value c.args.presentation.generators c.args.presentation.equations c.pop.new.self.items c.in_ok-asked.asked c.requires.presentation
+    (sym c.into_vec-others.ensures ∙ c.in_ok-asked.ensures.items))
