@@ -1,3 +1,5 @@
+mod Kept
 mod Gives
+mod Complete
 mod Judging
 mod Answered

@@ -8,13 +8,13 @@ returns-clause-well_sorted c =
     let env = environment_of c.args.env.now.entries.items in
     let F : MappingMeant = mapping_meant c.in_ok-named.named in
     let instance : InstanceMeant = instance_meant c.in_ok-moved.moved in
-    let settled = mapping_settled env c.args.along.now F c.requires c.in_ok-named.ensures in
-    let printed = instance_settled env c.args.used.now instance c.requires c.in_ok-moved.ensures in
-    one_printed env instance.schema F.source instance.instance.schema F.mapping.source printed settled.1 ?
+    let settled = mapping_settled env c.args.along.now F c.requires.settled c.in_ok-named.ensures in
+    let printed = instance_settled env c.args.used.now instance c.requires.settled c.in_ok-moved.ensures in
+    one_printed env instance.schema F.source instance.instance.schema F.mapping.source printed settled.1 c.if-ne.ensures
 
 pub returns-clause-grounded : goal.returns-clause-grounded
 returns-clause-grounded c = λ name.
     let env = environment_of c.args.env.now.entries.items in
     let F : MappingMeant = mapping_meant c.in_ok-named.named in
-    let settled = mapping_settled env c.args.along.now F c.requires c.in_ok-named.ensures in
+    let settled = mapping_settled env c.args.along.now F c.requires.settled c.in_ok-named.ensures in
     settled.2

@@ -12,11 +12,11 @@ mapping_in-requires-clause-typeside c =
     (used_settled (environment_of c.args.env.now.entries.items) c.args.literal.now.target target c.requires.settled c.in_ok-target.ensures)
     c.if-ne.ensures
 
-pub returns-clause-grounded : goal.returns-clause-grounded
-returns-clause-grounded c = λ name.
+pub returns-in-Ok-clause-grounded : goal.returns-in-Ok-clause-grounded
+returns-in-Ok-clause-grounded c = λ name.
     let env = environment_of c.args.env.now.entries.items in
     let source = schema_meant c.in_ok-source.source in
     let target = schema_meant c.in_ok-target.target in (
-      subst (IsPrinted env source.name) (sym c.in_ok-mapping.ensures.over.0) (schema_printed env c.args.literal.now.source source c.requires.settled c.in_ok-source.ensures),
-      subst (IsPrinted env target.name) (sym c.in_ok-mapping.ensures.over.1) (schema_printed env c.args.literal.now.target target c.requires.settled c.in_ok-target.ensures),
+      subst (IsPrinted env source.name) (sym c.in-Ok.ensures.over.0) (schema_printed env c.args.literal.now.source source c.requires.settled c.in_ok-source.ensures),
+      subst (IsPrinted env target.name) (sym c.in-Ok.ensures.over.1) (schema_printed env c.args.literal.now.target target c.requires.settled c.in_ok-target.ensures),
     )
