@@ -21,11 +21,7 @@ use cq_theory::SizeRefusal;
 use std::alloc::Global;
 
 /// An instance that is to be pulled back along a mapping, which is over the mapping's target.
-pub fn pose_delta(
-    env: &Environment,
-    along: &Spot,
-    used: &Spot,
-) -> Result<Statement, ProgramRefusal>
+pub fn pose_delta(env: &Environment, along: &Spot, used: &Spot) -> Result<Statement, ProgramRefusal>
     requires settled { AreSettled (environment_of env.now.entries.items) }
     ensures posed { Answers posed_as result (delta_posed (environment_of env.now.entries.items) along.now used.now) }
     ensures well_sorted { IfOk result IsPosed }
@@ -40,11 +36,7 @@ pub fn pose_delta(
 }
 
 /// An instance that is to be moved along a mapping, which is over the mapping's source.
-pub fn pose_sigma(
-    env: &Environment,
-    along: &Spot,
-    used: &Spot,
-) -> Result<Statement, ProgramRefusal>
+pub fn pose_sigma(env: &Environment, along: &Spot, used: &Spot) -> Result<Statement, ProgramRefusal>
     requires settled { AreSettled (environment_of env.now.entries.items) }
     ensures posed { Answers posed_as result (sigma_posed (environment_of env.now.entries.items) along.now used.now) }
     ensures well_sorted { IfOk result IsPosed }

@@ -33,18 +33,12 @@ pub fn mapping_of(env: &Environment, used: &Spot) -> Result<NamedMapping, Progra
 {
     match env.find(&used.name) {
         None => Err(ProgramRefusal::Broken(used.place, Reason::NameUnknown)),
-        Some(Meaning::Typeside(_)) => Err(ProgramRefusal::Broken(
-            used.place,
-            Reason::WrongKind,
-        )),
+        Some(Meaning::Typeside(_)) => Err(ProgramRefusal::Broken(used.place, Reason::WrongKind)),
         Some(Meaning::Schema(_)) => Err(ProgramRefusal::Broken(used.place, Reason::WrongKind)),
         Some(Meaning::Mapping(source, target, mapping)) => {
             Ok(named_mapping(source, target, mapping)?)
         }
-        Some(Meaning::Instance(_, _)) => Err(ProgramRefusal::Broken(
-            used.place,
-            Reason::WrongKind,
-        )),
+        Some(Meaning::Instance(_, _)) => Err(ProgramRefusal::Broken(used.place, Reason::WrongKind)),
     }
 }
 
@@ -54,10 +48,7 @@ pub fn instance_of(env: &Environment, used: &Spot) -> Result<NamedInstance, Prog
 {
     match env.find(&used.name) {
         None => Err(ProgramRefusal::Broken(used.place, Reason::NameUnknown)),
-        Some(Meaning::Typeside(_)) => Err(ProgramRefusal::Broken(
-            used.place,
-            Reason::WrongKind,
-        )),
+        Some(Meaning::Typeside(_)) => Err(ProgramRefusal::Broken(used.place, Reason::WrongKind)),
         Some(Meaning::Schema(_)) => Err(ProgramRefusal::Broken(used.place, Reason::WrongKind)),
         Some(Meaning::Mapping(_, _, _)) => Err(ProgramRefusal::Broken(
             used.place,

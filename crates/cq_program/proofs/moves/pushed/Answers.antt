@@ -1,4 +1,7 @@
 use Rattle.std.proofs.Common.{◌≡◌, true, false, refl, sym, ap, subst, ◌∙◌, inl, inr}
+use Rattle.cq_base.specs.declared.place.Place.{Place}
+use Rattle.cq_program.specs.declared.reason.ProgramRefusal.{ProgramRefusal}
+use Rattle.cq_theory.specs.declared.constant.Con.{Con}
 use Rattle.cq_theory.specs.Closing.{IsInconsistentAt}
 use Rattle.cq_theory.specs.Schema.{IsSchema}
 use Rattle.cq_theory.specs.SchemaData.{SchemaData}
@@ -15,6 +18,14 @@ use Rattle.cq_program.specs.Posing.{TellsConstants}
 use Rattle.cq_program.proofs.Constants.{constants_within}
 use Rattle.cq_program.proofs.MovedClashes.{withholds_moved}
 use Rattle.cq_program.proofs.moves.pushed.Goals as goal
+
+-- the same is told of equal constants over an equal typeside
+told_of : (at : Place) (T T' : TypesideData) (c c' d d' : Con) (refusal : ProgramRefusal) → T ≡ T' → c ≡ c' → d ≡ d'
+    → TellsConstants at (value_text T (Const c)) (value_text T (Const d)) refusal → TellsConstants at (value_text T' (Const c')) (value_text T' (Const d')) refusal
+told_of at T T' c c' d d' refusal typeside least greater told =
+    let same : TellsConstants at (value_text T (Const c)) (value_text T (Const d)) refusal ≡ TellsConstants at (value_text T' (Const c')) (value_text T' (Const d')) refusal =
+    λ i. TellsConstants at (value_text (typeside i) (Const (least i))) (value_text (typeside i) (Const (greater i))) refusal in
+    subst (λ (Y : Type 0). Y) same told
 
 pub returns-in-Err-Depth-clause-withholds : goal.returns-in-Err-Depth-clause-withholds
 returns-in-Err-Depth-clause-withholds c = (refl, inr ((rw c.in-Err-Depth.field-0-is at c.in-Err-Depth.ensures.size), inl (refl, c.in-Err-Depth.ensures.open (cc))))
@@ -38,8 +49,9 @@ clash-requires-clause-least c =
     c.deref-in-Err-Inconsistent.ensures ∙ ap (λ (S : SchemaData). S.typeside) (c.behind-mapping.view_is ∙ c.deref.ensures) ∙ ap (λ (G : MappingData). G.target.typeside) c.mapping.view_is in
     let presentation : IsPresentation F.target (sigma F P) =
     sigma-is_presentation F c.is_well_sorted.ensures P (subst (λ (S : SchemaData). IsPresentation S P) c.requires.over c.is_instance.ensures.presented) short in
-    subst (λ (T : TypesideData). is_named_con T c.in-Err-Inconsistent.least ≡ true) (sym typeside)
-    (constants_within F.target (sigma F P) c.is_well_sorted.ensures.target presentation c.in-Err-Inconsistent.least c.in-Err-Inconsistent.greater clash).0
+    subst (λ (d : Con). is_named_con c.deref-in-Err-Inconsistent.result.now d ≡ true) (sym c.in-Err-Inconsistent.least-is)
+    (subst (λ (T : TypesideData). is_named_con T c.in-Err-Inconsistent.least ≡ true) (sym typeside)
+    (constants_within F.target (sigma F P) c.is_well_sorted.ensures.target presentation c.in-Err-Inconsistent.least c.in-Err-Inconsistent.greater clash).0)
 
 pub clash-requires-clause-greater : goal.clash-requires-clause-greater
 clash-requires-clause-greater c =
@@ -52,8 +64,9 @@ clash-requires-clause-greater c =
     c.deref-in-Err-Inconsistent.ensures ∙ ap (λ (S : SchemaData). S.typeside) (c.behind-mapping.view_is ∙ c.deref.ensures) ∙ ap (λ (G : MappingData). G.target.typeside) c.mapping.view_is in
     let presentation : IsPresentation F.target (sigma F P) =
     sigma-is_presentation F c.is_well_sorted.ensures P (subst (λ (S : SchemaData). IsPresentation S P) c.requires.over c.is_instance.ensures.presented) short in
-    subst (λ (T : TypesideData). is_named_con T c.in-Err-Inconsistent.greater ≡ true) (sym typeside)
-    (constants_within F.target (sigma F P) c.is_well_sorted.ensures.target presentation c.in-Err-Inconsistent.least c.in-Err-Inconsistent.greater clash).1
+    subst (λ (d : Con). is_named_con c.deref-in-Err-Inconsistent.result.now d ≡ true) (sym c.in-Err-Inconsistent.greater-is)
+    (subst (λ (T : TypesideData). is_named_con T c.in-Err-Inconsistent.greater ≡ true) (sym typeside)
+    (constants_within F.target (sigma F P) c.is_well_sorted.ensures.target presentation c.in-Err-Inconsistent.least c.in-Err-Inconsistent.greater clash).1)
 
 pub returns-in-Err-Inconsistent-clause-withholds : goal.returns-in-Err-Inconsistent-clause-withholds
 returns-in-Err-Inconsistent-clause-withholds c =
@@ -65,4 +78,4 @@ returns-in-Err-Inconsistent-clause-withholds c =
     let typeside : c.deref-in-Err-Inconsistent.result.now ≡ F.target.typeside =
     c.deref-in-Err-Inconsistent.ensures ∙ ap (λ (S : SchemaData). S.typeside) (c.behind-mapping.view_is ∙ c.deref.ensures) ∙ ap (λ (G : MappingData). G.target.typeside) c.mapping.view_is in
     withholds_moved c.args.depth c.args.place c.args.name F P c.in-Err-Inconsistent.least c.in-Err-Inconsistent.greater c.clash.result short clash
-    (subst (λ (T : TypesideData). TellsConstants c.args.place (value_text T (Const c.in-Err-Inconsistent.least)) (value_text T (Const c.in-Err-Inconsistent.greater)) c.clash.result) typeside c.clash.ensures)
+    (told_of c.args.place c.deref-in-Err-Inconsistent.result.now F.target.typeside _ c.in-Err-Inconsistent.least _ c.in-Err-Inconsistent.greater c.clash.result typeside c.in-Err-Inconsistent.least-is c.in-Err-Inconsistent.greater-is c.clash.ensures)
