@@ -1,3 +1,4 @@
 mod Gives
 mod Judging
 mod Answered
+mod OneTranscript

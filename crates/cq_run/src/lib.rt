@@ -3,6 +3,7 @@
 
 mod answer;
 mod judge;
+pub mod laws;
 mod status;
 mod top;
 mod words;
