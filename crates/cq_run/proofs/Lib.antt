@@ -3,3 +3,4 @@ mod Gives
 mod Complete
 mod Judging
 mod Answered
+mod OneTranscript

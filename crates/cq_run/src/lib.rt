@@ -4,6 +4,7 @@
 mod answer;
 mod choice;
 mod judge;
+pub mod laws;
 mod order;
 mod output;
 mod status;
