@@ -3,6 +3,7 @@
 
 mod answer;
 mod choice;
+mod files;
 mod judge;
 mod order;
 mod output;
