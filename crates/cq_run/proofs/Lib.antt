@@ -1,4 +1,5 @@
 mod Kept
+mod Filed
 mod Gives
 mod Complete
 mod Judging

@@ -3,6 +3,7 @@
 
 mod answer;
 mod choice;
+mod files;
 mod judge;
 pub mod laws;
 mod order;
