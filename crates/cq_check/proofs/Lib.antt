@@ -9,7 +9,6 @@ pub mod Pushed
 pub mod Listed
 pub mod Leaves
 pub mod OneValue
-pub mod PlainValues
 pub mod Sides
 pub mod Depths
 pub mod Duties

@@ -10,6 +10,7 @@ use crate::closing::are_equal;
 use cq_rows::{RowsRefusal, saturate};
 use cq_theory::{Equation, Presentation, Schema};
 use std::alloc::Global;
+use std::rc::Rc;
 
 /// Whether an equation is derivable.
 #[derive(Clone, Copy, Debug, PartialEq, Eq)]
@@ -61,10 +62,8 @@ fn verdict_at(
     Ok(None)
 }
 
-/// Whether an equation is derivable from a presentation, by the depths from 0 up to the given one, which is at most 64. At each depth the rows
-/// of the presentation are made, and the sides are equal if they are so in the closure of all equations of which the paths can be traced (Nelson
-/// and Oppen, Fast Decision Procedures Based on Congruence Closure, 1980). The answer is No where all cells of the rows are filled besides.
-pub fn equal(
+/// The verdict by the depths from 0 up to the given one.
+pub(crate) fn verdict_up_to(
     alloc: Global,
     schema: &Schema,
     presentation: &Presentation,
@@ -87,4 +86,24 @@ pub fn equal(
         }
     }
     Err(EqualRefusal::Depth)
+}
+
+/// Whether an equation is derivable from a presentation, by the depths from 0 up to the given one, which is at most 64. At each depth the rows
+/// of the presentation are made, and the sides are equal if they are so in the closure of all equations of which the paths can be traced (Nelson
+/// and Oppen, Fast Decision Procedures Based on Congruence Closure, 1980). The answer is No where all cells of the rows are filled besides.
+pub fn equal(
+    alloc: Global,
+    schema: Rc<Schema>,
+    presentation: &Presentation,
+    depth: u32,
+    equation: &Equation,
+) -> Result<Verdict, EqualRefusal>
+    requires presentation { IsPresentation schema.value presentation.now }
+    requires sorted { IsWellSorted schema.value presentation.now equation.now }
+    requires depth { depth ≤ 64 }
+    ensures answer { IfOk result (IsAnswer schema.value presentation.now equation.now) }
+    ensures deep { result ≡ Err Depth → IsTooDeep schema.value presentation.now equation.now depth }
+    ensures many { result ≡ Err TooManyRows → IsTooWide schema.value presentation.now equation.now depth }
+{
+    verdict_up_to(alloc, &schema, presentation, depth, equation)
 }

@@ -4,7 +4,7 @@ ghost use Rattle.cq_check.specs.Answers.{IsNotPreserved, IsTooDeepDuty, IsTooWid
 ghost use Rattle.cq_check.specs.declared.mappings.CheckRefusal.TheVariants.{NotPreserved, Depth, TooManyRows};
 ghost use Rattle.cq_mapping.specs.Duties.{Preserves, one_generator};
 
-use crate::equality::{EqualRefusal, Verdict, equal};
+use crate::equality::{EqualRefusal, Verdict, verdict_up_to};
 use cq_base::{Name, Seq};
 use cq_mapping::Mapping;
 use cq_theory::{Presentation, Schema, Sort};
@@ -62,7 +62,7 @@ pub fn check_mapping(alloc: Global, mapping: &Mapping, depth: u32) -> Result<(),
     for (place, duty) in duties.iter().enumerate() {
         let number = place as u64 + 1;
         let presentation = over_one(alloc, duty.schema_entity)?;
-        match equal(alloc, target(mapping), &presentation, depth, &duty.equation) {
+        match verdict_up_to(alloc, target(mapping), &presentation, depth, &duty.equation) {
             Ok(Verdict::Yes) => {}
             Ok(Verdict::No) => return Err(CheckRefusal::NotPreserved(number)),
             Err(EqualRefusal::Depth) => return Err(CheckRefusal::Depth(number)),

@@ -1,3 +1,4 @@
-//! Mappings between small schemas that are checked.
+//! Equations over small schemas, and mappings between them, that are checked.
+mod equality;
 mod given;
 mod mappings;

@@ -9,3 +9,4 @@ pub mod Following
 pub mod Unkept
 pub mod Limits
 pub mod Outlines
+pub mod OneMeaning

@@ -13,6 +13,8 @@ use Rattle.cq_syntax.specs.declared.program.Program.{Program}
 use Rattle.cq_theory.specs.declared.presentation.Presentation.{Presentation}
 use Rattle.cq_theory.specs.declared.constant.Con.{Con}
 use Rattle.cq_theory.specs.SchemaData.{SchemaData}
+use Rattle.cq_theory.specs.Schema.{IsSchema}
+use Rattle.cq_theory.specs.Presentation.{IsPresentation}
 use Rattle.cq_theory.specs.Closing.{Closes, IsInconsistent, IsInconsistentAt, IsWide}
 use Rattle.cq_theory.specs.ValueText.{value_text}
 use Rattle.cq_theory.specs.declared.value.Value.TheVariants.{Const}
@@ -28,8 +30,10 @@ use Rattle.cq_check.specs.Answers.{IsDerivedWithin, IsNotPreserved, IsTooDeepDut
 use Rattle.cq_program.specs.Parts.{typeside_count, schema_count, mapping_count, instance_count}
 use Rattle.cq_program.specs.Checks.{Meant, typeside, schema, mapping, instance, Environment, Posed, a_typeside, a_schema, a_mapping, an_identity, a_presentation, posed_by}
 
--- the listed model of a presentation over a schema, which makes no two constants equal
+-- the listed model of a presentation over a schema, both well sorted, which makes no two constants equal
 pub record IsModelOf (S : SchemaData) (P : Presentation) (i : InstanceData) : Type 0 where
+  pub schema : IsSchema S
+  pub presentation : IsPresentation S P
   pub over : i.schema ≡ S
   pub presents : i.presentation ≡ P
   pub listed : IsListed i

@@ -1,4 +1,6 @@
 //! Laws of meanings and refusals. Each is the contract of a function that does nothing.
+pub mod meanings;
+
 ghost use Rattle.std.specs.Prelude.{◌≡◌, ℕ, List};
 ghost use Rattle.cq_base.specs.declared.place.Place.{Place};
 ghost use Rattle.cq_syntax.specs.declared.program.Program.{Program};

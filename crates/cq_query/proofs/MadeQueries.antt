@@ -48,7 +48,7 @@ use Rattle.cq_query.specs.QueryData.{QueryData as Query}
 use Rattle.cq_query.specs.Groups.{positions, place_of, places}
 use Rattle.cq_query.specs.Translation.{edge_sources, variables_at, tests_at, found_term, found_terms, variables_in as variables_of, tests_in as tests_of}
 use Rattle.cq_query.specs.Duties.{frozen}
-use Rattle.cq_query.specs.IsQuery.{IsQuery, IsAttributeTerm, AreKeyTerms}
+use Rattle.cq_query.specs.IsQuery.{HasBlockTerms, IsQuery, IsAttributeTerm, AreKeyTerms}
 use Rattle.cq_query.specs.QueryParts.{first_of, variables_in, scopes_of, variables_fault, names_of, sorts_of, is_from, is_right_attribute, is_attribute, is_key, attribute_edge, key_edge, variable_sort, target_sort, clause_rule, rule_over, rule_in, gives_same, clause_fault, clauses_fault, attribute_given, assigned_given, attribute_in, assigned_in, missing_attribute, missing_variable, missing_variables, missing_attributes, missing_keys, missing_assigned, missing_in, missing_at, missing_part, scope_or_none, type_made, entity_made, test_made, test_in, tests_made, attribute_made, attribute_made_at, key_made, key_made_at, block_in, block_made, blocks_made}
 use Rattle.cq_query.proofs.Lists.{made_at}
 use Rattle.cq_query.proofs.SortedDuties.{All_in, all_flat_map}
@@ -302,6 +302,16 @@ module _ (S T : Schema) (source : IsSchema S) (target : IsSchema T) (entities : 
           let within : e < count = subst (λ k. e < k) (length-map-range_with_len block_at 0 count) (slice_get_within Q.blocks e block is) in
           subst P (sym (vars_there e within)) (some e)
 
+  block_terms : (e : ℕ) (block : Block) → slice_get Q.blocks e ≡ Some block → HasBlockTerms Q e block
+  block_terms e block at =
+      let within : e < count = subst (λ k. e < k) (length-map-range_with_len block_at 0 count) (slice_get_within Q.blocks e block at) in
+      let one : block_at e ≡ block = (let both : Some (block_at e) ≡ Some block = sym (block_there e within) ∙ at in cc) in
+      let here : HasBlockTerms Q e (block_at e) = record {
+        attributes = ap length (attributes_there e) ∙ length-map (positions (edge_sources T.attributes) e) (attribute_made S T scopes clauses);
+        keys = ap length (keys_there e) ∙ length-map (positions (edge_sources T.keys) e) (key_made S T scopes clauses);
+      } in
+      subst (HasBlockTerms Q e) one here
+
   few_distinct : (e : ℕ) → AreDistinct (names_of (vars e)) × (length (names_of (vars e)) ≤ 16000000)
   few_distinct e = variables_whole S entities e m parts right
 
@@ -467,6 +477,7 @@ module _ (S T : Schema) (source : IsSchema S) (target : IsSchema T) (entities : 
     target = target;
     typeside = typeside;
     blocks = length-map-range_with_len block_at 0 count;
+    each_block = block_terms;
     each_frozen = λ e within. subst (IsPresentation S) (sym (frozen_there e within)) (presentation e within);
     distinct = each_variables (λ l. AreDistinct (map (λ (v : Name × ℕ). v.0) l)) empty_distinct (λ e. (few_distinct e).0);
     few = each_variables (λ l. length l ≤ 16000000) (omega arith) (λ e. omega (arith, (few_distinct e).1, length-map (vars e) (λ (v : Name × ℕ). v.0)));

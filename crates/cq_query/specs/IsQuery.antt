@@ -11,7 +11,9 @@ use Rattle.cq_theory.specs.Schema.{IsSchema}
 use Rattle.cq_theory.specs.Sorts.{entity_of, type_of}
 use Rattle.cq_theory.specs.Presentation.{IsPresentation}
 use Rattle.cq_query.specs.QueryData.{QueryData as Query}
-use Rattle.cq_query.specs.Translation.{variables_at, found_terms, found_term}
+use Rattle.cq_query.specs.Translation.{variables_at, key_sources, attribute_sources, found_terms, found_term}
+use Rattle.cq_query.specs.Groups.{positions}
+use Rattle.cq_query.specs.declared.query.Block.{Block}
 use Rattle.cq_query.specs.Duties.{frozen}
 
 -- the term of an attribute is there, has the attribute's type over the variables of its entity's block, and at most 1,024 symbols
@@ -30,13 +32,19 @@ pub record AreKeyTerms (Q : Query) (k : ℕ) (edge : Edge) : Type 0 where
   pub sorted : (n : ℕ) (t : EntTerm) (v : Name × ℕ) → slice_get terms n ≡ Some t → slice_get (variables_at Q edge.to) n ≡ Some v
       → (entity_of Q.source (frozen Q edge.from).generators t ≡ Some v.1) × (ent.symbols_of t ≤ 1024)
 
+-- the block has as many terms as attributes, and as many lists of terms as foreign keys, begin at the entity
+pub record HasBlockTerms (Q : Query) (entity : ℕ) (block : Block) : Type 0 where
+  pub attributes : length block.attributes ≡ length (positions (attribute_sources Q) entity)
+  pub keys : length block.keys ≡ length (positions (key_sources Q) entity)
+
 -- Two schemas over one typeside; a block for each entity of the target, whose variables have names of their own and make a
--- presentation over the source with its where equations; a term for each attribute and terms for each key of the target.
+-- presentation over the source with its where equations; a term for each attribute and terms for each key of the target, and no others.
 pub record IsQuery (Q : Query) : Type 0 where
   pub source : IsSchema Q.source
   pub target : IsSchema Q.target
   pub typeside : Q.source.typeside ≡ Q.target.typeside
   pub blocks : length Q.blocks ≡ length Q.target.entities
+  pub each_block : (entity : ℕ) (block : Block) → slice_get Q.blocks entity ≡ Some block → HasBlockTerms Q entity block
   pub each_frozen : (entity : ℕ) → entity < length Q.target.entities → IsPresentation Q.source (frozen Q entity)
   pub distinct : (entity : ℕ) → AreDistinct (map (λ v. v.0) (variables_at Q entity))
   pub few : (entity : ℕ) → length (variables_at Q entity) ≤ 16000000

@@ -1,5 +1,5 @@
 -- The part of a schema and a presentation that speaks of entity terms.
-use Rattle.std.specs.Prelude.{ℕ, List, Option, Some, None, length, map}
+use Rattle.std.specs.Prelude.{ℕ, Option, Some, None, length, map}
 use Rattle.cq_base.specs.declared.name.Name.{Name}
 use Rattle.cq_theory.specs.declared.presentation.Sort.{Sort}
 use Rattle.cq_theory.specs.declared.presentation.Sort.TheVariants.{Plain, Entity}

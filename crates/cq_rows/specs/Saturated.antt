@@ -1,9 +1,8 @@
 -- What tables say of a presentation: the rows of its terms, and which equations hold at them.
-use Rattle.std.specs.Prelude.{◌≡◌, ℕ, ◌-◌, ◌^◌, ◌<◌, ◌≤◌, true, List, length, Option, Some, IsSome, slice_get, slice_index}
-use Rattle.cq_tables.specs.Content.{Content, live_of, trace_of}
+use Rattle.std.specs.Prelude.{◌≡◌, ℕ, ◌-◌, ◌^◌, ◌≤◌, true, List, length, Some, IsSome, slice_get, slice_index}
+use Rattle.cq_tables.specs.Content.{Content, live_of}
 use Rattle.cq_tables.specs.Content.{entity_of as row_entity}
 use Rattle.cq_theory.specs.declared.presentation.Equation.TheVariants.{Ent as EntEquation}
-use Rattle.cq_theory.specs.declared.presentation.Sort.TheVariants.{Plain, Entity}
 use Rattle.cq_theory.specs.declared.presentation.Presentation.{Presentation}
 use Rattle.cq_theory.specs.declared.schema.PathEq.{PathEq}
 use Rattle.cq_theory.specs.SchemaData.{SchemaData as Schema}

@@ -1,11 +1,12 @@
 //! Schemas and mappings from lists of words.
 ghost use Rattle.std.specs.Prelude.{◌≡◌, IfOk};
+ghost use Rattle.cq_theory.specs.Presentation.{IsPresentation};
 
 use cq_base::{Name, Raw, Seq};
 use cq_mapping::Mapping;
 use cq_theory::{
-    ArrowImage, ArrowPart, ArrowRefusal, MappingParts, ObsPart, Schema, SchemaParts, TheoryRefusal,
-    Typeside, TypesideParts,
+    ArrowImage, ArrowPart, ArrowRefusal, MappingParts, ObsPart, Presentation, PresentationParts,
+    Schema, SchemaParts, TheoryRefusal, Typeside, TypesideParts,
 };
 use std::alloc::{AllocError, Global};
 use std::rc::Rc;
@@ -145,7 +146,7 @@ fn new_typeside(alloc: Global, parts: TypesideParts) -> Result<Typeside, TheoryR
 }
 
 /// An open type with two constants and a function.
-fn typeside(alloc: Global) -> Result<Rc<Typeside>, Fail> {
+pub fn typeside(alloc: Global) -> Result<Rc<Typeside>, Fail> {
     let parts = TypesideParts {
         types: names(alloc, &["n"])?,
         literals: Some(name(alloc, "n")?),
@@ -182,12 +183,51 @@ fn schema_parts(alloc: Global, shape: &Shape) -> Result<SchemaParts, Fail> {
     })
 }
 
-fn schema(alloc: Global, typeside: Rc<Typeside>, shape: &Shape) -> Result<Rc<Schema>, Fail>
+pub fn schema(alloc: Global, typeside: Rc<Typeside>, shape: &Shape) -> Result<Rc<Schema>, Fail>
     ensures { IfOk result (λ made. made.value.typeside ≡ typeside.value) }
 {
     let parts = schema_parts(alloc, shape)?;
     let made = new_schema(alloc, typeside, parts)?;
     Ok(Rc::new(alloc, made)?)
+}
+
+fn equations(alloc: Global, texts: &[(Words, Words)]) -> Result<Seq<(Raw, Raw)>, Fail> {
+    let mut equations = Vec::new(alloc);
+    for (left, right) in texts {
+        equations.push((term(alloc, left)?, term(alloc, right)?))?;
+    }
+    Ok(Seq::from_vec(equations))
+}
+
+/// The presentation of these parts, if they are few.
+fn new_presentation(
+    alloc: Global,
+    schema: &Schema,
+    parts: PresentationParts,
+) -> Result<Presentation, TheoryRefusal>
+    ensures { IfOk result (λ made. IsPresentation schema.now made) }
+{
+    if parts.generators.len() > 9 || parts.equations.len() > 9 {
+        return Err(TheoryRefusal::Memory);
+    }
+    Presentation::new(alloc, schema, parts)
+}
+
+/// A presentation by generators, each with its sort, and equations.
+pub fn presentation(
+    alloc: Global,
+    schema: &Schema,
+    generators: &[(&str, &str)],
+    texts: &[(Words, Words)],
+) -> Result<Presentation, Fail>
+    ensures { IfOk result (λ made. IsPresentation schema.now made) }
+{
+    let parts = PresentationParts {
+        generators: pairs(alloc, generators)?,
+        equations: equations(alloc, texts)?,
+    };
+    let made = new_presentation(alloc, schema, parts)?;
+    Ok(made)
 }
 
 /// The mapping of these parts, if they are few.

@@ -2,14 +2,12 @@
 ghost use Rattle.std.specs.Prelude.{◌≡◌, IfOk};
 ghost use Rattle.cq_theory.specs.Presentation.{IsPresentation};
 
-use super::given::{
-    ENTITIES, SOURCE, Shape, TARGET, mapping, name, pairs, schema, term, typeside,
-};
+use super::given::{ENTITIES, SOURCE, Shape, TARGET, mapping, name, pairs, schema, term, typeside};
 use crate::{Duty, Mapping};
 use cq_base::{Raw, Seq};
 use cq_theory::{
-    Con, EntTerm, Equation, Presentation, PresentationParts, Schema, SizeRefusal, Sort, TheoryRefusal,
-    TypeTerm,
+    Con, EntTerm, Equation, Presentation, PresentationParts, Schema, SizeRefusal, Sort,
+    TheoryRefusal, TypeTerm,
 };
 use std::alloc::{AllocError, Global};
 use std::test::Fail;

@@ -139,7 +139,11 @@ static IN_TEXTS: [Case; 6] = [
         "E w lambda . '=Bo size/1 succ/1*1023",
         "Reserved 2",
     ),
-    (ENTITIES, "E w lambda . 'Bo size/1 succ/1*1023", "TooLarge 2"),
+    (
+        ENTITIES,
+        "E w lambda . 'Bo size/1 succ/1*1023",
+        "TooLarge 2",
+    ),
 ];
 
 /// The refusal of a call, or Ok.

@@ -15,8 +15,8 @@ use Rattle.cq_check.proofs.mappings.check_mapping.Goals as goal
 pub loop-place-init : goal.loop-place-init
 loop-place-init c = λ i d less at. absurd (omega (arith, less))
 
-pub equal-requires-clause-presentation : goal.equal-requires-clause-presentation
-equal-requires-clause-presentation c =
+pub verdict_up_to-requires-clause-presentation : goal.verdict_up_to-requires-clause-presentation
+verdict_up_to-requires-clause-presentation c =
     let F : Mapping = c.args.mapping.now in
     let duty : Duty = c.duty-item.result in
     let place : ℕ = c.loop-place.place in
@@ -24,8 +24,8 @@ equal-requires-clause-presentation c =
     item_at (duties_of F) c.deref-duty-items.result.now place duty (c.deref-duty-items.ensures.value ∙ c.in_ok-duties.ensures) c.loop-place-test.true c.duty-item.is in
     subst (λ (x : Schema × Presentation). IsPresentation x.0 x.1) (λ i. (sym c.target.ensures i, sym c.in_ok-presentation.ensures i)) (duty_presented F c.is_well_sorted.ensures place duty found)
 
-pub equal-requires-clause-sorted : goal.equal-requires-clause-sorted
-equal-requires-clause-sorted c =
+pub verdict_up_to-requires-clause-sorted : goal.verdict_up_to-requires-clause-sorted
+verdict_up_to-requires-clause-sorted c =
     let F : Mapping = c.args.mapping.now in
     let duty : Duty = c.duty-item.result in
     let place : ℕ = c.loop-place.place in

@@ -1,7 +1,9 @@
-use Rattle.std.proofs.Common.{rules, ℕ, List, [], ◌+◌, ◌∙◌, length, take, sym, ap, subst}
+use Rattle.std.proofs.Common.{rules, ℕ, List, [], ◌∷◌, ◌++◌, ◌+◌, ◌∙◌, length, take, sym, ap, subst}
 use Rattle.std.proofs.lemmas.List.{take_all}
 use Rattle.cq_flat.specs.declared.node.Node.{Node}
+use Rattle.cq_flat.specs.declared.node.Node.TheVariants as node
 use Rattle.cq_tables.specs.Content.{Content}
+use Rattle.cq_theory.specs.declared.constant.Con.{Con}
 use Rattle.cq_theory.specs.declared.term.TypeTerm.{TypeTerm, the_lemmas}
 use Rattle.cq_check.proofs.Lists.{item_at}
 use Rattle.cq_check.proofs.Pushed.{ArePushed, no_arguments, next_argument, pushed_generator, pushed_constant, pushed_cell, pushed_function, pushed_no_function}
@@ -54,7 +56,8 @@ returns-in-Gen t c =
 pub returns-in_ok-place-in-Const : goal.returns-in_ok-place-in-Const
 returns-in_ok-place-in-Const t c =
     pushed_constant c.args.tables.now c.args.rows.now c.args.nodes.now.items c.push_node.new.nodes.items c.in-Const.constant c.in_ok-place-in-Const.place c.args.term.now c.in-Const.is
-    c.in_ok-place-in-Const.ensures.place c.in_ok-place-in-Const.ensures.added
+    c.in_ok-place-in-Const.ensures.place
+    (c.in_ok-place-in-Const.ensures.added ∙ ap (λ (k : Con). c.args.nodes.now.items ++ node.Const k ∷ []) c.in_ok-clone-in-Const.ensures.cases)
 
 pub returns-in_ok-place-in-Att : goal.returns-in_ok-place-in-Att
 returns-in_ok-place-in-Att t c =

@@ -1,0 +1,56 @@
+-- A program means one list of instances.
+use Rattle.std.proofs.Common.{◌≡◌, List, [], ◌∷◌, ◌++◌, Ok, sym, ap, subst, ◌∙◌}
+use Rattle.std.specs.List.{filter_map}
+use Rattle.cq_syntax.specs.declared.program.Decl.{Decl}
+use Rattle.cq_syntax.specs.declared.program.Program.{Program}
+use Rattle.cq_theory.specs.declared.presentation.Presentation.{Presentation}
+use Rattle.cq_theory.specs.SchemaData.{SchemaData}
+use Rattle.cq_theory.specs.Listed.{Lists}
+use Rattle.cq_theory.proofs.OneModel.{same_models, same_assignments, same_lists_of_names}
+use Rattle.cq_model.specs.InstanceData.{InstanceData}
+use Rattle.cq_program.specs.Checks.{Meant, instance, Environment, Posed, a_typeside, a_schema, a_mapping, an_identity, a_presentation}
+use Rattle.cq_program.specs.Program.{IsModelOf, Stands, Declares, Follow, Listing, listing_of, Means}
+
+-- a model is listed for the presentation itself
+abbrev HasNames : SchemaData → Presentation → InstanceData → Type 0
+HasNames S P i = (lists : Lists S P i.tables i.assignment) × (lists.names ≡ i.names)
+
+has_names : (S : SchemaData) (P : Presentation) (i : InstanceData) → IsModelOf S P i → HasNames S P i
+has_names S P i h =
+    subst (λ (x : SchemaData × Presentation). HasNames x.0 x.1 i) (λ k. (h.over k, h.presents k)) (h.listed.lists, h.listed.least)
+
+-- two models of one presentation are one
+pub one_model_of : (S : SchemaData) (P : Presentation) (i j : InstanceData) → IsModelOf S P i → IsModelOf S P j → i ≡ j
+one_model_of S P i j h g =
+    let left = has_names S P i h in
+    let right = has_names S P j g in
+    let schemas : i.schema ≡ j.schema = h.over ∙ sym g.over in
+    let presentations : i.presentation ≡ j.presentation = h.presents ∙ sym g.presents in
+    let names : i.names ≡ j.names = sym left.1 ∙ same_lists_of_names S P h.schema h.presentation i.tables j.tables i.assignment j.assignment left.0 right.0 ∙ right.1 in
+    let tables : i.tables ≡ j.tables = same_models S P h.schema h.presentation i.tables j.tables i.assignment j.assignment left.0 right.0 in
+    let assignments : i.assignment ≡ j.assignment = same_assignments S P h.schema h.presentation i.tables j.tables i.assignment j.assignment left.0 right.0 in
+    λ k. record { schema = schemas k; presentation = presentations k; names = names k; tables = tables k; assignment = assignments k }
+
+-- what is posed stands for one thing
+stands_one : (posed : Posed) (m n : Meant) → Stands posed m → Stands posed n → m ≡ n
+stands_one (a_typeside T) m n h g = h ∙ sym g
+stands_one (a_schema S) m n h g = h ∙ sym g
+stands_one (a_mapping source target F) m n h g = h.0 ∙ sym g.0
+stands_one (an_identity name S) m n h g = h ∙ sym g
+stands_one (a_presentation name S P) m n h g = h.1 ∙ ap (instance name) (one_model_of S P h.0 g.0 h.2 g.2) ∙ sym g.1
+
+declares_one : (env : Environment) (d : Decl) (m n : Meant) → Declares env d m → Declares env d n → m ≡ n
+declares_one env d m n h g =
+    let both : Ok h.posed ≡ Ok g.posed = sym h.checked ∙ g.checked in
+    let one : h.posed ≡ g.posed = cc in
+    stands_one g.posed m n (subst (λ (posed : Posed). Stands posed m) one h.stands) g.stands
+
+-- declarations lead to one environment
+follow_one : (ds : List Decl) (env after other : Environment) → Follow env ds after → Follow env ds other → after ≡ other
+follow_one [] env after other h g = h ∙ sym g
+follow_one (d ∷ ds) env after other h g =
+    let one : h.0 ≡ g.0 = declares_one env d h.0 g.0 h.1 g.1 in
+    follow_one ds (env ++ (d.name, g.0) ∷ []) after other (subst (λ (m : Meant). Follow (env ++ (d.name, m) ∷ []) ds after) one h.2) g.2
+
+pub one_meaning : (program : Program) (L M : List Listing) → Means program L → Means program M → L ≡ M
+one_meaning program L M h g = h.listed ∙ ap (filter_map listing_of) (follow_one program.decls [] h.env g.env h.follow g.follow) ∙ sym g.listed
