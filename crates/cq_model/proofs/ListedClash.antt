@@ -1,7 +1,6 @@
 -- Two equal constants among the nodes are the least ones that the presentation makes equal.
-use Rattle.std.proofs.Common.{ℕ, zero, suc, List, [], ◌∷◌, Some, ◌≡◌, ◌<◌, ◌⊎◌, inl, inr, length, sym, ap, subst, ◌∙◌, arith}
+use Rattle.std.proofs.Common.{ℕ, zero, suc, List, [], ◌∷◌, Some, ◌≡◌, ◌<◌, ◌⊎◌, inl, inr, length, sym, ap, subst, ◌∙◌}
 use Rattle.std.specs.Prelude.{slice_get}
-use Rattle.std.proofs.lemmas.Bool.{cases_eq}
 use Rattle.std.proofs.lemmas.Option.{MatchOption-at_some, slice_get_within}
 use Rattle.cq_tables.specs.Content.{Content}
 use Rattle.cq_flat.specs.declared.node.Node.{Node}

@@ -2,12 +2,10 @@
 use Rattle.std.proofs.Common.{ℕ, zero, suc, true, List, [], ◌∷◌, ◌++◌, Option, Some, ◌≡◌, ◌<◌, ◌≤◌, map, length, get_or, Result, Ok, Err, refl, sym, ap, subst, ◌∙◌, arith}
 use Rattle.std.specs.Prelude.{slice_get, slice_index, option_and_then, IsSome, IfOk, OnOk}
 use Rattle.std.proofs.lemmas.Option.{same_Some, option_and_then_some, slice_get_within, slice_get-get_or}
-use Rattle.cq_base.specs.declared.name.Name.{Name}
 use Rattle.cq_flat.specs.declared.node.Node.TheVariants as node
 use Rattle.cq_tables.specs.Content.{Content, live_of, end_of, keys_of}
 use Rattle.cq_tables.specs.Content.{entity_of as row_entity}
 use Rattle.cq_rows.specs.Rows.{row_of_term}
-use Rattle.cq_rows.proofs.Bridge.{map_some}
 use Rattle.cq_theory.specs.Typeside.{constant_type}
 use Rattle.cq_theory.specs.declared.constant.Con.{Con}
 use Rattle.cq_theory.specs.SchemaData.{SchemaData as Schema}

@@ -42,6 +42,7 @@ one_text (run file depth only) None text other there is =
 one_text (run file depth only) (Some told) text other there is =
     let tells = there.tells in
     let found = there.found in
+    let same = is.found in
     cc
 one_text (example size) files text other there is = absurd there
 one_text (explain file instance left right depth) files text other there is = absurd there

@@ -1,5 +1,7 @@
 mod Kept
+mod Filed
 mod Gives
 mod Complete
 mod Judging
 mod Answered
+mod OneTranscript

@@ -26,9 +26,14 @@ use Rattle.cq_words.specs.Ask.{Ask, run, example, explain}
 abbrev pub file_limit : ℕ
 file_limit = 8388608
 
--- the text of a run is that of its file, where the folder tells its files
+-- the text of a file: the one under its name, where the folder tells its files, and no longer than the limit
+pub record IsTextIn (file : List ℕ) (files : Option (List File)) (text : List ℕ) : Type 0 where
+  pub found : IfSome files (λ told. find_file file told ≡ Some text)
+  pub short : length text ≤ file_limit
+
+-- the text of a run is that of its file
 abbrev pub IsTextOf : Ask → Option (List File) → List ℕ → Type 0
-IsTextOf (run file depth only) files text = IfSome files (λ told. find_file file told ≡ Some text)
+IsTextOf (run file depth only) files text = IsTextIn file files text
 IsTextOf (example size) files text = ⊥
 IsTextOf (explain file instance left right depth) files text = ⊥
 

@@ -1,6 +1,6 @@
 //! Runs with exporters.
 use crate::{Status, run};
-use cq_io::{Exporter, Format, MemExporter, MemFolder, MemSink};
+use cq_io::{DirExporter, DirFolder, Exporter, Folder, Format, MemExporter, MemFolder, MemSink};
 use std::alloc::{AllocError, Global};
 use std::process::Abort;
 use std::test::Fail;
@@ -10,13 +10,24 @@ schema S = literal : T { entities E attributes x : E -> s }
 instance I = literal : S { generators a b : E }
 ";
 
-/// An exporter of each format, of which none fails.
-fn both(alloc: Global) -> Result<Vec<Box<dyn Exporter>>, AllocError> {
+const LISTED: &str = "instance I : S
+entity E 2
+1 a x=?0
+2 b x=?1
+nulls 2
+?0 s
+?1 s
+entries 0
+end
+";
+
+/// An exporter of each format, whose puts with these numbers fail.
+fn both(alloc: Global, csv: &[u64], cql: &[u64]) -> Result<Vec<Box<dyn Exporter>>, AllocError> {
+    let csv = MemExporter::new(alloc, Format::Csv, Vec::from_slice(alloc, csv)?)?;
+    let cql = MemExporter::new(alloc, Format::Cql, Vec::from_slice(alloc, cql)?)?;
     let mut exporters: Vec<Box<dyn Exporter>> = Vec::new(alloc);
-    for format in [Format::Csv, Format::Cql] {
-        let exporter = MemExporter::new(alloc, format, Vec::new(alloc))?;
-        exporters.push(Box::new(alloc, exporter)?)?;
-    }
+    exporters.push(Box::new(alloc, csv)?)?;
+    exporters.push(Box::new(alloc, cql)?)?;
     Ok(exporters)
 }
 
@@ -43,7 +54,7 @@ fn leaves(
 ) -> Result<(), AllocError> {
     let (words, mut folder) = given(alloc, line, text)?;
     let mut out = MemSink::new(alloc, Vec::new(alloc), 1000)?;
-    let mut exporters = both(alloc)?;
+    let mut exporters = both(alloc, &[], &[])?;
     let mut spoiled: Vec<Box<dyn Exporter>> = Vec::new(alloc);
     let ended = run(
         alloc,
@@ -93,5 +104,154 @@ fn the_choice_of_format(rt: HostRuntime) -> Result<(), Fail> {
         both,
     )?;
     leaves(&rt, alloc, ("example 3", FIRST), Status::Usage, both)?;
+    Ok(())
+}
+
+/// Whether the exporters have these files and no others: name by name and line by line, behind the format of each.
+fn have(exporters: &[Box<dyn Exporter>], wanted: &[(&str, &str)]) -> bool {
+    let mut rest = wanted;
+    for exporter in exporters {
+        for file in exporter.kept() {
+            let Some(((name, text), others)) = rest.split_first() else {
+                return false;
+            };
+            if file.0.as_str() != *name || file.1.as_slice() != text.as_bytes() {
+                return false;
+            }
+            rest = others;
+        }
+    }
+    rest.is_empty()
+}
+
+const ROWS: (&str, &str) = ("I/E.csv", "id,x\n1,?0\n2,?1\n");
+
+const NULLS: (&str, &str) = (
+    "I/entries-2.csv",
+    "format-2,left,right\nnull,?0,s\nnull,?1,s\n",
+);
+
+const LITERAL: (&str, &str) = (
+    "I.cql",
+    "instance I = literal : S {
+generators
+g1 : E
+g2 : E
+g3 : s
+g4 : s
+equations
+x(g1) = g3
+x(g2) = g4
+}
+",
+);
+
+/// A run of the first example whose exporters fail at these puts.
+#[derive(Drop)]
+struct Failing {
+    csv: &'static [u64],
+    cql: &'static [u64],
+    status: Status,
+    exporters: &'static [(&'static str, &'static str)],
+    spoiled: &'static [(&'static str, &'static str)],
+}
+
+static FAILING: [Failing; 5] = [
+    Failing {
+        csv: &[],
+        cql: &[],
+        status: Status::Ok,
+        exporters: &[ROWS, NULLS, LITERAL],
+        spoiled: &[],
+    },
+    Failing {
+        csv: &[0],
+        cql: &[],
+        status: Status::Write,
+        exporters: &[LITERAL],
+        spoiled: &[],
+    },
+    Failing {
+        csv: &[1],
+        cql: &[],
+        status: Status::Write,
+        exporters: &[LITERAL],
+        spoiled: &[ROWS],
+    },
+    Failing {
+        csv: &[],
+        cql: &[0],
+        status: Status::Write,
+        exporters: &[ROWS, NULLS],
+        spoiled: &[],
+    },
+    Failing {
+        csv: &[1],
+        cql: &[0],
+        status: Status::Write,
+        exporters: &[],
+        spoiled: &[ROWS],
+    },
+];
+
+/// Whether a run with a sink of this room gives what is wanted, with this transcript.
+fn gives(alloc: Global, wanted: &Failing, room: u64, written: &str) -> Result<bool, AllocError> {
+    let (words, mut folder) = given(alloc, "run p.cql", FIRST)?;
+    let mut out = MemSink::new(alloc, Vec::new(alloc), room)?;
+    let mut exporters = both(alloc, wanted.csv, wanted.cql)?;
+    let mut spoiled: Vec<Box<dyn Exporter>> = Vec::new(alloc);
+    let ended = run(
+        alloc,
+        words.as_slice(),
+        &mut folder,
+        &mut exporters,
+        &mut spoiled,
+        &mut out,
+    );
+    Ok(
+        ended == wanted.status
+            && out.bytes() == written.as_bytes()
+            && have(exporters.as_slice(), wanted.exporters)
+            && have(spoiled.as_slice(), wanted.spoiled),
+    )
+}
+
+#[test]
+fn exporters_that_fail(rt: HostRuntime) -> Result<(), Fail> {
+    let alloc = rt.alloc();
+    for wanted in &FAILING {
+        assert!(rt; gives(alloc, wanted, 1000, LISTED)?);
+    }
+    let nothing = Failing {
+        csv: &[],
+        cql: &[],
+        status: Status::Write,
+        exporters: &[],
+        spoiled: &[],
+    };
+    assert!(rt; gives(alloc, &nothing, 10, "instance I")?);
+    Ok(())
+}
+
+#[test]
+fn exported_files_lie_in_a_folder(rt: HostRuntime) -> Result<(), Fail> {
+    let alloc = rt.alloc();
+    let (words, mut folder) = given(alloc, "run p.cql", FIRST)?;
+    let mut out = MemSink::new(alloc, Vec::new(alloc), 1000)?;
+    let csv = DirExporter::new(rt, alloc, Format::Csv, "out/run/csv")?;
+    let mut exporters: Vec<Box<dyn Exporter>> = Vec::new(alloc);
+    exporters.push(Box::new(alloc, csv)?)?;
+    let mut spoiled: Vec<Box<dyn Exporter>> = Vec::new(alloc);
+    let ended = run(
+        alloc,
+        words.as_slice(),
+        &mut folder,
+        &mut exporters,
+        &mut spoiled,
+        &mut out,
+    );
+    assert_eq!(rt; ended, Status::Ok);
+    let read = DirFolder::new(rt, alloc).read("out/run/csv/I/E.csv", 100)?;
+    assert!(rt; read.as_slice() == b"id,x\n1,?0\n2,?1\n".as_slice());
     Ok(())
 }

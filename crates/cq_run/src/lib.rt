@@ -3,7 +3,9 @@
 
 mod answer;
 mod choice;
+mod files;
 mod judge;
+pub mod laws;
 mod order;
 mod output;
 mod status;
@@ -14,6 +16,8 @@ pub use top::run;
 
 #[cfg(test)]
 mod exporting;
+#[cfg(test)]
+mod open_types;
 #[cfg(test)]
 mod programs;
 #[cfg(test)]

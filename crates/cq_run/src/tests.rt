@@ -6,7 +6,7 @@ use std::test::Fail;
 
 const USAGE: &str = "usage: cqlrun run FILE [--depth K] [--only csv|cql]\n";
 
-fn words(alloc: Global, texts: &[&str]) -> Result<Vec<String>, AllocError> {
+pub(crate) fn words(alloc: Global, texts: &[&str]) -> Result<Vec<String>, AllocError> {
     let mut words = Vec::new(alloc);
     for text in texts {
         words.push(String::from_str(alloc, text)?)?;
@@ -15,7 +15,7 @@ fn words(alloc: Global, texts: &[&str]) -> Result<Vec<String>, AllocError> {
 }
 
 /// A folder with one file, whose reads with these numbers fail.
-fn folder(alloc: Global, text: &str, failing: &[u64]) -> Result<MemFolder, AllocError> {
+pub(crate) fn folder(alloc: Global, text: &str, failing: &[u64]) -> Result<MemFolder, AllocError> {
     let mut files = Vec::new(alloc);
     let bytes = Vec::from_slice(alloc, text.as_bytes())?;
     files.push((String::from_str(alloc, "p.cql")?, bytes))?;
@@ -23,20 +23,25 @@ fn folder(alloc: Global, text: &str, failing: &[u64]) -> Result<MemFolder, Alloc
 }
 
 /// A run without exporters.
-fn run<F: Folder, K: Sink>(alloc: Global, words: &[String], folder: &mut F, out: &mut K) -> Status {
+pub(crate) fn run<F: Folder, K: Sink>(
+    alloc: Global,
+    words: &[String],
+    folder: &mut F,
+    out: &mut K,
+) -> Status {
     let mut exporters: Vec<Box<dyn Exporter>> = Vec::new(alloc);
     let mut spoiled: Vec<Box<dyn Exporter>> = Vec::new(alloc);
     crate::run(alloc, words, folder, &mut exporters, &mut spoiled, out)
 }
 
-struct Case {
-    words: &'static [&'static str],
-    text: &'static str,
-    status: Status,
-    written: &'static str,
+pub(crate) struct Case {
+    pub(crate) words: &'static [&'static str],
+    pub(crate) text: &'static str,
+    pub(crate) status: Status,
+    pub(crate) written: &'static str,
 }
 
-const RUN: &[&str] = &["run", "p.cql"];
+pub(crate) const RUN: &[&str] = &["run", "p.cql"];
 
 const AT_ZERO: &[&str] = &["run", "p.cql", "--depth", "0"];
 
@@ -537,7 +542,7 @@ fn each_status_with_its_line(rt: HostRuntime) -> Result<(), Fail> {
 }
 
 /// Whether a case gives its line and status, behind a first line.
-fn passes(alloc: Global, first: &str, case: &Case) -> Result<bool, AllocError> {
+pub(crate) fn passes(alloc: Global, first: &str, case: &Case) -> Result<bool, AllocError> {
     let text = format!(in alloc; "{first}{}", case.text)?;
     let mut folder = folder(alloc, text.as_str(), &[])?;
     let mut out = MemSink::new(alloc, Vec::new(alloc), 1000)?;

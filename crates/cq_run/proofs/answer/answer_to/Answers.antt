@@ -10,7 +10,8 @@ judge-requires-clause-length g c = omega (arith, c.in-Ok.ensures.limit, c.as_sli
 
 pub returns-in-Ok-clause-answers : goal.returns-in-Ok-clause-answers
 returns-in-Ok-clause-answers g c =
-    answered (ask_of c.args.order) _ _ c.in-Ok.text.items c.judge.result c.in-Ok.ensures.told
+    answered (ask_of c.args.order) _ _ c.in-Ok.text.items c.judge.result
+    (record { found = c.in-Ok.ensures.told; short = omega (arith, c.in-Ok.ensures.limit, c.in-Ok.text.ok.0) })
     (subst (λ (text : List ℕ). Judges c.args.order.depth text c.judge.result) c.as_slice.ensures.value c.judge.ensures.judges)
 
 pub returns-in-Err-Absent-clause-answers : goal.returns-in-Err-Absent-clause-answers

@@ -1,5 +1,5 @@
-use Rattle.std.proofs.Common.{ℕ, ◌≡◌, ◌<◌, sym, ap, subst, ◌∙◌}
-use Rattle.cq_theory.specs.Tables.{Assignment, count_of, row_of}
+use Rattle.std.proofs.Common.{sym, ap, subst, ◌∙◌}
+use Rattle.cq_theory.specs.Tables.{Assignment, row_of}
 use Rattle.cq_model.specs.InstanceData.{InstanceData}
 use Rattle.cq_model.specs.Terms.{IsEntTermOf}
 use Rattle.cq_model.proofs.OnWay.{ground_entity, ent_term_of}

@@ -3,7 +3,7 @@ use Rattle.std.specs.List.{flat_map}
 use Rattle.cq_io.specs.Content.{file_of}
 use Rattle.cq_program.specs.Named.{listed_as}
 use Rattle.cq_run.specs.Files.{cql_files, csv_files}
-use Rattle.cq_run.proofs.output.files.Given as goal
+use Rattle.cq_run.proofs.files.files_of.Given as goal
 
 -- the files so far
 abbrev pub invariant-loop-named : goal.invariant-loop-named

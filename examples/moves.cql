@@ -1,0 +1,34 @@
+// Customers and their accounts are two tables in the old schema and one table of persons in the new one: the mapping
+// sends both to Person, and the rule `same = Person` makes each customer and its account one row.
+typeside T = literal { types text literals text }
+
+schema Two = literal : T {
+  entities Customer Account
+  foreign_keys has : Customer -> Account
+  attributes name : Customer -> text mail : Account -> text
+}
+
+schema One = literal : T {
+  entities Person
+  foreign_keys same : Person -> Person
+  path_equations same = Person
+  attributes called reached : Person -> text
+}
+
+mapping Join = literal : Two -> One {
+  entity Customer -> Person
+    foreign_keys has -> same
+    attributes name -> called
+  entity Account -> Person
+    attributes mail -> reached
+}
+
+instance Lists = literal : Two {
+  generators c1 c2 : Customer a1 a2 : Account
+  equations
+    has(c1) = a1 name(c1) = "Ann" mail(a1) = "ann@example.org"
+    has(c2) = a2 name(c2) = "Ben"
+}
+
+instance People = sigma Join Lists
+instance Back = delta Join People
