@@ -8,5 +8,6 @@ pub mod Settled
 pub mod Following
 pub mod Unkept
 pub mod Limits
-pub mod Outlines
 pub mod OneMeaning
+pub mod Breaches
+pub mod MovedClashes

@@ -1,14 +1,18 @@
 -- A program means one list of instances.
-use Rattle.std.proofs.Common.{◌≡◌, List, [], ◌∷◌, ◌++◌, Ok, sym, ap, subst, ◌∙◌}
+use Rattle.std.proofs.Common.{◌≡◌, List, [], ◌∷◌, ◌++◌, Ok, refl, sym, ap, subst, ◌∙◌}
 use Rattle.std.specs.List.{filter_map}
+use Rattle.cq_base.specs.declared.name.Name.{Name}
 use Rattle.cq_syntax.specs.declared.program.Decl.{Decl}
 use Rattle.cq_syntax.specs.declared.program.Program.{Program}
 use Rattle.cq_theory.specs.declared.presentation.Presentation.{Presentation}
+use Rattle.cq_theory.specs.declared.term.EntTerm.{EntTerm}
 use Rattle.cq_theory.specs.SchemaData.{SchemaData}
+use Rattle.cq_theory.specs.Tables.{Tables, Assignment}
 use Rattle.cq_theory.specs.Listed.{Lists}
 use Rattle.cq_theory.proofs.OneModel.{same_models, same_assignments, same_lists_of_names}
+use Rattle.cq_mapping.specs.Images.{sigma}
 use Rattle.cq_model.specs.InstanceData.{InstanceData}
-use Rattle.cq_program.specs.Checks.{Meant, instance, Environment, Posed, a_typeside, a_schema, a_mapping, an_identity, a_presentation}
+use Rattle.cq_program.specs.Checks.{Meant, instance, Environment, Posed, a_typeside, a_schema, a_mapping, an_identity, a_presentation, a_delta, a_sigma, posed_by}
 use Rattle.cq_program.specs.Program.{IsModelOf, Stands, Declares, Follow, Listing, listing_of, Means}
 
 -- a model is listed for the presentation itself
@@ -38,15 +42,17 @@ stands_one (a_schema S) m n h g = h ∙ sym g
 stands_one (a_mapping source target F) m n h g = h.0 ∙ sym g.0
 stands_one (an_identity name S) m n h g = h ∙ sym g
 stands_one (a_presentation name S P) m n h g = h.1 ∙ ap (instance name) (one_model_of S P h.0 g.0 h.2 g.2) ∙ sym g.1
+stands_one (a_delta name F M) m n h g = h.0 ∙ sym g.0
+stands_one (a_sigma name F P) m n h g = h.1 ∙ ap (instance name) (one_model_of F.target (sigma F P) h.0 g.0 h.2 g.2) ∙ sym g.1
 
-declares_one : (env : Environment) (d : Decl) (m n : Meant) → Declares env d m → Declares env d n → m ≡ n
+pub declares_one : (env : Environment) (d : Decl) (m n : Meant) → Declares env d m → Declares env d n → m ≡ n
 declares_one env d m n h g =
     let both : Ok h.posed ≡ Ok g.posed = sym h.checked ∙ g.checked in
     let one : h.posed ≡ g.posed = cc in
     stands_one g.posed m n (subst (λ (posed : Posed). Stands posed m) one h.stands) g.stands
 
 -- declarations lead to one environment
-follow_one : (ds : List Decl) (env after other : Environment) → Follow env ds after → Follow env ds other → after ≡ other
+pub follow_one : (ds : List Decl) (env after other : Environment) → Follow env ds after → Follow env ds other → after ≡ other
 follow_one [] env after other h g = h ∙ sym g
 follow_one (d ∷ ds) env after other h g =
     let one : h.0 ≡ g.0 = declares_one env d h.0 g.0 h.1 g.1 in

@@ -1,6 +1,8 @@
 -- The first two checks of a declaration, and those of its body.
 use Rattle.std.proofs.Common.{◌≡◌, Bool, true, false, Option, Some, None, refl, ap, ◌∙◌, sym}
-use Rattle.std.specs.Prelude.{if◌then◌else◌, is_some, option_map, Err}
+use Rattle.std.specs.Prelude.{if◌then◌else◌, is_some, option_map, Ok, Err}
+use Rattle.cq_base.specs.declared.place.Place.{Place}
+use Rattle.cq_program.specs.declared.reason.Reason.{Reason}
 use Rattle.cq_syntax.specs.declared.program.Decl.{Decl}
 use Rattle.cq_program.specs.declared.reason.Reason.TheVariants.{NameTaken, NotBuilt}
 use Rattle.cq_program.specs.Checks.{Environment, Checked, Posed, meant_by, is_built, body_posed, posed_by}
@@ -30,3 +32,13 @@ name_taken env d built h = ap (after_form env d) built ∙ ap (after_name env d)
 pub posed_on : (env : Environment) (d : Decl) → is_built d.body ≡ true → is_some (meant_by env d.name) ≡ false → posed_by env d ≡ body_posed env d.place d.name d.body
 unfolding posed_by
 posed_on env d built h = ap (after_form env d) built ∙ ap (after_name env d) h
+
+fresh_at : (a b : Bool) (body : Checked Posed) (posed : Posed) (p q : Place × Reason) → (if a then (if b then Err p else body) else Err q) ≡ Ok posed → b ≡ false
+fresh_at true true body posed p q h = cc
+fresh_at true false body posed p q h = refl
+fresh_at false b body posed p q h = cc
+
+-- what is posed has a new name
+pub fresh : (env : Environment) (d : Decl) (posed : Posed) → posed_by env d ≡ Ok posed → is_some (meant_by env d.name) ≡ false
+unfolding posed_by
+fresh env d posed h = fresh_at (is_built d.body) (is_some (meant_by env d.name)) (body_posed env d.place d.name d.body) posed (d.name_place, NameTaken) (d.place, NotBuilt) h

@@ -1,14 +1,15 @@
 -- What holds of each meaning of an environment, kept as names are added.
-use Rattle.std.proofs.Common.{◌≡◌, Bool, true, false, [], ◌∷◌, ◌++◌, Option, Some, None, refl, sym, ap, ◌∙◌, subst}
-use Rattle.std.specs.Prelude.{not, if◌then◌else◌, All, Result, Ok, Err, IfOk}
+use Rattle.std.proofs.Common.{◌≡◌, ℕ, Bool, true, false, List, [], ◌∷◌, ◌++◌, ◌&&◌, Option, Some, None, refl, sym, ap, ◌∙◌, subst, eq-eqb}
+use Rattle.std.specs.Prelude.{not, if◌then◌else◌, is_some, All, Result, Ok, Err, IfOk}
 use Rattle.std.specs.Cmp.Lexicographic.{same_text}
 use Rattle.std.proofs.lemmas.List.Elements.{All-head, All-tail, All-push, All-weaker}
 use Rattle.cq_base.specs.declared.name.Name.{Name}
 use Rattle.cq_base.specs.declared.place.Place.{Place}
 use Rattle.cq_base.specs.Names.{same_name}
 use Rattle.cq_syntax.specs.declared.part.Spot.{Spot}
-use Rattle.cq_program.specs.Checks.{Meant, typeside, schema, mapping, instance, SchemaMeant, Environment, Posed, a_typeside, a_schema, a_mapping, an_identity, a_presentation, meant_by, as_schema, schema_used}
-use Rattle.cq_program.specs.Environment.{IsSettled, AreSettled}
+use Rattle.cq_theory.specs.SchemaData.{SchemaData}
+use Rattle.cq_program.specs.Checks.{Meant, typeside, schema, mapping, instance, SchemaMeant, MappingMeant, InstanceMeant, Environment, Checked, Posed, a_typeside, a_schema, a_mapping, an_identity, a_presentation, a_delta, a_sigma, meant_by, as_schema, as_mapping, as_instance, schema_used, mapping_used, instance_used}
+use Rattle.cq_program.specs.Environment.{IsPrinted, IsSettled, AreSettled, WillSettle}
 use Rattle.cq_program.specs.Program.{Stands}
 use Rattle.cq_program.specs.Posing.{IsGrounded}
 
@@ -22,19 +23,44 @@ meant_by-more [] name m last is = absurd (cc is)
 meant_by-more (entry ∷ env) name m last is =
     stays (same_name name entry.0) entry.1 m (meant_by env name) (meant_by (env ++ last ∷ []) name) is (meant_by-more env name m last)
 
+printed-more : (env : Environment) (n : Name) (S : SchemaData) (last : Name × Meant) → IsPrinted env n S → IsPrinted (env ++ last ∷ []) n S
+printed-more env n S last printed = (printed.0, meant_by-more env n (schema (record { name = n; typeside = printed.0; schema = S })) last printed.1)
+
 settled-more : (env : Environment) (last : Name × Meant) (m : Meant) → IsSettled env m → IsSettled (env ++ last ∷ []) m
 settled-more env last (typeside T) settled = tt
-settled-more env last (schema S) settled = meant_by-more env S.typeside (typeside S.schema.typeside) last settled
-settled-more env last (mapping n t F) settled = settled
-settled-more env last (instance n i) settled = tt
+settled-more env last (schema S) settled = (meant_by-more env S.typeside (typeside S.schema.typeside) last settled.0, meant_by-more env S.name (schema S) last settled.1)
+settled-more env last (mapping n t F) settled = (settled.0, printed-more env n F.source last settled.1, printed-more env t F.target last settled.2)
+settled-more env last (instance n i) settled = printed-more env n i.schema last settled
 
--- one name more, whose meaning is settled
-pub AreSettled-more : (env : Environment) (name : Name) (m : Meant) → AreSettled env → IsSettled env m → AreSettled (env ++ (name, m) ∷ [])
-AreSettled-more env name m settled last =
+same_text_itself : (name : List ℕ) → same_name name name ≡ true
+same_text_itself [] = refl
+same_text_itself (x ∷ xs) = ap (λ b. b && same_name xs xs) (eq-eqb x x refl) ∙ same_text_itself xs
+
+-- a new name stands for what is put behind the others under it
+pass_by : (b : Bool) (n m : Meant) (o p : Option Meant) → is_some (if b then Some n else o) ≡ false → (is_some o ≡ false → p ≡ Some m) → (if b then Some n else p) ≡ Some m
+pass_by true n m o p new rest = absurd (cc new)
+pass_by false n m o p new rest = rest new
+
+found_new : (env : Environment) (name : Name) (m : Meant) → is_some (meant_by env name) ≡ false → meant_by (env ++ (name, m) ∷ []) name ≡ Some m
+found_new [] name m new = ap (λ (b : Bool). if b then Some m else None) (same_text_itself name)
+found_new (entry ∷ env) name m new =
+    pass_by (same_name name entry.0) entry.1 m (meant_by env name) (meant_by (env ++ (name, m) ∷ []) name) new (found_new env name m)
+
+settles : (env : Environment) (name : Name) (m : Meant) → is_some (meant_by env name) ≡ false → WillSettle env name m → IsSettled (env ++ (name, m) ∷ []) m
+settles env name (typeside T) new will = tt
+settles env name (schema S) new will =
+    let longer : Environment = env ++ (name, schema S) ∷ [] in
+    (meant_by-more env S.typeside (typeside S.schema.typeside) (name, schema S) will.0, ap (meant_by longer) will.1 ∙ found_new env name (schema S) new)
+settles env name (mapping n t F) new will = settled-more env (name, mapping n t F) (mapping n t F) will
+settles env name (instance n i) new will = settled-more env (name, instance n i) (instance n i) will
+
+-- one name more, whose meaning will be settled
+pub AreSettled-more : (env : Environment) (name : Name) (m : Meant) → AreSettled env → is_some (meant_by env name) ≡ false → WillSettle env name m → AreSettled (env ++ (name, m) ∷ [])
+AreSettled-more env name m settled new will =
     let longer : Environment = env ++ (name, m) ∷ [] in
     All-push (λ (entry : Name × Meant). IsSettled longer entry.1) env (name, m)
     (All-weaker (λ (entry : Name × Meant). IsSettled env entry.1) (λ (entry : Name × Meant). IsSettled longer entry.1) (λ entry. settled-more env (name, m) entry.1) env settled)
-    (settled-more env (name, m) m last)
+    (settles env name m new will)
 
 -- what a name stands for is settled
 chosen : (env : Environment) (b : Bool) (n m : Meant) (o : Option Meant) → (if b then Some n else o) ≡ Some m → IsSettled env n → (o ≡ Some m → IsSettled env m) → IsSettled env m
@@ -57,6 +83,36 @@ used env S place (Some (instance n i)) is = absurd (cc is)
 pub used_settled : (env : Environment) (spot : Spot) (S : SchemaMeant) → AreSettled env → schema_used env spot ≡ Ok S → IsSettled env (schema S)
 used_settled env spot S settled is = meant_settled env env spot.name (schema S) settled (used env S spot.place (meant_by env spot.name) is)
 
+mapping_there : (F : MappingMeant) (place : Place) (o : Option Meant) → as_mapping place o ≡ Ok F → o ≡ Some (mapping F.source F.target F.mapping)
+mapping_there F place None is = absurd (cc is)
+mapping_there F place (Some (typeside T)) is = absurd (cc is)
+mapping_there F place (Some (schema S)) is = absurd (cc is)
+mapping_there F place (Some (mapping n t G)) is = same_mapping (record { source = n; target = t; mapping = G }) F is
+  where
+    same_mapping : (G F : MappingMeant) → ◌≡◌ {A = Checked MappingMeant} (Ok G) (Ok F) → Some (mapping G.source G.target G.mapping) ≡ Some (mapping F.source F.target F.mapping)
+    same_mapping G F is = let one : G ≡ F = cc in ap (λ (H : MappingMeant). Some (mapping H.source H.target H.mapping)) one
+mapping_there F place (Some (instance n i)) is = absurd (cc is)
+
+instance_there : (i : InstanceMeant) (place : Place) (o : Option Meant) → as_instance place o ≡ Ok i → o ≡ Some (instance i.schema i.instance)
+instance_there i place None is = absurd (cc is)
+instance_there i place (Some (typeside T)) is = absurd (cc is)
+instance_there i place (Some (schema S)) is = absurd (cc is)
+instance_there i place (Some (mapping n t G)) is = absurd (cc is)
+instance_there i place (Some (instance n j)) is = same_instance (record { schema = n; instance = j }) i is
+  where
+    same_instance : (j i : InstanceMeant) → ◌≡◌ {A = Checked InstanceMeant} (Ok j) (Ok i) → Some (instance j.schema j.instance) ≡ Some (instance i.schema i.instance)
+    same_instance j i is = let one : j ≡ i = cc in ap (λ (h : InstanceMeant). Some (instance h.schema h.instance)) one
+
+pub mapping_settled : (env : Environment) (spot : Spot) (F : MappingMeant) → AreSettled env → mapping_used env spot ≡ Ok F → IsSettled env (mapping F.source F.target F.mapping)
+mapping_settled env spot F settled is = meant_settled env env spot.name (mapping F.source F.target F.mapping) settled (mapping_there F spot.place (meant_by env spot.name) is)
+
+pub instance_settled : (env : Environment) (spot : Spot) (i : InstanceMeant) → AreSettled env → instance_used env spot ≡ Ok i → IsPrinted env i.schema i.instance.schema
+instance_settled env spot i settled is = meant_settled env env spot.name (instance i.schema i.instance) settled (instance_there i spot.place (meant_by env spot.name) is)
+
+-- a schema that is used stands for its printed name
+pub schema_printed : (env : Environment) (spot : Spot) (S : SchemaMeant) → AreSettled env → schema_used env spot ≡ Ok S → IsPrinted env S.name S.schema
+schema_printed env spot S settled is = (S.typeside, (used_settled env spot S settled is).1)
+
 passes : (b : Bool) → false ≡ not b → true ≡ b
 passes true h = refl
 passes false h = absurd (cc h)
@@ -64,18 +120,32 @@ passes false h = absurd (cc h)
 -- two schemas whose typesides' names are one are over one typeside
 pub one_typeside : (env : Environment) (S T : SchemaMeant) → IsSettled env (schema S) → IsSettled env (schema T) → false ≡ not (same_name S.typeside T.typeside) → S.schema.typeside ≡ T.schema.typeside
 one_typeside env S T settled settled' same =
-    let found : Some (typeside S.schema.typeside) ≡ Some (typeside T.schema.typeside) = sym settled ∙ ap (meant_by env) (same_text S.typeside T.typeside (passes (same_name S.typeside T.typeside) same)) ∙ settled' in
+    let found : Some (typeside S.schema.typeside) ≡ Some (typeside T.schema.typeside) = sym settled.0 ∙ ap (meant_by env) (same_text S.typeside T.typeside (passes (same_name S.typeside T.typeside) same)) ∙ settled'.0 in
     cc
 
--- what stands for a grounded statement is settled
-pub stands_settled : (env : Environment) (posed : Posed) (m : Meant) → IsGrounded env posed → Stands posed m → IsSettled env m
-stands_settled env (a_typeside T) m grounded stands = subst (IsSettled env) (sym stands) tt
-stands_settled env (a_schema S) m grounded stands = subst (IsSettled env) (sym stands) grounded
-stands_settled env (a_mapping n t F) m grounded stands = subst (IsSettled env) (sym stands.0) stands.1
-stands_settled env (an_identity n S) m grounded stands = subst (IsSettled env) (sym stands) grounded
-stands_settled env (a_presentation n S P) m grounded stands = subst (IsSettled env) (sym stands.1) tt
+-- one printed name stands for one schema
+pub one_printed : (env : Environment) (n m : Name) (S T : SchemaData) → IsPrinted env n S → IsPrinted env m T → false ≡ not (same_name n m) → S ≡ T
+one_printed env n m S T printed printed' same =
+    let found : Some (schema (record { name = n; typeside = printed.0; schema = S })) ≡ Some (schema (record { name = m; typeside = printed'.0; schema = T })) =
+    sym printed.1 ∙ ap (meant_by env) (same_text n m (passes (same_name n m) same)) ∙ printed'.1 in
+    same_schemas (record { name = n; typeside = printed.0; schema = S }) (record { name = m; typeside = printed'.0; schema = T }) found
+  where
+    same_schemas : (X Y : SchemaMeant) → Some (schema X) ≡ Some (schema Y) → X.schema ≡ Y.schema
+    same_schemas X Y h = let one : X ≡ Y = cc in ap (λ (Z : SchemaMeant). Z.schema) one
 
-pub settled_result : {X R : Type 0} (view : X → Meant) (env : Environment) (posed : Posed) (r : Result X R) → IsGrounded env posed
-    → IfOk r (λ x. Stands posed (view x)) → IfOk r (λ x. IsSettled env (view x))
-settled_result view env posed (Ok x) grounded stands = stands_settled env posed (view x) grounded stands
-settled_result view env posed (Err refusal) grounded stands = tt
+-- what stands for a grounded statement will be settled
+pub stands_settled : (env : Environment) (name : Name) (posed : Posed) (m : Meant) → IsGrounded env name posed → Stands posed m → WillSettle env name m
+stands_settled env name (a_typeside T) m grounded stands = subst (WillSettle env name) (sym stands) tt
+stands_settled env name (a_schema S) m grounded stands = subst (WillSettle env name) (sym stands) grounded
+stands_settled env name (a_mapping n t F) m grounded stands = subst (WillSettle env name) (sym stands.0) (stands.1, grounded.0, grounded.1)
+stands_settled env name (an_identity n S) m grounded stands = subst (WillSettle env name) (sym stands) (grounded.0, grounded.1, grounded.1)
+stands_settled env name (a_presentation n S P) m grounded stands =
+    subst (WillSettle env name) (sym stands.1) (subst (IsPrinted env n) (sym stands.2.over) grounded)
+stands_settled env name (a_delta n F M) m grounded stands = subst (WillSettle env name) (sym stands.0) grounded
+stands_settled env name (a_sigma n F P) m grounded stands =
+    subst (WillSettle env name) (sym stands.1) (subst (IsPrinted env n) (sym stands.2.over) grounded)
+
+pub settled_result : {X R : Type 0} (view : X → Meant) (env : Environment) (name : Name) (posed : Posed) (r : Result X R) → IsGrounded env name posed
+    → IfOk r (λ x. Stands posed (view x)) → IfOk r (λ x. WillSettle env name (view x))
+settled_result view env name posed (Ok x) grounded stands = stands_settled env name posed (view x) grounded stands
+settled_result view env name posed (Err refusal) grounded stands = tt

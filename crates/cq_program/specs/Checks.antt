@@ -25,6 +25,7 @@ use Rattle.cq_theory.specs.TypesideData.{TypesideData}
 use Rattle.cq_theory.specs.TypesideParts.{typeside_fault, typeside_made}
 use Rattle.cq_theory.specs.SchemaParts.{schema_fault, schema_made}
 use Rattle.cq_theory.specs.Parts.{presentation_fault, presented}
+use Rattle.cq_theory.specs.Tables.{Tables}
 use Rattle.cq_model.specs.InstanceData.{InstanceData}
 use Rattle.cq_mapping.specs.MappingData.{MappingData}
 use Rattle.cq_mapping.specs.MappingParts.{mapping_fault, mapping_made}
@@ -78,11 +79,41 @@ as_schema place (Some (schema S)) = Ok S
 as_schema place (Some (mapping n m F)) = Err (place, WrongKind)
 as_schema place (Some (instance n i)) = Err (place, WrongKind)
 
+-- A mapping, with the printed names of its source and its target; an instance, with that of its schema.
+pub record MappingMeant : Type 0 where
+  pub source : Name
+  pub target : Name
+  pub mapping : MappingData
+
+pub record InstanceMeant : Type 0 where
+  pub schema : Name
+  pub instance : InstanceData
+
+abbrev pub as_mapping : Place → Option Meant → Checked MappingMeant
+as_mapping place None = Err (place, NameUnknown)
+as_mapping place (Some (typeside T)) = Err (place, WrongKind)
+as_mapping place (Some (schema S)) = Err (place, WrongKind)
+as_mapping place (Some (mapping n m F)) = Ok (record { source = n; target = m; mapping = F })
+as_mapping place (Some (instance n i)) = Err (place, WrongKind)
+
+abbrev pub as_instance : Place → Option Meant → Checked InstanceMeant
+as_instance place None = Err (place, NameUnknown)
+as_instance place (Some (typeside T)) = Err (place, WrongKind)
+as_instance place (Some (schema S)) = Err (place, WrongKind)
+as_instance place (Some (mapping n m F)) = Err (place, WrongKind)
+as_instance place (Some (instance n i)) = Ok (record { schema = n; instance = i })
+
 abbrev pub typeside_used : Environment → Spot → Checked TypesideData
 typeside_used env spot = as_typeside spot.place (meant_by env spot.name)
 
 abbrev pub schema_used : Environment → Spot → Checked SchemaMeant
 schema_used env spot = as_schema spot.place (meant_by env spot.name)
+
+abbrev pub mapping_used : Environment → Spot → Checked MappingMeant
+mapping_used env spot = as_mapping spot.place (meant_by env spot.name)
+
+abbrev pub instance_used : Environment → Spot → Checked InstanceMeant
+instance_used env spot = as_instance spot.place (meant_by env spot.name)
 
 -- the place of part n of a declaration that stands at `place`
 abbrev pub place_of : Place → List Place → ℕ → Place
@@ -136,13 +167,16 @@ unfoldable pub presentation_given : Place → SchemaData → InstanceLit → Che
 presentation_given place S lit = of_parts (part_breach place (instance_places lit)) (fault_over S (instance_parts lit)) (made_over S (instance_parts lit))
 
 -- What a declaration poses whose names and parts break no rule: a theory; a mapping between schemas of printed names, whose duties are to be
--- derived; the identity of a schema; or a presentation over a schema, whose model is to be made.
+-- derived; the identity of a schema; a presentation over a schema, whose model is to be made; tables that are to be pulled back along a mapping, whose
+-- source has the printed name; or a presentation that is to be moved along a mapping, whose target has it.
 pub data Posed : Type 0 where
   a_typeside : TypesideData → Posed
   a_schema : SchemaMeant → Posed
   a_mapping : Name → Name → MappingData → Posed
   an_identity : Name → SchemaData → Posed
   a_presentation : Name → SchemaData → Presentation → Posed
+  a_delta : Name → MappingData → Tables → Posed
+  a_sigma : Name → MappingData → Presentation → Posed
 
 abbrev pub typeside_posed : Place → TypesideLit → Checked Posed
 typeside_posed place lit = and_then (typeside_given place lit) (λ T. Ok (a_typeside T))
@@ -174,6 +208,19 @@ instance_posed env place lit =
     and_then (presentation_given place over.schema lit) (λ P.
     Ok (a_presentation over.name over.schema P)))
 
+-- The instance is over the target of a mapping along which it is pulled back, and over the source of one along which it is moved.
+abbrev pub delta_between : Spot → MappingMeant → InstanceMeant → Checked Posed
+delta_between spot F i = if same_name F.target i.schema then Ok (a_delta F.source F.mapping i.instance.tables) else Err (spot.place, WrongSchema)
+
+abbrev pub sigma_between : Spot → MappingMeant → InstanceMeant → Checked Posed
+sigma_between spot F i = if same_name F.source i.schema then Ok (a_sigma F.target F.mapping i.instance.presentation) else Err (spot.place, WrongSchema)
+
+abbrev pub delta_posed : Environment → Spot → Spot → Checked Posed
+delta_posed env along spot = and_then (mapping_used env along) (λ F. and_then (instance_used env spot) (λ i. delta_between spot F i))
+
+abbrev pub sigma_posed : Environment → Spot → Spot → Checked Posed
+sigma_posed env along spot = and_then (mapping_used env along) (λ F. and_then (instance_used env spot) (λ i. sigma_between spot F i))
+
 -- the forms that are built
 abbrev pub is_built : Body → Bool
 is_built (Typeside lit) = true
@@ -181,6 +228,8 @@ is_built (Schema (schema_exp.Literal lit)) = true
 is_built (Mapping (mapping_exp.Literal lit)) = true
 is_built (Mapping (mapping_exp.Identity spot)) = true
 is_built (Instance (instance_exp.Literal lit)) = true
+is_built (Instance (instance_exp.Delta along spot)) = true
+is_built (Instance (instance_exp.Sigma along spot)) = true
 is_built _ = false
 
 abbrev pub body_posed : Environment → Place → Name → Body → Checked Posed
@@ -189,6 +238,8 @@ body_posed env place name (Schema (schema_exp.Literal lit)) = schema_posed env p
 body_posed env place name (Mapping (mapping_exp.Literal lit)) = mapping_posed env place lit
 body_posed env place name (Mapping (mapping_exp.Identity spot)) = identity_posed env spot
 body_posed env place name (Instance (instance_exp.Literal lit)) = instance_posed env place lit
+body_posed env place name (Instance (instance_exp.Delta along spot)) = delta_posed env along spot
+body_posed env place name (Instance (instance_exp.Sigma along spot)) = sigma_posed env along spot
 body_posed env place name _ = Err (place, NotBuilt)
 
 -- The checks of names and parts of a declaration, in their order: its form is built, its name is new, and then those of its body.

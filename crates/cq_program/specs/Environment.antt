@@ -6,11 +6,14 @@ use Rattle.cq_program.specs.declared.reason.Reason.{Reason}
 use Rattle.cq_program.specs.declared.reason.ProgramRefusal.{ProgramRefusal}
 use Rattle.cq_program.specs.declared.reason.ProgramRefusal.TheVariants as program_refusal
 use Rattle.cq_program.specs.declared.environment.NamedSchema.{NamedSchema}
+use Rattle.cq_program.specs.declared.used.NamedMapping.{NamedMapping}
+use Rattle.cq_program.specs.declared.used.NamedInstance.{NamedInstance}
 use Rattle.cq_program.specs.declared.environment.Meaning.{Meaning}
 use Rattle.cq_program.specs.declared.environment.Meaning.TheVariants as meaning
 use Rattle.cq_program.specs.declared.environment.Entry.{Entry}
 use Rattle.cq_mapping.specs.Duties.{Preserves}
-use Rattle.cq_program.specs.Checks.{Meant, typeside, schema, mapping, instance, SchemaMeant, Environment, Checked, meant_by}
+use Rattle.cq_theory.specs.SchemaData.{SchemaData}
+use Rattle.cq_program.specs.Checks.{Meant, typeside, schema, mapping, instance, SchemaMeant, MappingMeant, InstanceMeant, Environment, Checked, meant_by}
 
 abbrev pub schema_meant : NamedSchema → SchemaMeant
 schema_meant named = record { name = named.name; typeside = named.typeside; schema = named.schema.value }
@@ -27,12 +30,30 @@ entry_names entries = map (λ entry. entry.name) entries
 abbrev pub environment_of : List Entry → Environment
 environment_of entries = map (λ entry. (entry.name, meant entry.meaning)) entries
 
--- what holds of each meaning: the name of a schema's typeside stands for that typeside, and each duty of a mapping is derivable
+abbrev pub mapping_meant : NamedMapping → MappingMeant
+mapping_meant named = record { source = named.source; target = named.target; mapping = named.mapping.value }
+
+abbrev pub instance_meant : NamedInstance → InstanceMeant
+instance_meant named = record { schema = named.schema; instance = named.instance.value }
+
+-- a printed name stands for a schema, and is that under which the schema is printed
+abbrev pub IsPrinted : Environment → Name → SchemaData → Type 0
+IsPrinted env n S = (T : Name) × (meant_by env n ≡ Some (schema (record { name = n; typeside = T; schema = S })))
+
+-- What holds of each meaning: the name of a schema's typeside stands for that typeside, and its printed name for the schema; each duty of a mapping is
+-- derivable, and the printed names of its two schemas stand for them; that of an instance's schema stands for the schema.
 abbrev pub IsSettled : Environment → Meant → Type 0
 IsSettled env (typeside T) = Unit {0}
-IsSettled env (schema S) = meant_by env S.typeside ≡ Some (typeside S.schema.typeside)
-IsSettled env (mapping n t F) = Preserves F
-IsSettled env (instance n i) = Unit {0}
+IsSettled env (schema S) = (meant_by env S.typeside ≡ Some (typeside S.schema.typeside)) × (meant_by env S.name ≡ Some (schema S))
+IsSettled env (mapping n t F) = Preserves F × IsPrinted env n F.source × IsPrinted env t F.target
+IsSettled env (instance n i) = IsPrinted env n i.schema
+
+-- the same of a meaning that is to be put behind the others under a name
+abbrev pub WillSettle : Environment → Name → Meant → Type 0
+WillSettle env name (typeside T) = Unit {0}
+WillSettle env name (schema S) = (meant_by env S.typeside ≡ Some (typeside S.schema.typeside)) × (S.name ≡ name)
+WillSettle env name (mapping n t F) = IsSettled env (mapping n t F)
+WillSettle env name (instance n i) = IsSettled env (instance n i)
 
 abbrev pub AreSettled : Environment → Type 0
 AreSettled env = All (λ entry. IsSettled env entry.1) env

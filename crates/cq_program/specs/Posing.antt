@@ -1,5 +1,6 @@
 -- What the code poses, as the definitions see it.
 use Rattle.std.specs.Prelude.{◌≡◌, ◌⊎◌, ℕ, List, [], ◌∷◌, ◌++◌, Some}
+use Rattle.cq_base.specs.declared.name.Name.{Name}
 use Rattle.cq_base.specs.declared.place.Place.{Place}
 use Rattle.cq_syntax.specs.declared.program.Decl.{Decl}
 use Rattle.cq_syntax.specs.declared.program.Program.{Program}
@@ -11,8 +12,8 @@ use Rattle.cq_program.specs.declared.reason.ProgramRefusal.{ProgramRefusal}
 use Rattle.cq_program.specs.declared.reason.ProgramRefusal.TheVariants as program_refusal
 use Rattle.cq_program.specs.declared.posing.Statement.{Statement}
 use Rattle.cq_program.specs.declared.posing.Statement.TheVariants as statement
-use Rattle.cq_program.specs.Checks.{Environment, Meant, Posed, typeside, a_typeside, a_schema, a_mapping, an_identity, a_presentation, meant_by}
-use Rattle.cq_program.specs.Environment.{schema_meant}
+use Rattle.cq_program.specs.Checks.{Environment, Meant, Posed, typeside, a_typeside, a_schema, a_mapping, an_identity, a_presentation, a_delta, a_sigma, meant_by}
+use Rattle.cq_program.specs.Environment.{IsPrinted, schema_meant}
 use Rattle.cq_program.specs.Program.{Breach, Breaks, Fails, Declares, Exceeds}
 
 abbrev pub posed_as : Statement → Posed
@@ -21,22 +22,30 @@ posed_as (statement.Schema s) = a_schema (schema_meant s)
 posed_as (statement.Mapping n t F) = a_mapping n t F
 posed_as (statement.Identity n s) = an_identity n s.value
 posed_as (statement.Presentation n s P) = a_presentation n s.value P
+posed_as (statement.Delta n F i) = a_delta n F.value i.value.tables
+posed_as (statement.Sigma n F i) = a_sigma n F.value i.value.presentation
 
--- a presentation is one over its schema
+-- a presentation is one over its schema; an instance that is pulled back is over the target of a mapping that preserves equality, and one that is
+-- moved over the source
 abbrev pub IsPosed : Statement → Type 0
 IsPosed (statement.Typeside t) = Unit {0}
 IsPosed (statement.Schema s) = Unit {0}
 IsPosed (statement.Mapping n t F) = Unit {0}
 IsPosed (statement.Identity n s) = Unit {0}
 IsPosed (statement.Presentation n s P) = IsPresentation s.value P
+IsPosed (statement.Delta n F i) = Preserves F.value × (i.value.schema ≡ F.value.target)
+IsPosed (statement.Sigma n F i) = i.value.schema ≡ F.value.source
 
--- what is posed is over what its names stand for: a schema over its typeside; an identity preserves equality
-abbrev pub IsGrounded : Environment → Posed → Type 0
-IsGrounded env (a_typeside T) = Unit {0}
-IsGrounded env (a_schema S) = meant_by env S.typeside ≡ Some (typeside S.schema.typeside)
-IsGrounded env (a_mapping n t F) = Unit {0}
-IsGrounded env (an_identity n S) = Preserves (identity_of S)
-IsGrounded env (a_presentation n S P) = Unit {0}
+-- What is posed under a name is over what its names stand for: a schema over its typeside, under its printed name; all others over the schemas that
+-- their printed names stand for. An identity preserves equality.
+abbrev pub IsGrounded : Environment → Name → Posed → Type 0
+IsGrounded env name (a_typeside T) = Unit {0}
+IsGrounded env name (a_schema S) = (meant_by env S.typeside ≡ Some (typeside S.schema.typeside)) × (S.name ≡ name)
+IsGrounded env name (a_mapping n t F) = IsPrinted env n F.source × IsPrinted env t F.target
+IsGrounded env name (an_identity n S) = Preserves (identity_of S) × IsPrinted env n S
+IsGrounded env name (a_presentation n S P) = IsPrinted env n S
+IsGrounded env name (a_delta n F M) = IsPrinted env n F.source
+IsGrounded env name (a_sigma n F P) = IsPrinted env n F.target
 
 -- the refusal tells why nothing is made of what is posed, at the declaration's place, or want of memory
 abbrev pub Withholds : ℕ → Place → Posed → ProgramRefusal → Type 0

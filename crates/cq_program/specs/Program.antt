@@ -1,5 +1,5 @@
 -- What a program means, and the first rule that it breaks.
-use Rattle.std.specs.Prelude.{◌≡◌, ◌⊎◌, ℕ, ◌<◌, ◌≤◌, ◌-◌, ◌^◌, List, [], ◌∷◌, ◌++◌, Option, Some, None, Ok, Err, All, length}
+use Rattle.std.specs.Prelude.{◌≡◌, ◌⊎◌, true, false, ℕ, ◌<◌, ◌≤◌, ◌-◌, ◌^◌, List, [], ◌∷◌, ◌++◌, Option, Some, None, Ok, Err, All, length}
 use Rattle.std.specs.List.{filter_map}
 use Rattle.cq_base.specs.declared.name.Name.{Name}
 use Rattle.cq_base.specs.declared.place.Place.{Place}
@@ -21,14 +21,17 @@ use Rattle.cq_theory.specs.declared.value.Value.TheVariants.{Const}
 use Rattle.cq_model.specs.InstanceData.{InstanceData}
 use Rattle.cq_model.specs.Listed.{IsListed}
 use Rattle.cq_program.specs.declared.reason.Reason.{Reason}
-use Rattle.cq_program.specs.declared.reason.Reason.TheVariants.{NotPreserved, DutyDepth, DutyRows, Depth, TooManyRows, Inconsistent}
+use Rattle.cq_program.specs.declared.reason.Reason.TheVariants.{NotPreserved, DutyDepth, DutyRows, Depth, TooManyRows, Inconsistent, Oversized}
 use Rattle.cq_mapping.specs.MappingData.{MappingData}
 use Rattle.cq_mapping.specs.Mapping.{identity_of}
 use Rattle.cq_mapping.specs.declared.duties.Duty.{Duty}
-use Rattle.cq_mapping.specs.Duties.{Preserves, duties_of, one_generator}
+use Rattle.cq_mapping.specs.Duties.{Preserves, duties_of, one_generator, is_too_large}
+use Rattle.cq_mapping.specs.Images.{sigma}
+use Rattle.cq_mapping.specs.Moved.{delta_tables}
+use Rattle.cq_model.specs.Given.{given, is_oversized}
 use Rattle.cq_check.specs.Answers.{IsDerivedWithin, IsNotPreserved, IsTooDeepDuty, IsTooWideDuty}
 use Rattle.cq_program.specs.Parts.{typeside_count, schema_count, mapping_count, instance_count}
-use Rattle.cq_program.specs.Checks.{Meant, typeside, schema, mapping, instance, Environment, Posed, a_typeside, a_schema, a_mapping, an_identity, a_presentation, posed_by}
+use Rattle.cq_program.specs.Checks.{Meant, typeside, schema, mapping, instance, Environment, Posed, a_typeside, a_schema, a_mapping, an_identity, a_presentation, a_delta, a_sigma, posed_by}
 
 -- the listed model of a presentation over a schema, both well sorted, which makes no two constants equal
 pub record IsModelOf (S : SchemaData) (P : Presentation) (i : InstanceData) : Type 0 where
@@ -40,13 +43,16 @@ pub record IsModelOf (S : SchemaData) (P : Presentation) (i : InstanceData) : Ty
   pub consistent : IsInconsistent S P → ⊥
 
 -- What is posed is this: a theory itself, a mapping where each of its duties is derivable, a presentation by its listed model. The duties of an
--- identity are equations of its schema, and so derivable.
+-- identity are equations of its schema, and so derivable. Tables that are pulled back stand with their canonical presentation, within the limits on
+-- tables; a presentation that is moved stands by its listed model, within the limit on terms.
 abbrev pub Stands : Posed → Meant → Type 0
 Stands (a_typeside T) m = m ≡ typeside T
 Stands (a_schema S) m = m ≡ schema S
 Stands (a_mapping n t F) m = (m ≡ mapping n t F) × Preserves F
 Stands (an_identity n S) m = m ≡ mapping n n (identity_of S)
 Stands (a_presentation n S P) m = (i : InstanceData) × (m ≡ instance n i) × IsModelOf S P i
+Stands (a_delta n F M) m = (m ≡ instance n (given F.source (delta_tables F M))) × (is_oversized (delta_tables F M) ≡ false)
+Stands (a_sigma n F P) m = (i : InstanceData) × (m ≡ instance n i) × IsModelOf F.target (sigma F P) i × (is_too_large F P ≡ false)
 
 -- A presentation makes two constants equal: the least that equals a greater one and the least such greater one, whose texts the reason tells.
 pub record TellsClash (S : SchemaData) (P : Presentation) (reason : Reason) : Type 0 where
@@ -59,13 +65,19 @@ pub record TellsClash (S : SchemaData) (P : Presentation) (reason : Reason) : Ty
 abbrev pub TellsUnkept : MappingData → Reason → Type 0
 TellsUnkept F reason = (n : ℕ) × (reason ≡ NotPreserved n) × IsNotPreserved F n
 
--- what is posed breaks the rule that each duty of a mapping is derivable, or that no two constants are equal
+-- The reason tells that the limit on terms is passed, or a clash within it.
+abbrev pub TellsMoved : MappingData → Presentation → Reason → Type 0
+TellsMoved F P reason = ((reason ≡ Oversized) × (is_too_large F P ≡ true)) ⊎ ((is_too_large F P ≡ false) × TellsClash F.target (sigma F P) reason)
+
+-- what is posed breaks the rule that each duty of a mapping is derivable, that no two constants are equal, or that tables and terms keep their limits
 abbrev pub Fails : Posed → Reason → Type 0
 Fails (a_typeside T) reason = ⊥
 Fails (a_schema S) reason = ⊥
 Fails (a_mapping n t F) reason = TellsUnkept F reason
 Fails (an_identity n S) reason = ⊥
 Fails (a_presentation n S P) reason = TellsClash S P reason
+Fails (a_delta n F M) reason = (reason ≡ Oversized) × (is_oversized (delta_tables F M) ≡ true)
+Fails (a_sigma n F P) reason = TellsMoved F P reason
 
 -- the two limits of a duty and of a model: the depth, and the number of rows
 abbrev pub IsLimit : Reason → Type 0
@@ -95,6 +107,8 @@ Exceeds depth (a_schema S) reason = ⊥
 Exceeds depth (a_mapping n t F) reason = (duty : ℕ) × ExceedsAtDuty depth F reason duty
 Exceeds depth (an_identity n S) reason = ⊥
 Exceeds depth (a_presentation n S P) reason = ExceedsAtModel depth S P reason
+Exceeds depth (a_delta n F M) reason = ⊥
+Exceeds depth (a_sigma n F P) reason = (is_too_large F P ≡ false) × ExceedsAtModel depth F.target (sigma F P) reason
 
 -- the declaration meets its rules, and its name stands for m
 pub record Declares (env : Environment) (d : Decl) (m : Meant) : Type 0 where
@@ -150,14 +164,19 @@ IsDecided depth S duty =
     (j : ℕ) × (j ≤ depth) × IsDerivedWithin S (one_generator duty.schema_entity) duty.equation j
     × ((i : ℕ) → i ≤ j → IsWide S (one_generator duty.schema_entity) i → ⊥)
 
--- What is posed keeps the limits at a depth: each duty of a mapping is decided so; a presentation closes at some depth up to the given one, and
--- has at no depth up to it more classes than rows are allowed.
+-- a presentation closes at some depth up to the given one, and has at no depth up to it more classes than rows are allowed
+abbrev pub ClosesWithin : ℕ → SchemaData → Presentation → Type 0
+ClosesWithin depth S P = ((j : ℕ) × (j ≤ depth) × Closes S P j) × ((j : ℕ) → j ≤ depth → IsWide S P j → ⊥)
+
+-- What is posed keeps the limits at a depth: each duty of a mapping is decided so, and a presentation, given or moved, closes so.
 abbrev pub KeepsLimits : ℕ → Posed → Type 0
 KeepsLimits depth (a_typeside T) = Unit {0}
 KeepsLimits depth (a_schema S) = Unit {0}
 KeepsLimits depth (a_mapping n t F) = All (IsDecided depth F.target) (duties_of F)
 KeepsLimits depth (an_identity n S) = Unit {0}
-KeepsLimits depth (a_presentation n S P) = ((j : ℕ) × (j ≤ depth) × Closes S P j) × ((j : ℕ) → j ≤ depth → IsWide S P j → ⊥)
+KeepsLimits depth (a_presentation n S P) = ClosesWithin depth S P
+KeepsLimits depth (a_delta n F M) = Unit {0}
+KeepsLimits depth (a_sigma n F P) = ClosesWithin depth F.target (sigma F P)
 
 -- the same of each declaration of a program, after those before it
 abbrev pub IsWithinLimits : ℕ → Program → Type 0

@@ -2,7 +2,7 @@
 ghost use Rattle.std.specs.Prelude.{◌≡◌, ◌<◌, ◌≤◌, ◌-◌, ◌^◌, ◌++◌, [], IfOk, IfErr, OnOk, length, map};
 ghost use Rattle.std.specs.List.{filter_map, flat_map};
 ghost use Rattle.cq_program.specs.Program.{Declares, Follow, HasFewParts, Means, listing_of, part_count};
-ghost use Rattle.cq_program.specs.Environment.{AreSettled, IsSettled, environment_of, meant};
+ghost use Rattle.cq_program.specs.Environment.{AreSettled, WillSettle, environment_of, meant};
 ghost use Rattle.cq_program.specs.Posing.{AddsDecl, RefusesDecl, RefusesProgram};
 ghost use Rattle.cq_program.specs.Named.{listed_as, listings_in};
 
@@ -99,7 +99,7 @@ fn judge(
     requires settled { AreSettled (environment_of env.now.entries.items) }
     requires depth { depth ≤ 64 }
     ensures declares { IfOk result (λ meaning. Declares (environment_of env.now.entries.items) decl.now (meant meaning)) }
-    ensures settled { IfOk result (λ meaning. IsSettled (environment_of env.now.entries.items) (meant meaning)) }
+    ensures settled { IfOk result (λ meaning. WillSettle (environment_of env.now.entries.items) decl.now.name (meant meaning)) }
     ensures breaks { IfErr result (RefusesDecl depth (environment_of env.now.entries.items) decl.now) }
 {
     let statement = pose(alloc, env, decl)?;

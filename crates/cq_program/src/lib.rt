@@ -7,11 +7,13 @@ mod few;
 pub mod laws;
 mod line;
 mod models;
+mod moves;
 mod parts;
 mod places;
 mod posing;
 mod raw;
 mod reason;
+mod used;
 
 pub use declarations::{Named, meaning};
 pub use few::has_few_parts;

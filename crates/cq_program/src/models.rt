@@ -9,6 +9,7 @@ ghost use Rattle.cq_program.specs.Posing.{IsPosed, TellsConstants, Withholds, po
 ghost use Rattle.cq_program.specs.Checks.{a_mapping, an_identity, a_presentation, mapping, instance};
 
 use crate::environment::Meaning;
+use crate::moves::{pulled, pushed};
 use crate::posing::Statement;
 use crate::reason::{ProgramRefusal, Reason};
 use cq_base::{Name, Place, Seq};
@@ -20,8 +21,8 @@ use cq_theory::{Con, Presentation, Schema, Typeside, Value};
 use std::alloc::{AllocError, Global};
 use std::rc::Rc;
 
-/// What the declaration at a place stands for: a theory itself, a mapping that preserves equality itself, a presentation
-/// by its listed model.
+/// What the declaration at a place stands for: a theory itself, a mapping that preserves equality itself, a presentation, given
+/// or moved, by its listed model, and tables that are pulled back with their canonical presentation.
 pub fn meaning_of(
     alloc: Global,
     place: Place,
@@ -42,6 +43,12 @@ pub fn meaning_of(
         Statement::Identity(name, schema) => Ok(identity(alloc, name, schema)?),
         Statement::Presentation(name, schema, presentation) => {
             model_of(alloc, place, name, schema, presentation, depth)
+        }
+        Statement::Delta(name, mapping, instance) => {
+            pulled(alloc, place, name, &mapping, &instance)
+        }
+        Statement::Sigma(name, mapping, instance) => {
+            pushed(alloc, place, name, &mapping, &instance, depth)
         }
     }
 }
@@ -111,7 +118,7 @@ fn model_of(
 }
 
 /// The refusal that two constants are equal.
-fn clash(
+pub fn clash(
     alloc: Global,
     place: Place,
     typeside: &Typeside,
@@ -172,7 +179,7 @@ fn shared_mapping(
     Ok(Meaning::Mapping(source, target, shared))
 }
 
-fn shared_instance(alloc: Global, name: Name, model: Instance) -> Result<Meaning, AllocError>
+pub fn shared_instance(alloc: Global, name: Name, model: Instance) -> Result<Meaning, AllocError>
     ensures { IfOk result (λ meaning. meant meaning ≡ instance name model) }
 {
     let shared = Rc::new(alloc, model)?;

@@ -1,5 +1,6 @@
 //! The checks of names and parts, and what a declaration poses that passes them.
 ghost use Rattle.std.specs.Prelude.{◌≡◌, ◌<◌, ◌^◌, IfOk, length};
+ghost use Rattle.cq_base.specs.declared.name.Name.{Name as TheName};
 ghost use Rattle.cq_theory.specs.Presentation.{IsPresentation};
 ghost use Rattle.cq_program.specs.Program.{part_count};
 ghost use Rattle.cq_program.specs.Parts.{typeside_count, schema_count, mapping_count, instance_count};
@@ -8,11 +9,13 @@ ghost use Rattle.cq_program.specs.Environment.{schema_meant, Answers, AreSettled
 ghost use Rattle.cq_program.specs.Posing.{IsGrounded, IsPosed, posed_as};
 
 use crate::environment::{Environment, NamedSchema};
+use crate::moves::{pose_delta, pose_sigma};
 use crate::parts::{instance_parts, mapping_parts, schema_parts, typeside_parts};
 use crate::places::{instance_places, mapping_places, schema_places, typeside_places};
 use crate::reason::{ProgramRefusal, Reason};
 use cq_base::{Name, Place};
 use cq_mapping::Mapping;
+use cq_model::Instance;
 use cq_syntax::{
     Body, Decl, InstanceExp, InstanceLit, MappingExp, MappingLit, SchemaExp, SchemaLit, Spot,
     TypesideLit,
@@ -22,7 +25,8 @@ use std::alloc::{AllocError, Global};
 use std::rc::Rc;
 
 /// What a declaration poses: a theory; a mapping between schemas of printed names, whose duties are to be derived; the
-/// identity of the schema of a printed name; or a presentation over such a schema, whose model is to be made.
+/// identity of the schema of a printed name; a presentation over such a schema, whose model is to be made; or an instance that
+/// is to be pulled back along a mapping from such a schema, or moved along one to such a schema.
 #[derive(Drop)]
 pub(crate) enum Statement {
     Typeside(Typeside),
@@ -30,6 +34,8 @@ pub(crate) enum Statement {
     Mapping(Name, Name, Mapping),
     Identity(Name, Rc<Schema>),
     Presentation(Name, Rc<Schema>, Presentation),
+    Delta(Name, Rc<Mapping>, Rc<Instance>),
+    Sigma(Name, Rc<Mapping>, Rc<Instance>),
 }
 
 /// What a declaration poses, or the first rule of names and parts that it breaks.
@@ -38,7 +44,7 @@ pub fn pose(alloc: Global, env: &Environment, decl: &Decl) -> Result<Statement, 
     requires settled { AreSettled (environment_of env.now.entries.items) }
     ensures posed { Answers posed_as result (posed_by (environment_of env.now.entries.items) decl.now) }
     ensures well_sorted { IfOk result IsPosed }
-    ensures grounded { IfOk result (λ statement. IsGrounded (environment_of env.now.entries.items) (posed_as statement)) }
+    ensures grounded { IfOk result (λ statement. IsGrounded (environment_of env.now.entries.items) decl.now.name (posed_as statement)) }
 {
     if !is_built(&decl.body) {
         return Err(ProgramRefusal::Broken(decl.place, Reason::NotBuilt));
@@ -57,7 +63,10 @@ fn is_built(body: &Body) -> bool
         Body::Typeside(_) => true,
         Body::Schema(SchemaExp::Literal(_)) => true,
         Body::Schema(SchemaExp::GetSchema(_)) => false,
-        Body::Instance(expression) => matches!(expression, InstanceExp::Literal(_)),
+        Body::Instance(expression) => matches!(
+            expression,
+            InstanceExp::Literal(_) | InstanceExp::Delta(_, _) | InstanceExp::Sigma(_, _)
+        ),
         Body::Colimit(_) => false,
         Body::Mapping(MappingExp::Literal(_)) => true,
         Body::Mapping(MappingExp::Identity(_)) => true,
@@ -78,7 +87,7 @@ fn pose_body(
     requires settled { AreSettled (environment_of env.now.entries.items) }
     ensures posed { Answers posed_as result (body_posed (environment_of env.now.entries.items) place name.now body.now) }
     ensures well_sorted { IfOk result IsPosed }
-    ensures grounded { IfOk result (λ statement. IsGrounded (environment_of env.now.entries.items) (posed_as statement)) }
+    ensures grounded { IfOk result (λ statement. IsGrounded (environment_of env.now.entries.items) name.now (posed_as statement)) }
 {
     match body {
         Body::Typeside(literal) => pose_typeside(alloc, place, literal),
@@ -86,6 +95,8 @@ fn pose_body(
         Body::Mapping(MappingExp::Literal(literal)) => pose_mapping(alloc, env, place, literal),
         Body::Mapping(MappingExp::Identity(used)) => pose_identity(env, used),
         Body::Instance(InstanceExp::Literal(literal)) => pose_instance(alloc, env, place, literal),
+        Body::Instance(InstanceExp::Delta(along, used)) => pose_delta(env, along, used),
+        Body::Instance(InstanceExp::Sigma(along, used)) => pose_sigma(env, along, used),
         _ => Err(ProgramRefusal::Broken(place, Reason::NotBuilt)),
     }
 }
@@ -115,7 +126,7 @@ fn pose_schema(
     requires { schema_count literal.now < 2 ^ 32 }
     ensures posed { Answers posed_as result (schema_posed (environment_of env.now.entries.items) place name.now literal.now) }
     ensures well_sorted { IfOk result IsPosed }
-    ensures grounded { IfOk result (λ statement. IsGrounded (environment_of env.now.entries.items) (posed_as statement)) }
+    ensures grounded { IfOk result (λ statement. IsGrounded (environment_of env.now.entries.items) name.now (posed_as statement)) }
 {
     let typeside = env.typeside(&literal.typeside)?;
     let schema = schema_in(alloc, place, typeside, literal)?;
@@ -155,7 +166,7 @@ fn pose_mapping(
     requires settled { AreSettled (environment_of env.now.entries.items) }
     ensures posed { Answers posed_as result (mapping_posed (environment_of env.now.entries.items) place literal.now) }
     ensures well_sorted { IfOk result IsPosed }
-    ensures grounded { IfOk result (λ statement. IsGrounded (environment_of env.now.entries.items) (posed_as statement)) }
+    ensures grounded { (name : TheName) → IfOk result (λ statement. IsGrounded (environment_of env.now.entries.items) name (posed_as statement)) }
 {
     let source = env.schema(&literal.source)?;
     let target = env.schema(&literal.target)?;
@@ -169,9 +180,10 @@ fn pose_mapping(
 }
 
 fn pose_identity(env: &Environment, used: &Spot) -> Result<Statement, ProgramRefusal>
+    requires settled { AreSettled (environment_of env.now.entries.items) }
     ensures posed { Answers posed_as result (identity_posed (environment_of env.now.entries.items) used.now) }
     ensures well_sorted { IfOk result IsPosed }
-    ensures grounded { IfOk result (λ statement. IsGrounded (environment_of env.now.entries.items) (posed_as statement)) }
+    ensures grounded { (name : TheName) → IfOk result (λ statement. IsGrounded (environment_of env.now.entries.items) name (posed_as statement)) }
 {
     let over = env.schema(used)?;
     over.schema.is_well_sorted();
@@ -184,9 +196,11 @@ fn pose_instance(
     place: Place,
     literal: &InstanceLit,
 ) -> Result<Statement, ProgramRefusal>
-    requires { instance_count literal.now < 2 ^ 32 }
+    requires few { instance_count literal.now < 2 ^ 32 }
+    requires settled { AreSettled (environment_of env.now.entries.items) }
     ensures posed { Answers posed_as result (instance_posed (environment_of env.now.entries.items) place literal.now) }
     ensures well_sorted { IfOk result IsPosed }
+    ensures grounded { (name : TheName) → IfOk result (λ statement. IsGrounded (environment_of env.now.entries.items) name (posed_as statement)) }
 {
     let over = env.schema(&literal.schema)?;
     let presentation = presentation_in(alloc, place, &over.schema, literal)?;
@@ -243,7 +257,8 @@ fn mapping_in(
 ) -> Result<Mapping, ProgramRefusal>
     requires typeside { source.value.typeside ≡ target.value.typeside }
     requires few { mapping_count literal.now < 2 ^ 32 }
-    ensures { Answers (λ mapping. mapping) result (mapping_given place source.value target.value literal.now) }
+    ensures given { Answers (λ mapping. mapping) result (mapping_given place source.value target.value literal.now) }
+    ensures over { IfOk result (λ mapping. (mapping.source ≡ source.value) × (mapping.target ≡ target.value)) }
 {
     let parts = mapping_parts(alloc, literal)?;
     match Mapping::new(alloc, source, target, parts) {

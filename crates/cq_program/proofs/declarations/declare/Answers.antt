@@ -1,9 +1,16 @@
-use Rattle.std.proofs.Common.{subst, sym}
-use Rattle.cq_program.specs.Environment.{AreSettled, environment_of, meant}
+use Rattle.std.proofs.Common.{◌≡◌, false, subst, sym}
+use Rattle.std.specs.Prelude.{is_some}
+use Rattle.cq_base.specs.declared.name.Name.{Name}
+use Rattle.cq_program.specs.Checks.{meant_by}
+use Rattle.cq_program.specs.Environment.{AreSettled, WillSettle, environment_of, meant}
+use Rattle.cq_program.proofs.Poses.{fresh}
 use Rattle.cq_program.proofs.Settled.{AreSettled-more}
 use Rattle.cq_program.proofs.declarations.declare.Goals as goal
 
 pub returns-clause-settled : goal.returns-clause-settled
 returns-clause-settled c =
     subst AreSettled (sym c.in_ok-after.ensures)
-    (AreSettled-more (environment_of c.args.env.entries.items) c.in_ok-name.name (meant c.in_ok-meaning.meaning) c.requires.settled c.in_ok-meaning.ensures.settled)
+    (AreSettled-more (environment_of c.args.env.entries.items) c.in_ok-name.name (meant c.in_ok-meaning.meaning) c.requires.settled
+    (subst (λ (n : Name). is_some (meant_by (environment_of c.args.env.entries.items) n) ≡ false) (sym c.in_ok-name.ensures.cases)
+    (fresh (environment_of c.args.env.entries.items) c.args.decl.now c.in_ok-meaning.ensures.declares.posed c.in_ok-meaning.ensures.declares.checked))
+    (subst (λ (n : Name). WillSettle (environment_of c.args.env.entries.items) n (meant c.in_ok-meaning.meaning)) (sym c.in_ok-name.ensures.cases) c.in_ok-meaning.ensures.settled))

@@ -1,4 +1,4 @@
-use Rattle.cq_program.proofs.Outlines.{means_unbroken}
+use Rattle.cq_program.proofs.Breaches.{means_unbroken}
 use Rattle.cq_program.proofs.laws.means_unbroken.Goals as goal
 
 pub returns : goal.returns

@@ -1,4 +1,4 @@
-use Rattle.cq_program.proofs.Outlines.{one_refusal}
+use Rattle.cq_program.proofs.Breaches.{one_refusal}
 use Rattle.cq_program.proofs.laws.one_refusal.Goals as goal
 
 pub returns : goal.returns

@@ -1,4 +1,4 @@
-use Rattle.cq_program.proofs.Outlines.{unbroken_within_limits}
+use Rattle.cq_program.proofs.Breaches.{unbroken_within_limits}
 use Rattle.cq_program.proofs.laws.unbroken_within_limits.Goals as goal
 
 pub returns : goal.returns
