@@ -51,3 +51,4 @@ pub mod CanonicalNames
 pub mod Pushed
 pub mod CanonicalEquations
 pub mod GivenTables
+pub mod BuildingRefusals

@@ -1,3 +1,4 @@
 pub mod Normal
 pub mod Pulled
 pub mod Tests
+pub mod MadeColumns

@@ -1,16 +1,15 @@
 -- What terms mean in well-formed tables: rows that exist, and values on which no entry bears.
-use Rattle.std.proofs.Common.{ℕ, zero, suc, true, List, [], ◌∷◌, Option, Some, None, ◌≡◌, ◌<◌, map, length, refl, sym, ap, subst, ◌∙◌, slice_index_or}
+use Rattle.std.proofs.Common.{ℕ, List, [], ◌∷◌, Option, Some, None, ◌≡◌, ◌<◌, map, length, refl, sym, ap, subst, ◌∙◌, slice_index_or}
 use Rattle.std.specs.Prelude.{slice_get, find}
 use Rattle.std.proofs.lemmas.Option.{option_and_then_some}
-use Rattle.cq_base.specs.declared.name.Name.{Name}
 use Rattle.cq_theory.specs.declared.presentation.Presentation.{Presentation}
 use Rattle.cq_theory.specs.declared.presentation.Sort.{Sort}
 use Rattle.cq_theory.specs.declared.presentation.Sort.TheVariants.{Plain}
-use Rattle.cq_theory.specs.declared.schema.Edge.{Edge}
 use Rattle.cq_theory.specs.SchemaData.{SchemaData as Schema}
 use Rattle.cq_theory.specs.declared.term.TypeTerm.{TypeTerm}
 use Rattle.cq_theory.specs.declared.term.TypeTerm.TheVariants as term
 use Rattle.cq_theory.specs.declared.value.Value.{Value}
+use Rattle.cq_theory.specs.declared.constant.Con.TheVariants.{Named}
 use Rattle.cq_theory.specs.declared.value.Value.TheVariants.{Const}
 use Rattle.cq_theory.specs.declared.value.Entry.{Entry}
 use Rattle.cq_theory.specs.Sorts.{followed, target_of, type_of}
@@ -74,7 +73,7 @@ module _ (S : Schema) (P : Presentation) (M : Tables) (A : Assignment) (holds : 
       let cell = typed_cell S P.generators a t type h in
       let column = holds.well_formed.cell_columns a cell.edge cell.known in
       let row : row_of M A t < count_of M cell.edge.from = row_of-within S P M A holds t cell.edge.from cell.of_entity in
-      let here = column.1 (row_of M A t) (Const 0) (subst (λ n. row_of M A t < n) (sym column.0) row) in
+      let here = column.1 (row_of M A t) (Const (Named 0)) (subst (λ n. row_of M A t < n) (sym column.0) row) in
       same_normal (value_of M A (term.Att a t)) _ (fold-Att Value (value_step M A) a t) here.1)
       (λ f ts each type h.
       same_normal (value_of M A (term.Fun f ts)) (applied M f (map (value_of M A) ts)) (fold-Fun Value (value_step M A) f ts)

@@ -1,24 +1,22 @@
 -- The tables that a mapping pulls back are well formed over its source, and satisfy it where the mapping preserves equality.
-use Rattle.std.proofs.Common.{ℕ, zero, suc, List, [], ◌∷◌, ◌++◌, Option, Some, ◌≡◌, ◌<◌, ◌+◌, map, length, get_or, refl, sym, ap, subst, ◌∙◌, arith}
+use Rattle.std.proofs.Common.{ℕ, zero, suc, List, [], ◌∷◌, Some, ◌≡◌, ◌<◌, ◌+◌, map, length, refl, sym, ap, subst, ◌∙◌, arith}
 use Rattle.std.specs.Prelude.{slice_get, slice_index, slice_index_or, All}
 use Rattle.std.specs.List.{enumerate_from}
 use Rattle.std.proofs.lemmas.List.{get_or-map, length-map}
 use Rattle.std.proofs.lemmas.List.FromFn.{get_or-map-range_with_len, length-map-range_with_len}
-use Rattle.std.proofs.lemmas.Option.{option_and_then_some, get_or_from_slice_get, slice_get_within}
+use Rattle.std.proofs.lemmas.Option.{option_and_then_some, get_or_from_slice_get}
 use Rattle.cq_base.specs.declared.name.Name.{Name}
 use Rattle.cq_theory.specs.TypesideData.{TypesideData as Typeside}
 use Rattle.cq_theory.specs.declared.presentation.Sort.{Sort}
 use Rattle.cq_theory.specs.declared.presentation.Sort.TheVariants.{Entity}
 use Rattle.cq_theory.specs.declared.presentation.Equation.{Equation}
 use Rattle.cq_theory.specs.declared.schema.Edge.{Edge}
-use Rattle.cq_theory.specs.declared.schema.PathEq.{PathEq}
-use Rattle.cq_theory.specs.declared.schema.ObsEq.{ObsEq}
 use Rattle.cq_theory.specs.SchemaData.{SchemaData as Schema}
 use Rattle.cq_theory.specs.declared.term.EntTerm.{EntTerm}
 use Rattle.cq_theory.specs.declared.term.TypeTerm.{TypeTerm}
 use Rattle.cq_theory.specs.declared.term.TypeTerm.TheVariants as term
-use Rattle.cq_theory.specs.declared.term.Term.TheVariants.{Ent, Typ}
 use Rattle.cq_theory.specs.declared.value.Value.{Value}
+use Rattle.cq_theory.specs.declared.constant.Con.TheVariants.{Named}
 use Rattle.cq_theory.specs.declared.value.Value.TheVariants.{Const}
 use Rattle.cq_theory.specs.declared.value.Entry.{Entry}
 use Rattle.cq_theory.specs.Canonical.{below}
@@ -36,7 +34,7 @@ use Rattle.cq_mapping.specs.Duties.{path_duty, observation_duty, one_generator, 
 use Rattle.cq_mapping.specs.Moved.{key_column, cell_column, delta_tables}
 use Rattle.cq_mapping.proofs.Imaged.{target_of-image}
 use Rattle.cq_model.proofs.Lists.{get-map, get-append, get-append_front, All_from, All_at}
-use Rattle.cq_model.proofs.BuiltTerms.{EachTyped, type_at_some, typed_generator, typed_cell, args_typed}
+use Rattle.cq_model.proofs.BuiltTerms.{EachTyped, typed_generator, typed_cell, args_typed}
 use Rattle.cq_model.proofs.BuiltSubstituted.{value_of-substituted}
 use Rattle.cq_move.proofs.Normal.{row_from-within, value_normal}
 
@@ -91,8 +89,8 @@ module _ (F : Mapping) (is : IsMapping F) (M : Tables) (well : IsWellFormed F.ta
   cell_is : (a row : ℕ) (edge : Edge) → slice_get S.attributes a ≡ Some edge → row < count_of M (entity_image F edge.from) → cell_at D a row ≡ value_of M (AtRow row ∷ []) (attribute_image F a)
   cell_is a row edge h inside =
       let here : 0 + row ≡ row = omega arith in
-      ap (λ (column : List Value). slice_index_or column row (Const 0)) (mapped_edge (cell_column F M) S.attributes a edge [] h)
-      ∙ get_or-map-range_with_len (λ r. value_of M (AtRow r ∷ []) (attribute_image F a)) 0 (count_of M (entity_image F edge.from)) row row (Const 0) inside here
+      ap (λ (column : List Value). slice_index_or column row (Const (Named 0))) (mapped_edge (cell_column F M) S.attributes a edge [] h)
+      ∙ get_or-map-range_with_len (λ r. value_of M (AtRow r ∷ []) (attribute_image F a)) 0 (count_of M (entity_image F edge.from)) row row (Const (Named 0)) inside here
 
   -- a path that is followed in the pulled-back tables is its image that is followed in the tables
   pub row_from-image : (path : List ℕ) (e target row : ℕ) → target_of S.keys path e ≡ Some target → row < count_of M (entity_image F e) → row_from D row path ≡ row_from M row (path_image F path)

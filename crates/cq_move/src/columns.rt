@@ -1,5 +1,5 @@
 //! Columns that are made row by row from an instance.
-ghost use Rattle.std.specs.Prelude.{ℕ, [], ◌∷◌, ◌≡◌, ◌<◌, true, false, map, IfOk, IfErr, nat_lt};
+ghost use Rattle.std.specs.Prelude.{ℕ, [], ◌∷◌, ◌++◌, ◌≡◌, ◌<◌, false, map, IfOk, IfErr, OnOk, nat_lt};
 ghost use Rattle.std.specs.List.{list_any};
 ghost use Rattle.cq_theory.specs.Canonical.{below};
 ghost use Rattle.cq_theory.specs.Tables.{AtRow, row_from, value_of};
@@ -55,6 +55,28 @@ fn value_at(
     }
 }
 
+/// Puts the value of a term over one variable at a row behind a column. It has at most 1,024 symbols.
+fn push_value(
+    alloc: Global,
+    instance: &Instance,
+    term: &TypeTerm,
+    row: u32,
+    column: &mut Vec<Value>,
+) -> Result<(), SizeRefusal>
+    requires { (type : ℕ) × IsTypeTermOf instance.now.schema instance.now.tables (AtRow row ∷ []) term.now type }
+    ensures value { OnOk result (column.new.items ≡ column.old.items ++ value_of instance.now.tables (AtRow row ∷ []) term.now ∷ []) }
+    ensures fits { OnOk result (nat_lt 1024 (symbols_of (value_of instance.now.tables (AtRow row ∷ []) term.now)) ≡ false) }
+    ensures refused { IfErr result (TellsSize (nat_lt 1024 (symbols_of (value_of instance.now.tables (AtRow row ∷ []) term.now)))) }
+{
+    match value_at(alloc, instance, term, row) {
+        Ok(value) => match column.push(value) {
+            Ok(()) => Ok(()),
+            Err(_) => Err(SizeRefusal::Memory),
+        },
+        Err(refusal) => Err(refusal),
+    }
+}
+
 /// The values of a term over one variable at the first rows of its entity, each of which has at most 1,024 symbols.
 pub fn value_column(
     alloc: Global,
@@ -71,9 +93,8 @@ pub fn value_column(
         return Err(SizeRefusal::Memory);
     };
     for row in 0..count {
-        let value = value_at(alloc, instance, term, row)?;
-        if column.push(value).is_err() {
-            return Err(SizeRefusal::Memory);
+        if let Err(refusal) = push_value(alloc, instance, term, row, &mut column) {
+            return Err(refusal);
         }
     }
     Ok(Seq::from_vec(column))

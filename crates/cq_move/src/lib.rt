@@ -8,4 +8,3 @@ pub mod pushing;
 
 pub use pulling::delta;
 pub use pushing::sigma;
-

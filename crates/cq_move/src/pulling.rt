@@ -1,11 +1,14 @@
 //! Instances that are pulled back along mappings.
-ghost use Rattle.std.specs.Prelude.{ℕ, ◌≡◌, ◌<◌, ◌+◌, false, map, length, sum, nat_lt, IfOk, IfErr};
-ghost use Rattle.std.specs.List.{enumerate_from};
-ghost use Rattle.cq_theory.specs.Tables.{Initial, count_of};
+ghost use Rattle.std.specs.Prelude.{ℕ, [], ◌∷◌, ◌++◌, ◌≡◌, ◌<◌, false, map, length, nat_lt, IfOk, IfErr, OnOk};
+ghost use Rattle.std.specs.List.{enumerate_from, list_any};
+ghost use Rattle.cq_theory.specs.Canonical.{below};
+ghost use Rattle.cq_theory.specs.Tables.{Initial, AtRow, count_of, value_of};
+ghost use Rattle.cq_theory.specs.Value.{symbols_of};
 ghost use Rattle.cq_mapping.specs.Duties.{Preserves};
 ghost use Rattle.cq_mapping.specs.Images.{entity_image, key_image, attribute_image};
 ghost use Rattle.cq_mapping.specs.Moved.{key_column, cell_column, delta_tables};
 ghost use Rattle.cq_model.specs.Given.{HasLeastNames, given, has_long_cell, is_oversized, size_of};
+ghost use Rattle.cq_model.specs.Terms.{IsTypeTermOf};
 ghost use Rattle.cq_move.specs.Pulling.{TellsSize};
 
 use crate::columns::{row_column, value_column};
@@ -23,11 +26,7 @@ const MOST_GENERATORS: u64 = 16_000_000;
 /// of its image, with their numbers; a foreign key leads where its path leads, and a cell has the value of its attribute's
 /// term. Nulls and entries are those of `instance`. `TooLarge` is answered exactly where there are over 16,000,000 rows and
 /// nulls together or a cell has over 1,024 symbols, and `Memory` for want of memory.
-pub fn delta(
-    alloc: Global,
-    mapping: &Mapping,
-    instance: &Instance,
-) -> Result<Instance, SizeRefusal>
+pub fn delta(alloc: Global, mapping: &Mapping, instance: &Instance) -> Result<Instance, SizeRefusal>
     requires preserves { Preserves mapping.now }
     requires over { instance.now.schema ≡ mapping.now.target }
     ensures instance { IfOk result (λ made. made ≡ given mapping.now.source (delta_tables mapping.now instance.now.tables)) }
@@ -131,6 +130,28 @@ fn pulled_keys(
     Ok(Seq::from_vec(columns))
 }
 
+/// Puts the column of an attribute behind others. Its values have at most 1,024 symbols.
+fn push_cells(
+    alloc: Global,
+    instance: &Instance,
+    term: &TypeTerm,
+    count: u32,
+    columns: &mut Vec<Seq<Value>>,
+) -> Result<(), SizeRefusal>
+    requires { (type : ℕ) × ((row : ℕ) → row < count → IsTypeTermOf instance.now.schema instance.now.tables (AtRow row ∷ []) term.now type) }
+    ensures column { OnOk result (columns.new.items ≡ columns.old.items ++ map (λ row. value_of instance.now.tables (AtRow row ∷ []) term.now) (below count) ∷ []) }
+    ensures fits { OnOk result (list_any (λ v. nat_lt 1024 (symbols_of v)) (map (λ row. value_of instance.now.tables (AtRow row ∷ []) term.now) (below count)) ≡ false) }
+    ensures refused { IfErr result (TellsSize (list_any (λ v. nat_lt 1024 (symbols_of v)) (map (λ row. value_of instance.now.tables (AtRow row ∷ []) term.now) (below count)))) }
+{
+    match value_column(alloc, instance, term, count) {
+        Ok(column) => match columns.push(column) {
+            Ok(()) => Ok(()),
+            Err(_) => Err(SizeRefusal::Memory),
+        },
+        Err(refusal) => Err(refusal),
+    }
+}
+
 /// The column of each attribute of the source.
 fn pulled_cells(
     alloc: Global,
@@ -148,21 +169,17 @@ fn pulled_cells(
         return Err(SizeRefusal::Memory);
     };
     for (attribute, edge) in attributes.iter().enumerate() {
+        let term = term_of(mapping, attribute);
         let count = count_at(mapping, instance, edge.from);
-        let column = value_column(alloc, instance, term_of(mapping, attribute), count)?;
-        if columns.push(column).is_err() {
-            return Err(SizeRefusal::Memory);
+        if let Err(refusal) = push_cells(alloc, instance, term, count, &mut columns) {
+            return Err(refusal);
         }
     }
     Ok(Seq::from_vec(columns))
 }
 
 /// The sheet that the mapping pulls back.
-fn pulled_sheet(
-    alloc: Global,
-    mapping: &Mapping,
-    instance: &Instance,
-) -> Result<Sheet, SizeRefusal>
+fn pulled_sheet(alloc: Global, mapping: &Mapping, instance: &Instance) -> Result<Sheet, SizeRefusal>
     requires over { instance.now.schema ≡ mapping.now.target }
     ensures sheet { IfOk result (λ sheet. sheet ≡ (delta_tables mapping.now instance.now.tables).sheet) }
     ensures fits { IfOk result (λ _. has_long_cell (delta_tables mapping.now instance.now.tables) ≡ false) }

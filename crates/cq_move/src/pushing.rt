@@ -1,5 +1,6 @@
 //! Instances that are pushed forward along mappings.
-ghost use Rattle.std.specs.Prelude.{ℕ, ◌≡◌, ◌≤◌, IfOk, Err};
+ghost use Rattle.cq_theory.specs.declared.constant.Con.{Con};
+ghost use Rattle.std.specs.Prelude.{◌≡◌, ◌≤◌, IfOk, Err};
 ghost use Rattle.cq_rows.specs.Saturated.{NoneCloses, SomeWide};
 ghost use Rattle.cq_theory.specs.Closing.{IsInconsistent, IsInconsistentAt};
 ghost use Rattle.cq_mapping.specs.Duties.{is_too_large};
@@ -33,7 +34,7 @@ pub fn sigma(
     ensures size { SaysSize result (is_too_large mapping.now instance.now.presentation) }
     ensures open { result ≡ Err Depth → NoneCloses mapping.now.target (moved mapping.now instance.now.presentation) depth }
     ensures many { result ≡ Err TooManyRows → SomeWide mapping.now.target (moved mapping.now instance.now.presentation) depth }
-    ensures inconsistent { (c d : ℕ) → result ≡ Err (Inconsistent c d) → IsInconsistentAt mapping.now.target (moved mapping.now instance.now.presentation) c d }
+    ensures inconsistent { (c d : Con) → result ≡ Err (Inconsistent c d) → IsInconsistentAt mapping.now.target (moved mapping.now instance.now.presentation) c d }
 {
     instance.is_instance();
     let presentation = match mapping.sigma_presentation(alloc, instance.presentation()) {
@@ -42,6 +43,8 @@ pub fn sigma(
         Err(SizeRefusal::Memory) => return Err(MoveRefusal::Memory),
     };
     let target = mapping.target.clone()?;
-    let made = build(alloc, target, presentation, depth)?;
-    Ok(made)
+    match build(alloc, target, presentation, depth) {
+        Ok(made) => Ok(made),
+        Err(refusal) => Err(MoveRefusal::from(refusal)),
+    }
 }

@@ -1,5 +1,5 @@
 -- Constants that a presentation makes equal.
-use Rattle.std.proofs.Common.{ℕ, true, ◌≡◌, ◌<◌, Option, Some, None, length, refl, sym, ap, ◌∙◌, subst, arith}
+use Rattle.std.proofs.Common.{ℕ, true, ◌≡◌, ◌<◌, Option, Some, None, length, refl, sym, ap, ◌∙◌, subst, arith, inl}
 use Rattle.std.specs.Prelude.{option_map}
 use Rattle.std.proofs.lemmas.Bool.Decides.{nat_tests}
 use Rattle.cq_theory.specs.declared.constant.Con.{Con}
@@ -29,6 +29,12 @@ use Rattle.cq_theory.proofs.TypeTerms.{fold-Const}
 use Rattle.cq_program.specs.declared.reason.Reason.{Reason}
 use Rattle.cq_program.specs.declared.reason.Reason.TheVariants.{Inconsistent}
 use Rattle.cq_program.specs.Program.{TellsClash}
+use Rattle.cq_base.specs.declared.name.Name.{Name}
+use Rattle.cq_base.specs.declared.place.Place.{Place}
+use Rattle.cq_program.specs.Checks.{a_presentation}
+use Rattle.cq_program.specs.Posing.{TellsConstants, Withholds}
+use Rattle.cq_program.specs.declared.reason.ProgramRefusal.{ProgramRefusal}
+use Rattle.cq_program.specs.declared.reason.ProgramRefusal.TheVariants as program_refusal
 
 -- what a map of an option gives was given
 mapped : {A B : Type 0} (f : A → B) (o : Option A) (b : B) → option_map f o ≡ Some b → (a : A) × (o ≡ Some a)
@@ -77,3 +83,11 @@ one_clash S P reason other tells tells' =
     let least = same_least S P tells.least tells.greater tells'.least tells'.greater tells.equal tells'.equal in
     let greater = same_greater S P tells.least tells.greater tells'.least tells'.greater tells.equal tells'.equal in
     tells.told ∙ (λ i. Inconsistent (value_text S.typeside (Const (least i))) (value_text S.typeside (Const (greater i)))) ∙ sym tells'.told
+
+-- the refusal with the texts of two constants that clash tells why nothing is made of a presentation
+pub withholds_clash : (depth : ℕ) (at : Place) (name : Name) (S : SchemaData) (P : Presentation) (c d : Con) (refusal : ProgramRefusal) → IsInconsistentAt S P c d
+    → TellsConstants at (value_text S.typeside (Const c)) (value_text S.typeside (Const d)) refusal → Withholds depth at (a_presentation name S P) refusal
+withholds_clash depth at name S P c d (program_refusal.Broken place reason) clash told =
+    (told.0, inl (record { least = c; greater = d; equal = clash; told = told.1 }))
+withholds_clash depth at name S P c d (program_refusal.Read name' cause) clash told = told
+withholds_clash depth at name S P c d program_refusal.Memory clash told = tt

@@ -4,7 +4,7 @@ ghost use Rattle.cq_theory.specs.Presentation.{IsPresentation};
 ghost use Rattle.cq_program.specs.Program.{part_count};
 ghost use Rattle.cq_program.specs.Parts.{typeside_count, schema_count, mapping_count, instance_count};
 ghost use Rattle.cq_program.specs.Checks.{arrow_breach, body_posed, identity_posed, instance_posed, is_built, mapping_given, mapping_posed, part_breach, place_of, posed_by, presentation_given, schema_given, schema_posed, typeside_given, typeside_posed};
-ghost use Rattle.cq_program.specs.Environment.{Answers, AreSettled, Tells, environment_of};
+ghost use Rattle.cq_program.specs.Environment.{schema_meant, Answers, AreSettled, Tells, environment_of};
 ghost use Rattle.cq_program.specs.Posing.{IsGrounded, IsPosed, posed_as};
 
 use crate::environment::{Environment, NamedSchema};
@@ -119,11 +119,23 @@ fn pose_schema(
 {
     let typeside = env.typeside(&literal.typeside)?;
     let schema = schema_in(alloc, place, typeside, literal)?;
-    Ok(Statement::Schema(NamedSchema {
+    Ok(Statement::Schema(named_schema(alloc, name, &literal.typeside.name, schema)?))
+}
+
+/// A schema under its name, with the name of its typeside.
+fn named_schema(
+    alloc: Global,
+    name: &Name,
+    typeside: &Name,
+    schema: Schema,
+) -> Result<NamedSchema, AllocError>
+    ensures { IfOk result (λ named. schema_meant named ≡ record { name = name.now; typeside = typeside.now; schema = schema }) }
+{
+    Ok(NamedSchema {
         name: name.clone()?,
-        typeside: literal.typeside.name.clone()?,
+        typeside: typeside.clone()?,
         schema: shared_schema(alloc, schema)?,
-    }))
+    })
 }
 
 fn shared_schema(alloc: Global, schema: Schema) -> Result<Rc<Schema>, AllocError>
@@ -150,8 +162,10 @@ fn pose_mapping(
     if source.typeside != target.typeside {
         return Err(ProgramRefusal::Broken(literal.target.place, Reason::WrongSchema));
     }
-    let mapping = mapping_in(alloc, place, source.schema, target.schema, literal)?;
-    Ok(Statement::Mapping(source.name, target.name, mapping))
+    match mapping_in(alloc, place, source.schema, target.schema, literal) {
+        Ok(mapping) => Ok(Statement::Mapping(source.name, target.name, mapping)),
+        Err(refusal) => Err(refusal),
+    }
 }
 
 fn pose_identity(env: &Environment, used: &Spot) -> Result<Statement, ProgramRefusal>

@@ -1,45 +1,128 @@
 -- From what each step of a run gives to what the run gives.
-use Rattle.std.proofs.Common.{◌≡◌, inl, inr, ℕ, List, Option, Some, sym, subst, ◌∙◌}
-use Rattle.cq_run.specs.Ask.{Ask, depth_asked}
-use Rattle.cq_run.specs.Answer.{IsTranscriptOf, IsRefusalOf}
-use Rattle.cq_run.specs.Clause.{IsTextOf, HasToWrite, Writes, Tells, RunGives, IsUnreadLine}
-use Rattle.cq_run.specs.Meaning.{RefusesText}
-use Rattle.cq_run.specs.Scene.{Shelf, Drain}
+use Rattle.std.proofs.Common.{◌≡◌, ◌≤◌, inl, inr, ℕ, List, Option, Some, None, true, false, length, map, refl, ap, sym, subst, ◌∙◌, arith}
+use Rattle.std.specs.Prelude.{IfSome}
+use Rattle.cq_export.specs.Files.{Files}
+use Rattle.cq_export.specs.Handing.{HandsOver}
+use Rattle.cq_export.specs.Held.{files_held}
+use Rattle.cq_export.specs.declared.handing.Handed.{Handed}
+use Rattle.cq_export.specs.declared.handing.Handed.TheVariants as handed
+use Rattle.cq_io.specs.Account.{Account}
+use Rattle.cq_io.specs.Writes.{Appends, LacksRoom}
+use Rattle.cq_program.specs.Program.{Listing}
+use Rattle.cq_run.specs.Ask.{depth_asked}
+use Rattle.cq_run.specs.Answer.{IsOutputOf, IsRefusalOf}
+use Rattle.cq_run.specs.Clause.{HasToWrite, IsTextOf, IsUnreadLine, KeepsAll, RunGives, WritesLine, kept_of}
+use Rattle.cq_run.specs.Files.{files_of}
+use Rattle.cq_run.specs.Lines.{usage_line}
+use Rattle.cq_run.specs.Meaning.{IsAcceptable, Means, RefusesText, transcripts_of}
+use Rattle.cq_run.specs.Scene.{Drain, Outlets, Scene}
+use Rattle.cq_run.specs.Writing.{Stage, Tells, handed_over, no_room, no_sink, status_of}
+use Rattle.cq_run.specs.declared.output.Output.{Output}
 use Rattle.cq_run.specs.declared.status.Status.{Status}
 use Rattle.cq_run.specs.declared.status.Status.TheVariants as status
+use Rattle.cq_words.specs.Ask.{Ask}
+
+-- a sink that failed had less room than was needed
+pub lacks_room : (spare : Option ℕ) (bytes : List ℕ) (Q R : ℕ → Type 0)
+    → IfSome spare (λ room. length bytes ≤ room → (false ≡ true) × Q room × R room) → LacksRoom spare bytes
+lacks_room None bytes Q R h = tt
+lacks_room (Some room) bytes Q R h =
+    let no : length bytes ≤ room → ⊥ = λ le.
+    let bad = (h le).0 in
+    cc in
+    omega arith
 
 -- a line was told
-told_gives : (asked ask : Option Ask) (before after : Shelf) (out new_out : Drain) (wanted result : Status) (line : List ℕ)
-    → asked ≡ ask → Tells wanted result out new_out line → HasToWrite ask before after wanted line
-    → (Writes ask before after out new_out wanted → RunGives ask before after out new_out wanted)
-    → RunGives asked before after out new_out result
-told_gives asked ask before after out new_out wanted result line is (inl told) due gives =
-    rw (is, told.0) (gives (record { line = line; due = due; written = told.1 }))
-told_gives asked ask before after out new_out wanted result line is (inr lost) due gives =
-    rw (is, lost.0) (record { wanted = wanted; line = line; due = due; loses = lost.1 })
+told_gives : (asked ask : Option Ask) (before after : Scene) (wanted result : Status) (line : List ℕ)
+    → asked ≡ ask → Tells wanted result before.out after.out line → HasToWrite ask before.folder after.folder wanted line
+    → KeepsAll ask before.outlets after.outlets → (WritesLine ask before after wanted → RunGives ask before after wanted)
+    → RunGives asked before after result
+told_gives asked ask before after wanted result line is (inl told) due keeps gives =
+    rw (is, told.0) (gives (record { line = line; due = due; written = told.1; keeps = keeps }))
+told_gives asked ask before after wanted result line is (inr lost) due keeps gives =
+    rw (is, lost.0) (inl (record { wanted = wanted; line = line; due = due; loses = lost.1; keeps = keeps }))
 
--- the text was accepted
-pub transcript_gives : (asked : Option Ask) (ask : Ask) (before after : Shelf) (out new_out : Drain) (result : Status) (transcript told text : List ℕ)
-    → Some ask ≡ asked → Tells status.Ok result out new_out told → told ≡ transcript
-    → IsTextOf ask before.files text → IsTranscriptOf text transcript
-    → RunGives asked before after out new_out result
-transcript_gives asked ask before after out new_out result transcript told text is tells told_is is_text prints =
-    told_gives asked (Some ask) before after out new_out status.Ok result told (sym is) tells
-    (record { text = text; is_text = is_text; listings = prints.listings; means = prints.means; line_is = told_is ∙ prints.transcript_is }) (λ w. w)
+-- the words were refused
+pub usage_gives : (asked : Option Ask) (before after : Scene) (result : Status) (line : List ℕ)
+    → None ≡ asked → Tells status.Usage result before.out after.out line → line ≡ usage_line → after.folder ≡ before.folder
+    → after.outlets ≡ before.outlets → RunGives asked before after result
+usage_gives asked before after result line is tells line_is folder outlets =
+    told_gives asked None before after status.Usage result line (sym is) tells (line_is, folder)
+    (record { exporters = ap (λ (o : Outlets). o.exporters) outlets; spoiled = ap (λ (o : Outlets). o.spoiled) outlets }) (λ w. w)
 
 -- the text was refused
-pub refusal_gives : (asked : Option Ask) (ask : Ask) (before after : Shelf) (out new_out : Drain) (result : Status) (line told text : List ℕ)
-    → Some ask ≡ asked → Tells status.Refused result out new_out told → told ≡ line
-    → IsTextOf ask before.files text → IsRefusalOf (depth_asked ask) text line
-    → RunGives asked before after out new_out result
-refusal_gives asked ask before after out new_out result line told text is tells told_is is_text refusal =
-    told_gives asked (Some ask) before after out new_out status.Refused result told (sym is) tells
-    (record { text = text; is_text = is_text; refuses = subst (RefusesText (depth_asked ask) text) (sym told_is) refusal.refuses }) (λ w. w)
+pub refusal_gives : (asked : Option Ask) (ask : Ask) (before after : Scene) (result : Status) (line told text : List ℕ)
+    → Some ask ≡ asked → Tells status.Refused result before.out after.out told → told ≡ line
+    → IsTextOf ask before.folder.files text → IsRefusalOf (depth_asked ask) text line
+    → after.outlets.exporters ≡ kept_of (Some ask) before.outlets.exporters → after.outlets.spoiled ≡ before.outlets.spoiled
+    → RunGives asked before after result
+refusal_gives asked ask before after result line told text is tells told_is is_text refusal exporters spoiled =
+    told_gives asked (Some ask) before after status.Refused result told (sym is) tells
+    (record { text = text; is_text = is_text; refuses = subst (RefusesText (depth_asked ask) text) (sym told_is) refusal.refuses; other = refusal.other })
+    (record { exporters = exporters; spoiled = spoiled }) (λ w. w)
 
 -- the file was not read
-pub unread_gives : (asked : Option Ask) (ask : Ask) (before after : Shelf) (out new_out : Drain) (result : Status) (line told : List ℕ)
-    → Some ask ≡ asked → Tells status.Read result out new_out told → told ≡ line
-    → IsUnreadLine ask before after line
-    → RunGives asked before after out new_out result
-unread_gives asked ask before after out new_out result line told is tells told_is unread =
-    told_gives asked (Some ask) before after out new_out status.Read result told (sym is) tells (rw told_is unread) (λ w. w)
+pub unread_gives : (asked : Option Ask) (ask : Ask) (before after : Scene) (result : Status) (line told : List ℕ)
+    → Some ask ≡ asked → Tells status.Read result before.out after.out told → told ≡ line
+    → IsUnreadLine ask before.folder after.folder line
+    → after.outlets.exporters ≡ kept_of (Some ask) before.outlets.exporters → after.outlets.spoiled ≡ before.outlets.spoiled
+    → RunGives asked before after result
+unread_gives asked ask before after result line told is tells told_is unread exporters spoiled =
+    told_gives asked (Some ask) before after status.Read result told (sym is) tells
+    (rw told_is unread) (record { exporters = exporters; spoiled = spoiled }) (λ w. w)
+
+abbrev pub kept_outlets : Ask → Outlets → Outlets
+kept_outlets ask outlets = record { exporters = kept_of (Some ask) outlets.exporters; spoiled = outlets.spoiled }
+
+handed_gives : (ask : Ask) (before after : Scene) (text : List ℕ) (listings : List Listing) (ended : Handed)
+    → IsTextOf ask before.folder.files text → Means text listings
+    → Appends before.out.held after.out.held (transcripts_of listings)
+    → HandsOver (files_of listings) (kept_of (Some ask) before.outlets.exporters) after.outlets.exporters before.outlets.spoiled after.outlets.spoiled ended
+    → RunGives (Some ask) before after (status_of ended)
+handed_gives ask before after text listings handed.Whole is_text means written hands =
+    record { text = text; is_text = is_text; listings = listings; means = means; written = written; hands = hands }
+handed_gives ask before after text listings handed.Spoiled is_text means written hands =
+    inr (record { text = text; is_text = is_text; listings = listings; means = means; written = written; hands = hands })
+handed_gives ask before after text listings handed.Memory is_text means written hands =
+    inr (record { text = text; is_text = is_text; listings = listings; means = means; written = written; hands = hands })
+
+-- what the text means was exported, as far as it went
+export_gives : (ask : Ask) (before after : Scene) (text : List ℕ) (listings : List Listing) (result : Status)
+    → IsTextOf ask before.folder.files text → Means text listings
+    → Stage (files_of listings) (transcripts_of listings) before.out after.out (kept_outlets ask before.outlets) after.outlets result
+    → RunGives (Some ask) before after result
+export_gives ask before after text listings _ is_text means (no_room out outlets) = inl (record {
+  out = out;
+  spoiled = ap (λ (o : Outlets). o.spoiled) outlets;
+  exporters = inr (ap (λ (o : Outlets). o.exporters) outlets);
+})
+export_gives ask before after text listings _ is_text means (no_sink loses outlets) = inl (record {
+  wanted = status.Ok;
+  line = transcripts_of listings;
+  due = record { text = text; is_text = is_text; listings = listings; means = means; line_is = refl };
+  loses = loses;
+  keeps = record { exporters = ap (λ (o : Outlets). o.exporters) outlets; spoiled = ap (λ (o : Outlets). o.spoiled) outlets };
+})
+export_gives ask before after text listings _ is_text means (handed_over ended written hands) =
+    handed_gives ask before after text listings ended is_text means written hands
+
+-- the output of the accepted text was exported
+pub output_gives : (asked : Option Ask) (ask : Ask) (before after : Scene) (text : List ℕ) (output : Output) (result : Status) (outlets : Outlets)
+    → Some ask ≡ asked → IsTextOf ask before.folder.files text → IsOutputOf text output
+    → Stage (files_held output.files) output.transcript.items before.out after.out outlets after.outlets result
+    → outlets.exporters ≡ kept_of (Some ask) before.outlets.exporters → outlets.spoiled ≡ before.outlets.spoiled
+    → RunGives asked before after result
+output_gives asked ask before after text output result outlets is is_text is_output stage exporters spoiled =
+    rw (← is) (export_gives ask before after text is_output.listings result is_text is_output.means
+    (rw (← is_output.prints.files, ← is_output.prints.transcript, ← exporters, ← spoiled) stage))
+
+module _ {B : Type 0} where
+  -- the files were handed over, after room was made
+  pub handed_after : (account : B → Account) (files : Files) (transcript : List ℕ) (out new_out : Drain)
+      (exporters new_exporters spoiled roomy new_spoiled : List B) (ended : Handed)
+      → roomy ≡ spoiled → Appends out.held new_out.held transcript
+      → HandsOver files (map account exporters) (map account new_exporters) (map account roomy) (map account new_spoiled) ended
+      → Stage files transcript out new_out (record { exporters = map account exporters; spoiled = map account spoiled })
+      (record { exporters = map account new_exporters; spoiled = map account new_spoiled }) (status_of ended)
+  handed_after account files transcript out new_out exporters new_exporters spoiled roomy new_spoiled ended is written hands =
+      handed_over ended written (rw (← is) hands)

@@ -1,4 +1,6 @@
+mod Kept
 mod Gives
+mod Complete
 mod Judging
 mod Answered
 mod OneTranscript

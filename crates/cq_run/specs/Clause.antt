@@ -1,19 +1,26 @@
 -- What a run gives, for each status.
-use Rattle.std.specs.Prelude.{◌≡◌, ◌⊎◌, ◌≤◌, ℕ, length, true, false, List, Some, None, IfSome}
+use Rattle.std.specs.Prelude.{◌≡◌, ◌⊎◌, ◌≤◌, ℕ, length, true, false, List, [], ◌∷◌, Some, None, IfSome, filter}
 use Rattle.std.specs.declared.option.Option.{Option}
+use Rattle.cq_run.specs.Choice.{is_kept}
+use Rattle.cq_export.specs.Handing.{HandsOver}
+use Rattle.cq_export.specs.declared.handing.Handed.{Handed}
+use Rattle.cq_export.specs.declared.handing.Handed.TheVariants as handed
+use Rattle.cq_io.specs.Account.{Account}
 use Rattle.cq_io.specs.Content.{File, find_file}
 use Rattle.cq_io.specs.Counts.{Rose}
 use Rattle.cq_io.specs.Reads.{IsLonger}
 use Rattle.cq_io.specs.Writes.{Appends, AppendsSome, LacksRoom}
-use Rattle.cq_run.specs.Ask.{Ask, depth_asked, run}
 use Rattle.cq_program.specs.Program.{Listing}
+use Rattle.cq_run.specs.Ask.{depth_asked, only_asked}
+use Rattle.cq_run.specs.Files.{files_of}
 use Rattle.cq_run.specs.Lines.{usage_line, read_line}
 use Rattle.cq_run.specs.Meaning.{Means, IsAcceptable, RefusesText, transcripts_of}
-use Rattle.cq_run.specs.Scene.{Shelf, Drain}
+use Rattle.cq_run.specs.Scene.{Drain, Outlets, Scene, Shelf}
 use Rattle.cq_run.specs.declared.answer.ReadCause.{ReadCause}
 use Rattle.cq_run.specs.declared.answer.ReadCause.TheVariants.{Absent, TooLong, Failed}
 use Rattle.cq_run.specs.declared.status.Status.{Status}
 use Rattle.cq_run.specs.declared.status.Status.TheVariants as status
+use Rattle.cq_words.specs.Ask.{Ask, run, example, explain}
 
 -- how long the file may be: 8 MiB
 abbrev pub file_limit : ℕ
@@ -21,7 +28,9 @@ file_limit = 8388608
 
 -- the text of a run is that of its file, where the folder tells its files
 abbrev pub IsTextOf : Ask → Option (List File) → List ℕ → Type 0
-IsTextOf (run file depth) files text = IfSome files (λ told. find_file file told ≡ Some text)
+IsTextOf (run file depth only) files text = IfSome files (λ told. find_file file told ≡ Some text)
+IsTextOf (example size) files text = ⊥
+IsTextOf (explain file instance left right depth) files text = ⊥
 
 -- why a file was not read
 abbrev pub IsCauseOf : ReadCause → List ℕ → Shelf → Shelf → Type 0
@@ -37,11 +46,12 @@ pub record IsAccepted (ask : Ask) (files : Option (List File)) (line : List ℕ)
   pub means : Means text listings
   pub line_is : line ≡ transcripts_of listings
 
--- the text of the run is refused, with this line
+-- the text of the run is refused, with this line, and is none that would be accepted
 pub record IsRefused (ask : Ask) (files : Option (List File)) (line : List ℕ) : Type 0 where
   pub text : List ℕ
   pub is_text : IsTextOf ask files text
   pub refuses : RefusesText (depth_asked ask) text line
+  pub other : IsAcceptable (depth_asked ask) text → ⊥
 
 -- the file was not read, for this cause, and the line says so
 pub record IsUnread (file : List ℕ) (before after : Shelf) (line : List ℕ) : Type 0 where
@@ -49,8 +59,11 @@ pub record IsUnread (file : List ℕ) (before after : Shelf) (line : List ℕ) :
   pub holds : IsCauseOf cause file before after
   pub line_is : line ≡ read_line file cause
 
+-- a file that is due was not read, and the line says so
 abbrev pub IsUnreadLine : Ask → Shelf → Shelf → List ℕ → Type 0
-IsUnreadLine (run file depth) before after line = IsUnread file before after line
+IsUnreadLine (run file depth only) before after line = IsUnread file before after line
+IsUnreadLine (example size) before after line = ⊥
+IsUnreadLine (explain file instance left right depth) before after line = ⊥
 
 -- what a run has to write, and why, by the status that it has where the write succeeds
 abbrev pub HasToWrite : Option Ask → Shelf → Shelf → Status → List ℕ → Type 0
@@ -60,35 +73,64 @@ HasToWrite (Some ask) before after status.Refused line = IsRefused ask before.fi
 HasToWrite (Some ask) before after status.Read line = IsUnreadLine ask before after line
 HasToWrite _ before after _ line = ⊥
 
--- the write failed
+-- the write failed, and a prefix of the line was written
 pub record Loses (before after : Drain) (line : List ℕ) : Type 0 where
   pub written : AppendsSome before.held after.held line
   pub cause : Rose before.faults after.faults
   pub no_room : LacksRoom before.spare line
 
--- the line was written and the status is the one that was wanted, or the write failed
-abbrev pub Tells : Status → Status → Drain → Drain → List ℕ → Type 0
-Tells wanted result before after line =
-    ((result ≡ wanted) × Appends before.held after.held line) ⊎ ((result ≡ status.Write) × Loses before after line)
+-- the exporters that the words keep, in their order
+abbrev pub kept_of : Option Ask → List Account → List Account
+kept_of None exporters = exporters
+kept_of (Some ask) exporters = filter (is_kept (only_asked ask)) exporters
 
--- what is due was written whole, once
-pub record Writes (ask : Option Ask) (before after : Shelf) (out new_out : Drain) (status : Status) : Type 0 where
+-- the exporters are the kept ones, as they were, and none was moved
+pub record KeepsAll (ask : Option Ask) (before after : Outlets) : Type 0 where
+  pub exporters : after.exporters ≡ kept_of ask before.exporters
+  pub spoiled : after.spoiled ≡ before.spoiled
+
+-- what is due was written whole, once, and nothing was exported
+pub record WritesLine (ask : Option Ask) (before after : Scene) (status : Status) : Type 0 where
   pub line : List ℕ
-  pub due : HasToWrite ask before after status line
-  pub written : Appends out.held new_out.held line
+  pub due : HasToWrite ask before.folder after.folder status line
+  pub written : Appends before.out.held after.out.held line
+  pub keeps : KeepsAll ask before.outlets after.outlets
 
--- the sink failed, and has a prefix of what is due
-pub record FailsToWrite (ask : Option Ask) (before after : Shelf) (out new_out : Drain) : Type 0 where
+-- the sink failed, and has a prefix of what is due; nothing was exported
+pub record FailsToWrite (ask : Option Ask) (before after : Scene) : Type 0 where
   pub wanted : Status
   pub line : List ℕ
-  pub due : HasToWrite ask before after wanted line
-  pub loses : Loses out new_out line
+  pub due : HasToWrite ask before.folder after.folder wanted line
+  pub loses : Loses before.out after.out line
+  pub keeps : KeepsAll ask before.outlets after.outlets
 
--- what a run gives; with want of memory nothing is written
-abbrev pub RunGives : Option Ask → Shelf → Shelf → Drain → Drain → Status → Type 0
-RunGives ask before after out new_out status.Write = FailsToWrite ask before after out new_out
-RunGives ask before after out new_out status.Memory = new_out ≡ out
-RunGives ask before after out new_out result = Writes ask before after out new_out result
+-- the text was accepted, the transcripts of what it means were written whole, once, and its files were handed to the kept exporters
+pub record Exports (ask : Ask) (before after : Scene) (ended : Handed) : Type 0 where
+  pub text : List ℕ
+  pub is_text : IsTextOf ask before.folder.files text
+  pub listings : List Listing
+  pub means : Means text listings
+  pub written : Appends before.out.held after.out.held (transcripts_of listings)
+  pub hands : HandsOver (files_of listings) (kept_of (Some ask) before.outlets.exporters) after.outlets.exporters before.outlets.spoiled after.outlets.spoiled ended
+
+abbrev pub ExportsSome : Option Ask → Scene → Scene → Handed → Type 0
+ExportsSome None before after ended = ⊥
+ExportsSome (Some ask) before after ended = Exports ask before after ended
+
+-- want of memory before anything was written; the exporters are those handed in or the kept ones, as they were
+pub record GivesUp (ask : Option Ask) (before after : Scene) : Type 0 where
+  pub out : after.out ≡ before.out
+  pub spoiled : after.outlets.spoiled ≡ before.outlets.spoiled
+  pub exporters : (after.outlets.exporters ≡ before.outlets.exporters) ⊎ (after.outlets.exporters ≡ kept_of ask before.outlets.exporters)
+
+-- what a run gives
+abbrev pub RunGives : Option Ask → Scene → Scene → Status → Type 0
+RunGives ask before after status.Ok = ExportsSome ask before after handed.Whole
+RunGives ask before after status.Refused = WritesLine ask before after status.Refused
+RunGives ask before after status.Usage = WritesLine ask before after status.Usage
+RunGives ask before after status.Read = WritesLine ask before after status.Read
+RunGives ask before after status.Write = FailsToWrite ask before after ⊎ ExportsSome ask before after handed.Spoiled
+RunGives ask before after status.Memory = GivesUp ask before after ⊎ ExportsSome ask before after handed.Memory
 
 -- the text of a run, where the folder tells it within the limit
 pub record IsToldWithin (file : List ℕ) (files : Option (List File)) (text : List ℕ) : Type 0 where
@@ -98,21 +140,29 @@ pub record IsToldWithin (file : List ℕ) (files : Option (List File)) (text : L
   pub short : length text ≤ file_limit
 
 abbrev pub HasText : Ask → Option (List File) → List ℕ → Type 0
-HasText (run file depth) files text = IsToldWithin file files text
+HasText (run file depth only) files text = IsToldWithin file files text
+HasText (example size) files text = ⊥
+HasText (explain file instance left right depth) files text = ⊥
+
+-- none of the exporters ever fails
+abbrev pub AreSteady : List Account → Type 0
+AreSteady [] = Unit {0}
+AreSteady (exporter ∷ exporters) = (exporter.steady ≡ true) × AreSteady exporters
 
 -- the words are read, the text is there, has a meaning, breaks no rule and passes no limit at their depth, no device fails, and the sink has room for
 -- the transcripts
-pub record CanSucceed (ask : Option Ask) (before : Shelf) (out : Drain) : Type 0 where
+pub record CanSucceed (ask : Option Ask) (before : Scene) : Type 0 where
   pub wanted : Ask
   pub asked : ask ≡ Some wanted
   pub text : List ℕ
-  pub there : HasText wanted before.files text
+  pub there : HasText wanted before.folder.files text
   pub acceptable : IsAcceptable (depth_asked wanted) text
-  pub folder : before.steady ≡ true
+  pub folder : before.folder.steady ≡ true
   pub room : ℕ
-  pub spare : out.spare ≡ Some room
+  pub spare : before.out.spare ≡ Some room
   pub fits : (listings : List Listing) → Means text listings → length (transcripts_of listings) ≤ room
+  pub exporters : AreSteady before.outlets.exporters
 
 -- such a run succeeds, or has no memory
-abbrev pub Succeeds : Option Ask → Shelf → Drain → Status → Type 0
-Succeeds ask before out result = CanSucceed ask before out → (result ≡ status.Ok) ⊎ (result ≡ status.Memory)
+abbrev pub Succeeds : Option Ask → Scene → Status → Type 0
+Succeeds ask before result = CanSucceed ask before → (result ≡ status.Ok) ⊎ (result ≡ status.Memory)

@@ -2,6 +2,10 @@ pub mod Status
 pub mod Ask
 pub mod Scene
 pub mod Lines
+pub mod Files
+pub mod Choice
 pub mod Meaning
 pub mod Clause
+pub mod Writing
 pub mod Answer
+pub mod Judged

@@ -1,6 +1,7 @@
 -- What a contract sees of the objects that are handed to a run.
 use Rattle.std.specs.Prelude.{ℕ, Bool, List}
 use Rattle.std.specs.declared.option.Option.{Option}
+use Rattle.cq_io.specs.Account.{Account}
 use Rattle.cq_io.specs.Content.{File}
 
 -- of the folder
@@ -18,3 +19,14 @@ pub record Drain : Type 0 where
   pub faults : ℕ
   -- how many more bytes it takes without a fault
   pub spare : Option ℕ
+
+-- of the two lists of exporters
+pub record Outlets : Type 0 where
+  pub exporters : List Account
+  pub spoiled : List Account
+
+-- of all
+pub record Scene : Type 0 where
+  pub folder : Shelf
+  pub out : Drain
+  pub outlets : Outlets

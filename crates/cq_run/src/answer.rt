@@ -1,18 +1,20 @@
 //! Reading the text of a file, and judging it.
 ghost use Rattle.std.specs.Prelude.{◌≡◌, ◌≤◌, IfOk};
-ghost use Rattle.cq_run.specs.Ask.{run};
+ghost use Rattle.cq_run.specs.Ask.{ask_of};
 ghost use Rattle.cq_run.specs.Answer.{Answers, Judges, SaysUnread};
 ghost use Rattle.cq_run.specs.Lines.{read_line};
 
 use crate::judge::judge;
+use crate::order::Order;
+use crate::output::Output;
 use cq_io::{Folder, ReadRefusal};
 use std::alloc::{AllocError, Global};
 
 /// What is to be written, by what became of the file.
 #[derive(Drop)]
 pub enum Answer {
-    /// The transcripts.
-    Accepted(Vec<u8>),
+    /// The transcripts and the files.
+    Accepted(Output),
     /// The line of a refused text.
     Refused(Vec<u8>),
     /// The line of a file that was not read.
@@ -31,17 +33,18 @@ pub enum ReadCause {
 /// The most bytes of a program file: 8 MiB.
 const FILE_LIMIT: u64 = 8388608;
 
-/// Reads the file, and judges its text with models made to a depth.
-pub fn answer_to<F: Folder>(alloc: Global, file: &str, depth: u32, folder: &mut F) -> Answer
-    requires { depth ≤ 64 }
+/// Reads the file, and judges its text with models made to the depth.
+pub fn answer_to<F: Folder>(alloc: Global, order: Order<'_>, folder: &mut F) -> Answer
+    requires { order.depth ≤ 64 }
     ensures files { F.files folder.new ≡ F.files folder.old }
-    ensures answers { Answers (run file.now depth)
+    ensures answers { Answers (ask_of order.entry)
         (record { files = F.files folder.old; faults = F.faults folder.old; absences = F.absences folder.old; overruns = F.overruns folder.old; steady = F.steady folder.old })
         (record { files = F.files folder.new; faults = F.faults folder.new; absences = F.absences folder.new; overruns = F.overruns folder.new; steady = F.steady folder.new })
         result }
 {
+    let file = order.file;
     match folder.read(file, FILE_LIMIT) {
-        Ok(text) => judge(alloc, text.as_slice(), depth, folder),
+        Ok(text) => judge(alloc, text.as_slice(), order.depth, folder),
         Err(ReadRefusal::Absent) => unread(alloc, file, ReadCause::Absent),
         Err(ReadRefusal::TooLong) => unread(alloc, file, ReadCause::TooLong),
         Err(ReadRefusal::Failed) => unread(alloc, file, ReadCause::Failed),

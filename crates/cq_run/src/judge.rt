@@ -1,22 +1,21 @@
-//! What is to be written for a text: the transcripts of its instances, or the line of the first rule that it breaks.
-ghost use Rattle.std.specs.Prelude.{◌≡◌, ◌≤◌, ◌^◌, ◌++◌, ◌∷◌, length, map, codes, decimal, [], IfOk, OnOk};
+//! What is to be written for a text: what its instances are written as, or the line of the first rule that it breaks.
+ghost use Rattle.std.specs.Prelude.{◌≡◌, ◌≤◌, ◌^◌, ◌∷◌, length, codes, decimal, []};
 ghost use Rattle.cq_lex.specs.Spans.{EndsOnce};
 ghost use Rattle.cq_program.specs.Lines.{line_of};
-ghost use Rattle.cq_program.specs.Named.{listed_as};
-ghost use Rattle.cq_run.specs.Answer.{Judges, JudgesProgram, JudgesTokens, SaysRefused, TellsLex, TellsParse};
-ghost use Rattle.cq_run.specs.Meaning.{transcript_of, transcripts_of};
+ghost use Rattle.cq_run.specs.Answer.{Judges};
+ghost use Rattle.cq_run.specs.Judged.{JudgesProgram, JudgesTokens, SaysRefused, TellsLex, TellsParse};
 
 use crate::answer::Answer;
+use crate::output::output_of;
 use cq_base::Place;
 use cq_io::Folder;
 use cq_lex::{LexRefusal, Token, lex};
 use cq_parse::{ParseRefusal, parse};
-use cq_program::{Named, ProgramRefusal, has_few_parts, meaning, numbered_line, refusal_line};
+use cq_program::{ProgramRefusal, has_few_parts, meaning, numbered_line, refusal_line};
 use cq_syntax::Program;
-use cq_text::transcript;
-use std::alloc::{AllocError, Global};
+use std::alloc::Global;
 
-/// The transcripts of what the text means, with models made to a depth, or the line of its first fault.
+/// What the text means, written, with models made to a depth, or the line of its first fault.
 pub fn judge<F: Folder>(alloc: Global, text: &[u8], depth: u32, folder: &mut F) -> Answer
     requires length { length text.now ≤ 2 ^ 23 }
     requires depth { depth ≤ 64 }
@@ -52,8 +51,8 @@ fn judge_program<F: Folder>(alloc: Global, program: &Program, depth: u32, folder
         return Answer::Memory;
     }
     match meaning(alloc, program, folder, depth) {
-        Ok(named) => match transcripts(alloc, named.as_slice()) {
-            Ok(text) => Answer::Accepted(text),
+        Ok(named) => match output_of(alloc, named.as_slice()) {
+            Ok(output) => Answer::Accepted(output),
             Err(_) => Answer::Memory,
         },
         Err(ProgramRefusal::Broken(place, reason)) => match reason.line(alloc, place) {
@@ -62,27 +61,6 @@ fn judge_program<F: Folder>(alloc: Global, program: &Program, depth: u32, folder
         },
         Err(_) => Answer::Memory,
     }
-}
-
-/// The transcripts of instances, in order.
-#[tactic(auto, unfolding(crate::specs::Meaning::transcripts_of))]
-fn transcripts(alloc: Global, instances: &[Named]) -> Result<Vec<u8>, AllocError>
-    ensures { IfOk result (λ text. text.items ≡ transcripts_of (map listed_as instances.now)) }
-{
-    let mut text = Vec::new(alloc);
-    for named in instances {
-        push_transcript(alloc, named, &mut text)?;
-    }
-    Ok(text)
-}
-
-/// Appends the transcript of an instance.
-fn push_transcript(alloc: Global, named: &Named, text: &mut Vec<u8>) -> Result<(), AllocError>
-    ensures { OnOk result (text.new.items ≡ text.old.items ++ transcript_of (listed_as named.now)) }
-{
-    let own = transcript(alloc, &named.name, &named.schema, &named.instance)?;
-    text.extend_from_slice(own.as_slice())?;
-    Ok(())
 }
 
 /// The line of a text that has no tokens.

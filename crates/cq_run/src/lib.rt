@@ -1,16 +1,20 @@
-//! The top call: reads the words and the file, and writes the transcripts.
+//! The top call: reads the words and the file, writes the transcripts, and hands the files to the exporters.
 #![tactic(auto)]
 
 mod answer;
+mod choice;
 mod judge;
 pub mod laws;
+mod order;
+mod output;
 mod status;
 mod top;
-mod words;
 
 pub use status::Status;
 pub use top::run;
 
+#[cfg(test)]
+mod exporting;
 #[cfg(test)]
 mod programs;
 #[cfg(test)]

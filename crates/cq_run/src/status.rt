@@ -5,7 +5,7 @@ ghost use Rattle.cq_run.specs.Status.{code_of};
 /// How a run ended.
 #[derive(Clone, Copy, Debug, PartialEq, Eq)]
 pub enum Status {
-    /// The file was accepted, and its transcript written.
+    /// The file was accepted, its transcripts were written, and each exporter took its files.
     Ok,
     /// The file breaks a rule, and the line that says which was written.
     Refused,
@@ -13,9 +13,9 @@ pub enum Status {
     Usage,
     /// A file could not be read, and the line that says why was written.
     Read,
-    /// The write failed; a prefix of what was due is written.
+    /// The write failed, and a prefix of what was due is written; or some exporters failed.
     Write,
-    /// There was no memory, and nothing is written.
+    /// There was no memory: nothing is written, or an exporter stopped.
     Memory,
 }
 

@@ -1,6 +1,6 @@
 //! Runs over the fakes in memory.
-use crate::{Status, run};
-use cq_io::{MemFolder, MemSink};
+use crate::Status;
+use cq_io::{Exporter, Folder, MemFolder, MemSink, Sink};
 use std::alloc::{AllocError, Global};
 use std::test::Fail;
 
@@ -20,6 +20,13 @@ fn folder(alloc: Global, text: &str, failing: &[u64]) -> Result<MemFolder, Alloc
     let bytes = Vec::from_slice(alloc, text.as_bytes())?;
     files.push((String::from_str(alloc, "p.cql")?, bytes))?;
     MemFolder::new(alloc, files, Vec::from_slice(alloc, failing)?)
+}
+
+/// A run without exporters.
+fn run<F: Folder, K: Sink>(alloc: Global, words: &[String], folder: &mut F, out: &mut K) -> Status {
+    let mut exporters: Vec<Box<dyn Exporter>> = Vec::new(alloc);
+    let mut spoiled: Vec<Box<dyn Exporter>> = Vec::new(alloc);
+    crate::run(alloc, words, folder, &mut exporters, &mut spoiled, out)
 }
 
 struct Case {
@@ -108,13 +115,13 @@ static CASES: [Case; 46] = [
         written: USAGE,
     },
     Case {
-        words: &["run", "p.cql", "--depth", "005"],
+        words: &["example", "3"],
         text: FIRST,
         status: Status::Usage,
         written: USAGE,
     },
     Case {
-        words: &["run", "--depth", "5", "p.cql"],
+        words: &["explain", "p.cql", "I", "a", "b"],
         text: FIRST,
         status: Status::Usage,
         written: USAGE,

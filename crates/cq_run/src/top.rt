@@ -1,55 +1,105 @@
 //! The top call.
 ghost use Rattle.std.specs.Prelude.{◌≡◌, map, string_bytes};
-ghost use Rattle.cq_run.specs.Ask.{reads};
-ghost use Rattle.cq_run.specs.Clause.{RunGives, Succeeds, Tells};
+ghost use Rattle.cq_export.specs.Held.{files_held};
+ghost use Rattle.cq_run.specs.Ask.{asked};
+ghost use Rattle.cq_run.specs.Clause.{RunGives, Succeeds};
+ghost use Rattle.cq_run.specs.Writing.{Stage, Tells};
 
 use crate::answer::{Answer, answer_to};
+use crate::choice::keep_format;
+use crate::order::order_in;
+use crate::output::Output;
 use crate::status::Status;
-use crate::words::asked_in;
-use cq_io::{Folder, Sink};
+use cq_export::{Handed, hand_over};
+use cq_io::{Exporter, Folder, Sink};
 use std::alloc::Global;
 
 const USAGE: &str = "usage: cqlrun run FILE [--depth K] [--only csv|cql]\n";
 
 /// Runs the words: reads the file that they name from `folder`, and writes the transcripts of its instances, or the
-/// line that says why there are none, to `out`, in one write. What each status says stands with the clause `gives`; a run
-/// over devices that don't fail, of a text that has a meaning, breaks no rule and passes no limit at the depth of the
-/// words, ends with `Ok` or for want of memory (the clause `complete`).
+/// line that says why there are none, to `out`, in one write. Then the files of the instances are handed to each exporter of
+/// the formats that are asked for, in turn; the others are dropped before anything is read. An exporter that fails is moved
+/// to the end of `spoiled`, and the next goes on; one that has no memory ends the run.
+///
+/// What each status says stands with the clause `gives`. A run over devices that don't fail, of a text that has a meaning,
+/// breaks no rule and passes no limit at the depth of the words, ends with `Ok` or for want of memory (the clause `complete`).
 pub fn run<F: Folder, K: Sink>(
     alloc: Global,
     words: &[String],
     folder: &mut F,
+    exporters: &mut Vec<Box<dyn Exporter>>,
+    spoiled: &mut Vec<Box<dyn Exporter>>,
     out: &mut K,
 ) -> Status
     ensures files { F.files folder.new ≡ F.files folder.old }
-    ensures gives { RunGives (reads (map string_bytes words.now))
-        (record { files = F.files folder.old; faults = F.faults folder.old; absences = F.absences folder.old; overruns = F.overruns folder.old; steady = F.steady folder.old })
-        (record { files = F.files folder.new; faults = F.faults folder.new; absences = F.absences folder.new; overruns = F.overruns folder.new; steady = F.steady folder.new })
-        (record { held = K.held out.old; faults = K.faults out.old; spare = K.spare out.old })
-        (record { held = K.held out.new; faults = K.faults out.new; spare = K.spare out.new })
+    ensures gives { RunGives (asked (map string_bytes words.now))
+        (record {
+          folder = record { files = F.files folder.old; faults = F.faults folder.old; absences = F.absences folder.old; overruns = F.overruns folder.old; steady = F.steady folder.old };
+          out = record { held = K.held out.old; faults = K.faults out.old; spare = K.spare out.old };
+          outlets = record { exporters = map account exporters.old.items; spoiled = map account spoiled.old.items };
+        })
+        (record {
+          folder = record { files = F.files folder.new; faults = F.faults folder.new; absences = F.absences folder.new; overruns = F.overruns folder.new; steady = F.steady folder.new };
+          out = record { held = K.held out.new; faults = K.faults out.new; spare = K.spare out.new };
+          outlets = record { exporters = map account exporters.new.items; spoiled = map account spoiled.new.items };
+        })
         result }
-    ensures complete { Succeeds (reads (map string_bytes words.now))
-        (record { files = F.files folder.old; faults = F.faults folder.old; absences = F.absences folder.old; overruns = F.overruns folder.old; steady = F.steady folder.old })
-        (record { held = K.held out.old; faults = K.faults out.old; spare = K.spare out.old })
+    ensures complete { Succeeds (asked (map string_bytes words.now))
+        (record {
+          folder = record { files = F.files folder.old; faults = F.faults folder.old; absences = F.absences folder.old; overruns = F.overruns folder.old; steady = F.steady folder.old };
+          out = record { held = K.held out.old; faults = K.faults out.old; spare = K.spare out.old };
+          outlets = record { exporters = map account exporters.old.items; spoiled = map account spoiled.old.items };
+        })
         result }
 {
-    let Some((file, depth)) = asked_in(words) else {
-        return tell(out, USAGE.as_bytes(), Status::Usage);
-    };
-    match answer_to(alloc, file, depth, folder) {
-        Answer::Memory => Status::Memory,
-        Answer::Accepted(transcript) => tell(out, transcript.as_slice(), Status::Ok),
-        Answer::Refused(line) => tell(out, line.as_slice(), Status::Refused),
-        Answer::Unread(line) => tell(out, line.as_slice(), Status::Read),
+    match order_in(alloc, words) {
+        Err(_) => Status::Memory,
+        Ok(None) => tell(out, USAGE.as_bytes(), Status::Usage),
+        Ok(Some(order)) => {
+            keep_format(exporters, order.only);
+            match answer_to(alloc, order, folder) {
+                Answer::Memory => Status::Memory,
+                Answer::Refused(line) => tell(out, line.as_slice(), Status::Refused),
+                Answer::Unread(line) => tell(out, line.as_slice(), Status::Read),
+                Answer::Accepted(output) => export(exporters, spoiled, out, &output),
+            }
+        }
     }
 }
 
-/// Writes what is due, with the status that the run then has.
+/// Writes the line that is due, with the status that the run then has.
 fn tell<K: Sink>(out: &mut K, line: &[u8], wanted: Status) -> Status
     ensures { Tells wanted result (record { held = K.held out.old; faults = K.faults out.old; spare = K.spare out.old }) (record { held = K.held out.new; faults = K.faults out.new; spare = K.spare out.new }) line.now }
 {
     match out.write_all(line) {
         Ok(()) => wanted,
         Err(_) => Status::Write,
+    }
+}
+
+/// Writes the transcript, and then hands the files over. Room for every exporter in `spoiled` is made before the write,
+/// so that moving one takes no memory.
+fn export<K: Sink>(
+    exporters: &mut Vec<Box<dyn Exporter>>,
+    spoiled: &mut Vec<Box<dyn Exporter>>,
+    out: &mut K,
+    output: &Output,
+) -> Status
+    ensures { Stage (files_held output.now.files) output.now.transcript.items
+        (record { held = K.held out.old; faults = K.faults out.old; spare = K.spare out.old }) (record { held = K.held out.new; faults = K.faults out.new; spare = K.spare out.new })
+        (record { exporters = map account exporters.old.items; spoiled = map account spoiled.old.items })
+        (record { exporters = map account exporters.new.items; spoiled = map account spoiled.new.items })
+        result }
+{
+    let Ok(()) = spoiled.reserve(exporters.len()) else {
+        return Status::Memory;
+    };
+    let Ok(()) = out.write_all(output.transcript.as_slice()) else {
+        return Status::Write;
+    };
+    match hand_over(exporters, spoiled, &output.files) {
+        Handed::Whole => Status::Ok,
+        Handed::Spoiled => Status::Write,
+        Handed::Memory => Status::Memory,
     }
 }

@@ -6,7 +6,8 @@ use Rattle.std.proofs.lemmas.List.Concat.{flat_map-append}
 use Rattle.std.proofs.lemmas.List.FromFn.{map-range_with_len_more}
 use Rattle.cq_theory.specs.Canonical.{below}
 
-below_more : (n : ℕ) → below (n + 1) ≡ below n ++ n ∷ []
+-- one more number
+pub below_more : (n : ℕ) → below (n + 1) ≡ below n ++ n ∷ []
 below_more n =
     sym (map-id (below (n + 1))) ∙ map-range_with_len_more (λ k. k) 0 n n (omega arith) ∙ ap (λ l. l ++ n ∷ []) (map-id (below n))
 

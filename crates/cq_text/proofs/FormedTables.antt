@@ -4,6 +4,7 @@ use Rattle.std.specs.Prelude.{Option, Some, All, slice_get, slice_index_or, opti
 use Rattle.std.specs.List.{AllZip}
 use Rattle.std.proofs.lemmas.List.Elements.{All-nil, All-cons}
 use Rattle.cq_theory.specs.SchemaData.{SchemaData as Schema}
+use Rattle.cq_theory.specs.declared.constant.Con.TheVariants.{Named}
 use Rattle.cq_theory.specs.declared.schema.Edge.{Edge}
 use Rattle.cq_theory.specs.declared.value.Entry.{Entry}
 use Rattle.cq_theory.specs.declared.value.Value.{Value}
@@ -72,14 +73,14 @@ module _ (S : Schema) (M : Tables) (edge : Edge) (from to : ℕ) (source : edge.
       (size ∙ ap (count_of M) (sym source), subst (λ n. All (λ v. (value_type S M.algebra.nulls v ≡ Some n) × (normal_of M v ≡ v)) column) (sym target) cells)
 
 abbrev rows : Sheet
-rows = record { counts = 2 ∷ 1 ∷ []; keys = (0 ∷ 0 ∷ []) ∷ []; cells = (value.Const 0 ∷ value.Null 0 ∷ []) ∷ [] }
+rows = record { counts = 2 ∷ 1 ∷ []; keys = (0 ∷ 0 ∷ []) ∷ []; cells = (value.Const (Named 0) ∷ value.Null 0 ∷ []) ∷ [] }
 
 cells_fit : All (λ column. All (λ v. symbols_of v ≤ 1024) column) rows.cells
 cells_fit =
-    let constant : symbols_of (value.Const 0) ≡ 1 = values.fold-Const ℕ symbols_step 0 in
+    let constant : symbols_of (value.Const (Named 0)) ≡ 1 = values.fold-Const ℕ symbols_step (Named 0) in
     let null : symbols_of (value.Null 0) ≡ 1 = values.fold-Null ℕ symbols_step 0 in
-    All-cons (λ column. All (λ v. symbols_of v ≤ 1024) column) (value.Const 0 ∷ value.Null 0 ∷ []) []
-    (All-cons (λ v. symbols_of v ≤ 1024) (value.Const 0) (value.Null 0 ∷ []) (omega arith) (All-cons (λ v. symbols_of v ≤ 1024) (value.Null 0) [] (omega arith) (All-nil (λ v. symbols_of v ≤ 1024))))
+    All-cons (λ column. All (λ v. symbols_of v ≤ 1024) column) (value.Const (Named 0) ∷ value.Null 0 ∷ []) []
+    (All-cons (λ v. symbols_of v ≤ 1024) (value.Const (Named 0)) (value.Null 0 ∷ []) (omega arith) (All-cons (λ v. symbols_of v ≤ 1024) (value.Null 0) [] (omega arith) (All-nil (λ v. symbols_of v ≤ 1024))))
     (All-nil (λ column. All (λ v. symbols_of v ≤ 1024) column))
 
 -- two rows with one row as their key, a constant and a null
@@ -93,19 +94,19 @@ keyed_formed S entities key_from key_to attribute_from attribute_to types consta
     formed S rows (0 ∷ []) (sym entities)
     (subst (λ (es : List Edge). AllZip (IsKeyColumn S M) es rows.keys) (sym key.1)
     (key_column S M key.0 0 1 key.2 key.3 (0 ∷ 0 ∷ []) refl (All-cons (λ row. row < 1) 0 (0 ∷ []) (omega arith) (All-cons (λ row. row < 1) 0 [] (omega arith) (All-nil (λ row. row < 1)))), tt))
-    (subst (λ (es : List Edge). AllZip (IsCellColumn S M) es rows.cells) (sym attribute.1) (cell_column S M attribute.0 0 0 attribute.2 attribute.3 (value.Const 0 ∷ value.Null 0 ∷ []) refl (cells M), tt))
+    (subst (λ (es : List Edge). AllZip (IsCellColumn S M) es rows.cells) (sym attribute.1) (cell_column S M attribute.0 0 0 attribute.2 attribute.3 (value.Const (Named 0) ∷ value.Null 0 ∷ []) refl (cells M), tt))
     (All-cons (λ n. n < length S.typeside.types) 0 [] types (All-nil (λ n. n < length S.typeside.types)))
   where
-    cells : (M : Tables) → All (λ v. (value_type S (0 ∷ []) v ≡ Some 0) × (normal_of M v ≡ v)) (value.Const 0 ∷ value.Null 0 ∷ [])
+    cells : (M : Tables) → All (λ v. (value_type S (0 ∷ []) v ≡ Some 0) × (normal_of M v ≡ v)) (value.Const (Named 0) ∷ value.Null 0 ∷ [])
     cells M =
-        All-cons (λ v. (value_type S (0 ∷ []) v ≡ Some 0) × (normal_of M v ≡ v)) (value.Const 0) (value.Null 0 ∷ [])
-        (values.fold-Const (Option ℕ) (value_type_step S (0 ∷ [])) 0 ∙ constant, values.fold-Const Value (normal_step M) 0)
+        All-cons (λ v. (value_type S (0 ∷ []) v ≡ Some 0) × (normal_of M v ≡ v)) (value.Const (Named 0)) (value.Null 0 ∷ [])
+        (values.fold-Const (Option ℕ) (value_type_step S (0 ∷ [])) (Named 0) ∙ constant, values.fold-Const Value (normal_step M) (Named 0))
         (All-cons (λ v. (value_type S (0 ∷ []) v ≡ Some 0) × (normal_of M v ≡ v)) (value.Null 0) []
         (values.fold-Null (Option ℕ) (value_type_step S (0 ∷ [])) 0, values.fold-Null Value (normal_step M) 0)
         (All-nil (λ v. (value_type S (0 ∷ []) v ≡ Some 0) × (normal_of M v ≡ v))))
 
 -- they are a model of a schema without equations
-pub keyed_model : (S : Schema) (sheet : Sheet) (algebra : Algebra) → sheet ≡ record { counts = 2 ∷ 1 ∷ []; keys = (0 ∷ 0 ∷ []) ∷ []; cells = (value.Const 0 ∷ value.Null 0 ∷ []) ∷ [] }
+pub keyed_model : (S : Schema) (sheet : Sheet) (algebra : Algebra) → sheet ≡ record { counts = 2 ∷ 1 ∷ []; keys = (0 ∷ 0 ∷ []) ∷ []; cells = (value.Const (Named 0) ∷ value.Null 0 ∷ []) ∷ [] }
     → algebra ≡ record { nulls = 0 ∷ []; entries = [] } → length S.entities ≡ 2 → map (λ (e : Edge). e.from) S.keys ≡ 0 ∷ [] → map (λ (e : Edge). e.to) S.keys ≡ 1 ∷ []
     → map (λ (e : Edge). e.from) S.attributes ≡ 0 ∷ [] → map (λ (e : Edge). e.to) S.attributes ≡ 0 ∷ [] → 0 < length S.typeside.types
     → option_map (λ c. c.1) (slice_get S.typeside.constants 0) ≡ Some 0 → length S.path_eqs ≡ 0 → length S.obs_eqs ≡ 0 → IsModel S (record { sheet = sheet; algebra = algebra })

@@ -1,6 +1,9 @@
 pub mod Belows
+pub mod EquationLines
 pub mod Examples
+pub mod FormedTables
+pub mod GeneratorLines
 pub mod Groups
 pub mod Numbers
+pub mod Plans
 pub mod Typed
-pub mod FormedTables

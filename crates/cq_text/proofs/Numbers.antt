@@ -8,11 +8,13 @@ use Rattle.std.proofs.lemmas.List.Elements.{All-map, All-filter, filter-append, 
 use Rattle.std.proofs.lemmas.List.FromFn.{length-enumerate_from, get_or-enumerate_from}
 use Rattle.std.proofs.lemmas.Option.{slice_get-get_or, IfSome_then}
 use Rattle.cq_theory.specs.declared.schema.Edge.{Edge}
+use Rattle.cq_theory.specs.Tables.{Tables, count_of}
 use Rattle.cq_theory.specs.Canonical.{edges_from}
 use Rattle.cq_text.specs.Grouped.{numbers_from}
+use Rattle.cq_text.specs.Spelling.{LeavesRow}
 
 -- an edge under its number
-abbrev IsNumbered : List Edge → ℕ × Edge → Type 0
+abbrev pub IsNumbered : List Edge → ℕ × Edge → Type 0
 IsNumbered edges p = (p.0 < length edges) × (slice_get edges p.0 ≡ Some p.1)
 
 all_numbered : (edges : List Edge) → All (IsNumbered edges) (enumerate_from 0 edges)
@@ -20,6 +22,9 @@ all_numbered edges k d within =
     let inside : k < length edges = omega (arith, length-enumerate_from 0 edges) in
     let here : slice_get edges (0 + k) ≡ Some (get_or edges k d.1) = ap (slice_get edges) (zero-add k) ∙ slice_get-get_or edges k d.1 inside in
     subst (IsNumbered edges) (sym (get_or-enumerate_from 0 edges k d inside)) (omega arith, here)
+
+pub edges_are_numbered : (entity : ℕ) (edges : List Edge) → All (IsNumbered edges) (edges_from entity edges)
+edges_are_numbered entity edges = All-filter (λ p. p.1.from == entity) (IsNumbered edges) (enumerate_from 0 edges) (all_numbered edges)
 
 -- the number of an edge from the entity
 abbrev pub IsNumberFrom : ℕ → List Edge → ℕ → Type 0
@@ -41,7 +46,16 @@ row_of_source entity row edges count numbers k is within inside =
     let here = subst (All (IsNumberFrom entity edges)) (sym is) (numbers_are_from entity edges) k 0 inside in
     (here.0, IfSome_then (slice_get edges (slice_index_or numbers k 0)) here.1 (λ edge from. subst (λ e. row < count e) (sym from) within))
 
-enumerate_from-append : {X : Type 0} (n : ℕ) (xs ys : List X) → enumerate_from n (xs ++ ys) ≡ enumerate_from n xs ++ enumerate_from (n + length xs) ys
+-- each of the entity's edges leaves each of its rows
+pub leaves_row : (M : Tables) (entity row : ℕ) (edges : List Edge) (numbers : List ℕ) → numbers ≡ numbers_from entity edges → row < count_of M entity → All (LeavesRow M edges row) numbers
+leaves_row M entity row edges numbers is within = λ k d inside.
+    let here = subst (All (IsNumberFrom entity edges)) (sym is) (numbers_are_from entity edges) k d inside in
+    (here.0, IfSome_then (slice_get edges (slice_index_or numbers k d)) here.1 (λ edge from. subst (λ e. row < count_of M e) (sym from) within))
+
+pub numbers_within : (entity : ℕ) (edges : List Edge) (numbers : List ℕ) → numbers ≡ numbers_from entity edges → All (λ n. n < length edges) numbers
+numbers_within entity edges numbers is = λ k d inside. (subst (All (IsNumberFrom entity edges)) (sym is) (numbers_are_from entity edges) k d inside).0
+
+pub enumerate_from-append : {X : Type 0} (n : ℕ) (xs ys : List X) → enumerate_from n (xs ++ ys) ≡ enumerate_from n xs ++ enumerate_from (n + length xs) ys
 enumerate_from-append n [] ys = ap (λ m. enumerate_from m ys) (omega arith)
 enumerate_from-append n (x ∷ xs) ys =
     let same : n + 1 + length xs ≡ n + length (x ∷ xs) = omega arith in

@@ -5,6 +5,9 @@ use Rattle.std.specs.List.{list_all}
 use Rattle.std.proofs.lemmas.Bool.{lt-ltb}
 use Rattle.std.proofs.lemmas.Option.{slice_get_within, slice_get_cases, cond_some}
 use Rattle.cq_theory.specs.SchemaData.{SchemaData as Schema}
+use Rattle.cq_theory.specs.Typeside.{constant_type}
+use Rattle.cq_theory.specs.declared.constant.Con.{Con}
+use Rattle.cq_theory.specs.declared.constant.Con.TheVariants.{Named, Open}
 use Rattle.cq_theory.specs.declared.typeside.Fun.{Fun as Function}
 use Rattle.cq_theory.specs.declared.schema.Edge.{Edge}
 use Rattle.cq_theory.specs.declared.value.Entry.{Entry}
@@ -15,7 +18,7 @@ use Rattle.cq_theory.specs.declared.value.Value.TheFolds.{ind-Value, map-Value}
 use Rattle.cq_theory.specs.declared.value.Value.TheViews.{roll-Value}
 use Rattle.cq_theory.specs.Sorts.{applied_type, have_types, is_type}
 use Rattle.cq_theory.specs.Tables.{Tables, count_of, cell_at, value_type, value_type_step, IsWellFormed, IsSoundEntry}
-use Rattle.cq_theory.specs.ValueText.{is_named, is_named_step}
+use Rattle.cq_theory.specs.ValueText.{is_named, is_named_con, is_named_step}
 use Rattle.cq_theory.proofs.Values.{fold-Const, fold-Null, fold-Fun, function_in_range, args_named}
 use Rattle.cq_text.specs.Transcript.{IsNamedEntry}
 
@@ -25,7 +28,7 @@ Each P [] = Unit {0}
 Each P (v ∷ vs) = P v × Each P vs
 
 module _ (P : Value → Type 0)
-    (on_const : (n : ℕ) → P (Const n)) (on_null : (n : ℕ) → P (Null n))
+    (on_const : (n : Con) → P (Const n)) (on_null : (n : ℕ) → P (Null n))
     (on_fun : (f : ℕ) (vs : List Value) → Each P vs → P (Fun f vs)) where
   each_such : (ys : List ((v : Value) × P v)) → Each P (map (λ e. e.0) ys)
   each_such [] = tt
@@ -67,10 +70,12 @@ module _ (S : Schema) (nulls : List ℕ) where
   abbrev IsNamedIfTyped : Value → Type 0
   IsNamedIfTyped v = (type : ℕ) → value_type S nulls v ≡ Some type → is_named S.typeside v ≡ true
 
-  named_const : (n : ℕ) → IsNamedIfTyped (Const n)
-  named_const n type h =
-      let within = mapped_within (λ constant. constant.1) S.typeside.constants n type (sym (fold-Const (Option ℕ) (value_type_step S nulls) n) ∙ h) in
-      fold-Const Bool (is_named_step S.typeside) n ∙ lt-ltb n (length S.typeside.constants) within
+  constant_is_named : (c : Con) (type : ℕ) → constant_type S.typeside c ≡ Some type → is_named_con S.typeside c ≡ true
+  constant_is_named (Named n) type h = lt-ltb n (length S.typeside.constants) (mapped_within (λ constant. constant.1) S.typeside.constants n type h)
+  constant_is_named (Open text) type h = refl
+
+  named_const : (c : Con) → IsNamedIfTyped (Const c)
+  named_const c type h = fold-Const Bool (is_named_step S.typeside) c ∙ constant_is_named c type (sym (fold-Const (Option ℕ) (value_type_step S nulls) c) ∙ h)
 
   named_null : (n : ℕ) → IsNamedIfTyped (Null n)
   named_null n type h = fold-Null Bool (is_named_step S.typeside) n
@@ -104,7 +109,7 @@ cell_is_named S M well a row within of_source =
           let below : row < count_of M edge.from = subst (λ o. IfSome o (λ (e : Edge). row < count_of M e.from)) found.2 of_source in
           let whole : length column ≡ count_of M edge.from = is_column.0 in
           let here : row < length column = omega arith in
-          named_if_typed S M.algebra.nulls (cell_at M a row) edge.to (is_column.1 row (Const 0) here).0
+          named_if_typed S M.algebra.nulls (cell_at M a row) edge.to (is_column.1 row (Const (Named 0)) here).0
       | inr past ↦ let beyond : length S.attributes ≤ a = past.0 in absurd (omega arith)
     ]
 

@@ -1,2 +1,4 @@
 pub mod Grouped
+pub mod Literal
+pub mod Spelling
 pub mod Transcript

@@ -2,8 +2,25 @@
 ghost use Rattle.std.specs.Prelude.{◌<◌, ◌^◌, [], All, IfOk, length};
 ghost use Rattle.cq_text.specs.Grouped.{IsGrouped};
 
+use cq_model::Instance;
 use cq_theory::Edge;
 use std::alloc::{AllocError, Global};
+
+/// The numbers of the attributes of each entity, in their order.
+pub fn attributes_by_entity(alloc: Global, instance: &Instance) -> Result<Vec<Vec<u32>>, AllocError>
+    ensures { IfOk result (λ groups. IsGrouped instance.now.schema.attributes (length instance.now.schema.entities) groups.items) }
+{
+    let schema = instance.schema();
+    group_by_source(alloc, schema.attributes.as_slice(), schema.entities.len())
+}
+
+/// The numbers of the foreign keys of each entity, in their order.
+pub fn keys_by_entity(alloc: Global, instance: &Instance) -> Result<Vec<Vec<u32>>, AllocError>
+    ensures { IfOk result (λ groups. IsGrouped instance.now.schema.keys (length instance.now.schema.entities) groups.items) }
+{
+    let schema = instance.schema();
+    group_by_source(alloc, schema.keys.as_slice(), schema.entities.len())
+}
 
 /// The numbers of the edges from each entity, in their order: one list for each entity.
 pub fn group_by_source(

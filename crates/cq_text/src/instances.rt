@@ -5,7 +5,7 @@ ghost use Rattle.cq_theory.specs.Canonical.{below};
 ghost use Rattle.cq_text.specs.Transcript.{entity_lines, line, transcript_of};
 
 use crate::algebra::{push_entries, push_nulls};
-use crate::edges::group_by_source;
+use crate::edges::{attributes_by_entity, keys_by_entity};
 use crate::pieces::push_name;
 use crate::rows::push_entities;
 use cq_base::Name;
@@ -49,10 +49,8 @@ fn push_first_line(name: &Name, schema: &Name, text: &mut Vec<u8>) -> Result<(),
 fn push_tables(alloc: Global, instance: &Instance, text: &mut Vec<u8>) -> Result<(), AllocError>
     ensures { OnOk result (text.new.items ≡ text.old.items ++ flat_map (entity_lines instance.now) (below (length instance.now.schema.entities))) }
 {
-    let schema = instance.schema();
-    let entities = schema.entities.len();
-    let attributes = group_by_source(alloc, schema.attributes.as_slice(), entities)?;
-    let keys = group_by_source(alloc, schema.keys.as_slice(), entities)?;
+    let attributes = attributes_by_entity(alloc, instance)?;
+    let keys = keys_by_entity(alloc, instance)?;
     push_entities(instance, &attributes, &keys, text)?;
     Ok(())
 }

@@ -1,12 +1,20 @@
-//! Texts of instances.
+//! Texts of instances: transcripts and literals.
 #![tactic(auto)]
 
 mod algebra;
-mod edges;
+pub mod edges;
+mod equations;
+mod generators;
 mod instances;
+mod literals;
 mod pieces;
+mod plan;
 mod rows;
+mod spelling;
 #[cfg(test)]
 mod tests;
 
 pub use instances::transcript;
+pub use literals::literal;
+pub use pieces::push_number;
+pub use spelling::content;

@@ -74,7 +74,8 @@ pub fn push_reference(
     Ok(())
 }
 
-fn push_edge_name(edges: &[Edge], edge: u32, text: &mut Vec<u8>) -> Result<(), AllocError>
+/// Appends the name of an edge.
+pub fn push_edge_name(edges: &[Edge], edge: u32, text: &mut Vec<u8>) -> Result<(), AllocError>
     requires { edge < length edges.now }
     ensures { OnOk result (text.new.items ≡ text.old.items ++ edge_name (slice_get edges.now edge)) }
 {
@@ -146,7 +147,8 @@ pub fn push_null_line(
     Ok(())
 }
 
-fn push_type(typeside: &Typeside, sort: u32, text: &mut Vec<u8>) -> Result<(), AllocError>
+/// Appends the name of a type.
+pub fn push_type(typeside: &Typeside, sort: u32, text: &mut Vec<u8>) -> Result<(), AllocError>
     requires { sort < length typeside.now.types }
     ensures { OnOk result (text.new.items ≡ text.old.items ++ name_or_empty (slice_get typeside.now.types sort)) }
 {

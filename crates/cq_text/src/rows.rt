@@ -63,7 +63,12 @@ fn push_entity_heading(
     Ok(())
 }
 
-fn push_entity_name(instance: &Instance, entity: u32, text: &mut Vec<u8>) -> Result<(), AllocError>
+/// Appends the name of an entity.
+pub fn push_entity_name(
+    instance: &Instance,
+    entity: u32,
+    text: &mut Vec<u8>,
+) -> Result<(), AllocError>
     requires { entity < length instance.now.schema.entities }
     ensures { OnOk result (text.new.items ≡ text.old.items ++ name_or_empty (slice_get instance.now.schema.entities entity)) }
 {

@@ -142,7 +142,8 @@ fn push_constant(name: &[u8], text: &mut Vec<u8>) -> Result<(), AllocError>
     Ok(())
 }
 
-fn push_quoted(name: &[u8], text: &mut Vec<u8>) -> Result<(), AllocError>
+/// Appends the bytes as a quoted text, with escapes.
+pub fn push_quoted(name: &[u8], text: &mut Vec<u8>) -> Result<(), AllocError>
     ensures { OnOk result (text.new.items ≡ text.old.items ++ quoted name.now) }
 {
     text.extend_from_slice(b"\"")?;

@@ -1,12 +1,13 @@
-//! The transcript of an instance that is made of given tables.
+//! The transcript and the literal of an instance that is made of given tables.
 ghost use Rattle.std.specs.Prelude.{◌≡◌, ◌<◌, ◌∷◌, [], true, length, map, option_map, slice_get, Some, IfOk};
+ghost use Rattle.cq_theory.specs.declared.constant.Con.TheVariants as con;
 ghost use Rattle.cq_theory.specs.declared.value.Value.TheVariants as value_of;
 
-use crate::transcript;
+use crate::{literal, transcript};
 use cq_base::{Name, Seq};
 use cq_model::Instance;
 use cq_theory::{
-    Algebra, Edge, Schema, SchemaParts, Sheet, TheoryRefusal, Typeside, TypesideParts, Value,
+    Algebra, Con, Edge, Schema, SchemaParts, Sheet, TheoryRefusal, Typeside, TypesideParts, Value,
 };
 use std::alloc::{AllocError, Global};
 use std::rc::Rc;
@@ -52,6 +53,7 @@ fn new_typeside(alloc: Global, parts: TypesideParts) -> Result<Typeside, TheoryR
 fn typeside(alloc: Global) -> Result<Rc<Typeside>, Fail> {
     let parts = TypesideParts {
         types: names(alloc, &["s"])?,
+        literals: None,
         constants: pairs(alloc, &[("Al", "s")])?,
         functions: Seq::from_vec(Vec::new(alloc)),
     };
@@ -135,10 +137,10 @@ fn is_keyed(schema: &Schema) -> bool
 
 /// Two rows of the first entity, both with the one row of the second, and with a constant and a null.
 fn keyed_sheet(alloc: Global) -> Result<Sheet, AllocError>
-    ensures { IfOk result (λ made. made ≡ record { counts = 2 ∷ 1 ∷ []; keys = (0 ∷ 0 ∷ []) ∷ []; cells = (value_of.Const 0 ∷ value_of.Null 0 ∷ []) ∷ [] }) }
+    ensures { IfOk result (λ made. made ≡ record { counts = 2 ∷ 1 ∷ []; keys = (0 ∷ 0 ∷ []) ∷ []; cells = (value_of.Const (con.Named 0) ∷ value_of.Null 0 ∷ []) ∷ [] }) }
 {
     let column = Seq::from_vec(vec![in alloc; 0, 0]?);
-    let cells = Seq::from_vec(vec![in alloc; Value::Const(0), Value::Null(0)]?);
+    let cells = Seq::from_vec(vec![in alloc; Value::Const(Con::Named(0)), Value::Null(0)]?);
     Ok(Sheet {
         counts: Seq::from_vec(vec![in alloc; 2, 1]?),
         keys: Seq::from_vec(vec![in alloc; column]?),
@@ -178,6 +180,23 @@ fn rows_with_a_foreign_key_and_a_null(rt: HostRuntime) -> Result<(), Fail> {
     assert_eq!(rt;
         text.as_slice(),
         b"instance I : S\nentity P 2\n1 g1 w=Al t=1\n2 g2 w=?0 t=1\nentity O 1\n1 g3\nnulls 1\n?0 s\nentries 0\nend\n".as_slice()
+    );
+    Ok(())
+}
+
+fn literal_text(alloc: Global) -> Result<Vec<u8>, Fail> {
+    let instance = instance(alloc, schema(alloc)?)?;
+    let given = name(alloc, "I")?;
+    let schema = name(alloc, "S")?;
+    Ok(literal(alloc, &given, &schema, &instance)?)
+}
+
+#[test]
+fn literal_of_rows_with_a_foreign_key_and_a_null(rt: HostRuntime) -> Result<(), Fail> {
+    let text = literal_text(rt.alloc())?;
+    assert_eq!(rt;
+        text.as_slice(),
+        b"instance I = literal : S {\ngenerators\ng1 : P\ng2 : P\ng3 : O\ng4 : s\nequations\nw(g1) = \"Al\"\nt(g1) = g3\nw(g2) = g4\nt(g2) = g3\n}\n".as_slice()
     );
     Ok(())
 }

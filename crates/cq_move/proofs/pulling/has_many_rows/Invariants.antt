@@ -1,4 +1,4 @@
-use Rattle.std.proofs.Common.{◌≡◌, ◌+◌, map, take, sum, length}
+use Rattle.std.proofs.Common.{◌≡◌, ◌+◌, map, take, sum}
 use Rattle.cq_theory.specs.Tables.{count_of}
 use Rattle.cq_move.proofs.pulling.has_many_rows.Given as goal
 

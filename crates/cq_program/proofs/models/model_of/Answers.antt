@@ -3,8 +3,10 @@ use Rattle.cq_theory.specs.Closing.{IsInconsistentAt}
 use Rattle.cq_theory.specs.Schema.{IsSchema}
 use Rattle.cq_theory.specs.SchemaData.{SchemaData}
 use Rattle.cq_theory.specs.TypesideData.{TypesideData}
-use Rattle.cq_theory.specs.ValueText.{is_named_con}
-use Rattle.cq_program.proofs.Constants.{constants_within}
+use Rattle.cq_theory.specs.ValueText.{value_text, is_named_con}
+use Rattle.cq_theory.specs.declared.value.Value.TheVariants.{Const}
+use Rattle.cq_program.specs.Posing.{TellsConstants}
+use Rattle.cq_program.proofs.Constants.{constants_within, withholds_clash}
 use Rattle.cq_program.proofs.models.model_of.Goals as goal
 
 pub returns-in-Err-Depth-clause-withholds : goal.returns-in-Err-Depth-clause-withholds
@@ -34,3 +36,12 @@ clash-requires-clause-greater c =
     c.deref-in-Err-Inconsistent-2.ensures ∙ ap (λ (S : SchemaData). S.typeside) (c.behind-over.view_is ∙ c.deref-in-Err-Inconsistent.ensures ∙ c.in_ok-over.ensures.cases) in
     subst (λ (T : TypesideData). is_named_con T c.in-Err-Inconsistent.greater ≡ true) (sym typeside)
     (constants_within c.args.schema.value c.args.presentation schema c.requires.presentation c.in-Err-Inconsistent.least c.in-Err-Inconsistent.greater clash).1
+
+pub returns-in-Err-Inconsistent-clause-withholds : goal.returns-in-Err-Inconsistent-clause-withholds
+returns-in-Err-Inconsistent-clause-withholds c =
+    let clash : IsInconsistentAt c.args.schema.value c.args.presentation c.in-Err-Inconsistent.least c.in-Err-Inconsistent.greater =
+    c.in-Err-Inconsistent.ensures.inconsistent c.in-Err-Inconsistent.least c.in-Err-Inconsistent.greater (cc) in
+    let typeside : c.deref-in-Err-Inconsistent-2.result.now ≡ c.args.schema.value.typeside =
+    c.deref-in-Err-Inconsistent-2.ensures ∙ ap (λ (S : SchemaData). S.typeside) (c.behind-over.view_is ∙ c.deref-in-Err-Inconsistent.ensures ∙ c.in_ok-over.ensures.cases) in
+    withholds_clash c.args.depth c.args.place c.args.name c.args.schema.value c.args.presentation c.in-Err-Inconsistent.least c.in-Err-Inconsistent.greater c.clash.result clash
+    (subst (λ (T : TypesideData). TellsConstants c.args.place (value_text T (Const c.in-Err-Inconsistent.least)) (value_text T (Const c.in-Err-Inconsistent.greater)) c.clash.result) typeside c.clash.ensures)

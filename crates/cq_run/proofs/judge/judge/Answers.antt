@@ -1,6 +1,6 @@
 use Rattle.std.proofs.Common.{List, subst}
 use Rattle.cq_lex.specs.declared.token.Token.{Token}
-use Rattle.cq_run.specs.Answer.{JudgesTokens}
+use Rattle.cq_run.specs.Judged.{JudgesTokens}
 use Rattle.cq_run.proofs.Judging.{by_lexer, by_tokens}
 use Rattle.cq_run.proofs.judge.judge.Goals as goal
 

@@ -4,11 +4,11 @@ use Rattle.cq_program.specs.declared.reason.ProgramRefusal.{ProgramRefusal}
 use Rattle.cq_program.specs.Posing.{RefusesProgram}
 use Rattle.cq_run.proofs.judge.judge_program.Goals as goal
 
-pub returns-in-Ok-transcripts-clause-judges : goal.returns-in-Ok-transcripts-clause-judges
-returns-in-Ok-transcripts-clause-judges g c = record {
+pub returns-in-Ok-output-clause-judges : goal.returns-in-Ok-output-clause-judges
+returns-in-Ok-output-clause-judges g c = record {
   listings = map listed_as c.as_slice.result.now;
   means = rw c.as_slice.ensures.value c.in-Ok.ensures.means;
-  transcript_is = c.in-Ok-transcripts.ensures;
+  prints = c.in-Ok-output.ensures;
 }
 
 pub returns-in-Ok-line-clause-judges : goal.returns-in-Ok-line-clause-judges

@@ -1,0 +1,5 @@
+pub mod Adds
+pub mod Cells
+pub mod Examples
+pub mod FileLists
+pub mod Written

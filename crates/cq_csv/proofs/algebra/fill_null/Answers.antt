@@ -1,0 +1,10 @@
+use Rattle.cq_csv.proofs.Adds.{adds_then}
+use Rattle.cq_csv.proofs.Written.{filled}
+use Rattle.cq_csv.proofs.algebra.fill_null.Goals as goal
+
+pub returns : goal.returns
+returns c =
+    let empty = c.clear.new.self in
+    filled empty c.push_type_field.new.fields _ c.clear.ensures.fields
+    (adds_then empty c.push_null_field.new.fields c.push_type_field.new.fields _ _
+    (adds_then empty c.push_field.new.fields c.push_null_field.new.fields _ _ c.in_ok-push_field.ensures c.in_ok-push_null_field.ensures) c.in_ok-push_type_field.ensures)

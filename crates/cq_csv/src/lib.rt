@@ -1,0 +1,12 @@
+//! Instances as CSV files.
+#![tactic(auto)]
+
+mod algebra;
+mod export;
+mod fields;
+mod records;
+mod rows;
+#[cfg(test)]
+mod tests;
+
+pub use export::files;

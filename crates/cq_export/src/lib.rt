@@ -1,0 +1,11 @@
+//! Finished files, and how they are handed to each exporter in turn.
+#![tactic(auto)]
+
+pub mod files;
+pub mod handing;
+
+pub use files::FileLists;
+pub use handing::{Handed, hand_over};
+
+#[cfg(test)]
+mod tests;

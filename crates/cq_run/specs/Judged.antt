@@ -1,0 +1,60 @@
+-- How the steps of judging a text answer.
+use Rattle.std.specs.Prelude.{◌≡◌, ℕ, List}
+use Rattle.cq_lex.specs.declared.token.Token.{Token}
+use Rattle.cq_lex.specs.declared.refusal.LexRefusal.{LexRefusal}
+use Rattle.cq_lex.specs.declared.refusal.LexRefusal.TheVariants as lexical
+use Rattle.cq_parse.specs.declared.refusal.ParseRefusal.{ParseRefusal}
+use Rattle.cq_parse.specs.declared.refusal.ParseRefusal.TheVariants as grammatical
+use Rattle.cq_syntax.specs.declared.program.Program.{Program}
+use Rattle.cq_program.specs.Program as program
+use Rattle.cq_program.specs.Program.{Listing}
+use Rattle.cq_run.specs.Answer.{Prints}
+use Rattle.cq_run.specs.Meaning.{IsSound, IsTreeIn, BreaksRule, RefusesTokens, lex_line, parse_line}
+use Rattle.cq_run.specs.declared.answer.Answer.{Answer}
+use Rattle.cq_run.specs.declared.answer.Answer.TheVariants as answer
+use Rattle.cq_run.specs.declared.output.Output.{Output}
+
+-- the output is that of what the program means
+pub record PrintsProgram (tree : Program) (output : Output) : Type 0 where
+  pub listings : List Listing
+  pub means : program.Means tree listings
+  pub prints : Prints listings output
+
+-- how a program is judged
+abbrev pub JudgesProgram : ℕ → Program → Answer → Type 0
+JudgesProgram depth tree (answer.Accepted output) = PrintsProgram tree output
+JudgesProgram depth tree (answer.Refused line) = BreaksRule depth tree line.items
+JudgesProgram depth tree (answer.Unread line) = ⊥
+JudgesProgram depth tree answer.Memory = Unit {0}
+
+-- the tokens of an acceptable text
+abbrev pub AreSound : ℕ → List Token → Type 0
+AreSound depth tokens = (tree : Program) × IsTreeIn tokens tree × IsSound depth tree
+
+-- how tokens are judged
+abbrev pub JudgesTokens : ℕ → List Token → Answer → Type 0
+JudgesTokens depth tokens (answer.Accepted output) = (tree : Program) × IsTreeIn tokens tree × PrintsProgram tree output
+JudgesTokens depth tokens (answer.Refused line) = RefusesTokens depth tokens line.items × (AreSound depth tokens → ⊥)
+JudgesTokens depth tokens (answer.Unread line) = ⊥
+JudgesTokens depth tokens answer.Memory = Unit {0}
+
+-- an answer that refuses with this line
+abbrev pub SaysRefused : List ℕ → Answer → Type 0
+SaysRefused line (answer.Refused told) = told.items ≡ line
+SaysRefused line answer.Memory = Unit {0}
+SaysRefused line _ = ⊥
+
+-- how a refusal of the lexer, or of the parser, is told
+abbrev pub TellsLex : LexRefusal → Answer → Type 0
+TellsLex lexical.Memory told = told ≡ answer.Memory
+TellsLex (lexical.BadByte place) told = SaysRefused (lex_line (lexical.BadByte place)) told
+TellsLex (lexical.OpenText place) told = SaysRefused (lex_line (lexical.OpenText place)) told
+TellsLex (lexical.OpenComment place) told = SaysRefused (lex_line (lexical.OpenComment place)) told
+TellsLex (lexical.LongName place) told = SaysRefused (lex_line (lexical.LongName place)) told
+
+abbrev pub TellsParse : ParseRefusal → Answer → Type 0
+TellsParse grammatical.Memory told = told ≡ answer.Memory
+TellsParse (grammatical.Syntax place) told = SaysRefused (parse_line (grammatical.Syntax place)) told
+TellsParse (grammatical.TooDeep place) told = SaysRefused (parse_line (grammatical.TooDeep place)) told
+TellsParse (grammatical.Unsupported place number) told = SaysRefused (parse_line (grammatical.Unsupported place number)) told
+TellsParse (grammatical.BadOption place) told = SaysRefused (parse_line (grammatical.BadOption place)) told

@@ -1,0 +1,4 @@
+pub mod Ask
+pub mod Line
+pub mod Reads
+pub mod Spaced
