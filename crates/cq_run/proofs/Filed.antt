@@ -13,3 +13,7 @@ single name text = (name, text) ∷ []
 -- one file
 pub one_file : (name text name' text' : List ℕ) → name ≡ name' → text ≡ text' → single name text ≡ single name' text'
 one_file name text name' text' names texts = ap (λ (n : List ℕ). single n text) names ∙ ap (λ (t : List ℕ). single name' t) texts
+
+-- what is shown of one thing is what is shown of the same thing
+pub through : {I B : Type 0} (shows : I → B) (shown : B) (before now : I) → shown ≡ shows before → before ≡ now → shown ≡ shows now
+through shows shown before now is same = is ∙ ap shows same

@@ -17,6 +17,10 @@ pub use top::run;
 #[cfg(test)]
 mod exporting;
 #[cfg(test)]
+mod limits;
+#[cfg(test)]
+mod mappings;
+#[cfg(test)]
 mod moves;
 #[cfg(test)]
 mod open_types;

@@ -43,7 +43,7 @@ pub(crate) struct Case {
 
 pub(crate) const RUN: &[&str] = &["run", "p.cql"];
 
-const AT_ZERO: &[&str] = &["run", "p.cql", "--depth", "0"];
+pub(crate) const AT_ZERO: &[&str] = &["run", "p.cql", "--depth", "0"];
 
 const AT_ONE: &[&str] = &["run", "p.cql", "--depth", "1"];
 
@@ -402,131 +402,6 @@ instance I = literal : S { generators a : E }",
     },
 ];
 
-/// Mappings: literals, their parts and their duties, and identities. The first line of each stands in front of it.
-const LINE: &str =
-    "typeside T = literal { types s n constants Al Bob Carl : s zero one : n functions h : s -> s succ : n -> n plus : n, n -> n }\n";
-
-static MAPPINGS: [Case; 15] = [
-    Case {
-        words: RUN,
-        text: "schema S = literal : T { entities E foreign_keys k : E -> E path_equations k = E }
-schema R = literal : T { entities G foreign_keys l : G -> G path_equations l.l = G }
-mapping F = literal : S -> R { entity E -> G foreign_keys k -> l }",
-        status: Status::Refused,
-        written: "refused 4:1 51 NotPreserved 1\n",
-    },
-    Case {
-        words: RUN,
-        text: "schema S = literal : T { entities E foreign_keys j k : E -> E path_equations j.k = k.j }
-schema R = literal : T { entities G foreign_keys l m : G -> G }
-mapping F = literal : S -> R { entity E -> G foreign_keys j -> l k -> m }",
-        status: Status::Refused,
-        written: "refused 4:1 52 Depth 1\n",
-    },
-    Case {
-        words: RUN,
-        text: "schema S = literal : T { entities E foreign_keys j k : E -> E path_equations j = j }
-schema R = literal : T { entities G foreign_keys l m : G -> G }
-mapping F = literal : S -> R { entity E -> G foreign_keys j -> l k -> m }",
-        status: Status::Ok,
-        written: "",
-    },
-    Case {
-        words: AT_ZERO,
-        text: "schema S = literal : T { entities E foreign_keys j k : E -> E path_equations j = j }
-schema R = literal : T { entities G foreign_keys l m : G -> G }
-mapping F = literal : S -> R { entity E -> G foreign_keys j -> l k -> m }",
-        status: Status::Refused,
-        written: "refused 4:1 52 Depth 1\n",
-    },
-    Case {
-        words: RUN,
-        text: "schema S = literal : T { entities E foreign_keys j k : E -> E path_equations E = E j.k = k.j }
-schema R = literal : T { entities G foreign_keys p q r : G -> G }
-mapping F = literal : S -> R { entity E -> G foreign_keys j -> p k -> q }",
-        status: Status::Refused,
-        written: "refused 4:1 53 TooManyRows 2\n",
-    },
-    Case {
-        words: RUN,
-        text: "schema S = literal : T { entities E D foreign_keys k : E -> D attributes x y : E -> s }
-schema R = literal : T { entities G attributes u : G -> s }
-mapping F = literal : S -> R { entity E -> G\n attributes x -> u entity D -> G foreign_keys k -> G }",
-        status: Status::Refused,
-        written: "refused 5:47 44 WrongSort\n",
-    },
-    Case {
-        words: RUN,
-        text: "schema S = literal : T { entities E foreign_keys k : E -> E attributes x y : E -> s }
-schema R = literal : T { entities G attributes u : G -> s }
-mapping F = literal : S -> R { entity E -> G attributes x -> u y -> lambda v. h(v.u) }",
-        status: Status::Refused,
-        written: "refused 4:1 47 Missing k\n",
-    },
-    Case {
-        words: RUN,
-        text: "schema S = literal : T { entities E foreign_keys k : E -> E }
-schema R = literal : T { entities G }
-mapping F = literal : S -> R { entity E -> G foreign_keys k -> G k -> G }",
-        status: Status::Refused,
-        written: "refused 4:66 41 Duplicate\n",
-    },
-    Case {
-        words: RUN,
-        text: "typeside U = literal { types s n }
-schema S = literal : T { }
-schema R = literal : U { }
-mapping F = literal : S -> R { entity E -> G }",
-        status: Status::Refused,
-        written: "refused 5:28 34 WrongSchema\n",
-    },
-    Case {
-        words: RUN,
-        text: "typeside U = literal { }
-schema S = literal : T { }
-mapping F = literal : S -> nobody { }",
-        status: Status::Refused,
-        written: "refused 4:28 32 Unknown\n",
-    },
-    Case {
-        words: RUN,
-        text: "schema S = literal : T { }
-mapping F = literal : T -> nobody { }",
-        status: Status::Refused,
-        written: "refused 3:23 33 WrongKind\n",
-    },
-    Case {
-        words: RUN,
-        text: "schema S = literal : T { }
-mapping F = literal : S -> S { }
-instance I = literal : F { }",
-        status: Status::Refused,
-        written: "refused 4:24 33 WrongKind\n",
-    },
-    Case {
-        words: AT_ZERO,
-        text: "schema S = literal : T { entities E foreign_keys k : E -> E path_equations k.k = k attributes x : E -> s observation_equations forall e. x(e) = x(k(e)) }
-mapping F = identity S
-mapping G = literal : S -> S { entity E -> E foreign_keys k -> k attributes x -> lambda e. x(k(e)) }",
-        status: Status::Refused,
-        written: "refused 4:1 52 Depth 1\n",
-    },
-    Case {
-        words: RUN,
-        text: "mapping F = identity T",
-        status: Status::Refused,
-        written: "refused 2:22 33 WrongKind\n",
-    },
-    Case {
-        words: RUN,
-        text: "schema S = literal : T { }
-mapping F = identity S
-mapping F = getMapping S S",
-        status: Status::Refused,
-        written: "refused 4:1 90 NotBuilt\n",
-    },
-];
-
 #[test]
 fn each_status_with_its_line(rt: HostRuntime) -> Result<(), Fail> {
     let alloc = rt.alloc();
@@ -552,15 +427,6 @@ pub(crate) fn passes(alloc: Global, first: &str, case: &Case) -> Result<bool, Al
 }
 
 #[test]
-fn mappings_with_their_lines(rt: HostRuntime) -> Result<(), Fail> {
-    let alloc = rt.alloc();
-    for case in &MAPPINGS {
-        assert!(rt; passes(alloc, LINE, case)?, "{}", case.text);
-    }
-    Ok(())
-}
-
-#[test]
 fn devices_that_fail(rt: HostRuntime) -> Result<(), Fail> {
     let alloc = rt.alloc();
     let words = words(alloc, RUN)?;
@@ -575,77 +441,5 @@ fn devices_that_fail(rt: HostRuntime) -> Result<(), Fail> {
     let status = run(alloc, words.as_slice(), &mut folder, &mut small);
     assert_eq!(rt; status, Status::Write);
     assert!(rt; small.bytes() == b"instance I".as_slice());
-    Ok(())
-}
-
-#[test]
-fn a_file_at_the_limit_and_past_it(rt: HostRuntime) -> Result<(), Fail> {
-    let alloc = rt.alloc();
-    let words = words(alloc, RUN)?;
-    for (length, written) in [(8388608, ""), (8388609, "read p.cql too long\n")] {
-        let mut files = Vec::new(alloc);
-        let blanks = vec![in alloc; b' '; length]?;
-        files.push((String::from_str(alloc, "p.cql")?, blanks))?;
-        let mut folder = MemFolder::new(alloc, files, Vec::new(alloc))?;
-        let mut out = MemSink::new(alloc, Vec::new(alloc), 100)?;
-        run(alloc, words.as_slice(), &mut folder, &mut out);
-        assert!(rt; out.bytes() == written.as_bytes());
-    }
-    Ok(())
-}
-
-/// A file whose one equation has a left side of 1,023 symbols under this many functions.
-fn tall(alloc: Global, functions: usize) -> Result<String, AllocError> {
-    let mut term = String::from_str(alloc, "zero")?;
-    for _level in 0..9 {
-        term = format!(in alloc; "plus({term}, {term})")?;
-    }
-    for _function in 0..functions {
-        term = format!(in alloc; "succ({term})")?;
-    }
-    format!(in alloc;
-        "typeside T = literal {{ types n constants zero : n functions succ : n -> n plus : n, n -> n }}
-schema S = literal : T {{ }}
-instance I = literal : S {{ equations {term} = zero }}"
-    )
-}
-
-/// The instance of the one at the limit: a null for each sum, and what `succ` gives at the last of them.
-const TALL_LISTED: &str = "instance I : S
-nulls 9
-?0 n
-?1 n
-?2 n
-?3 n
-?4 n
-?5 n
-?6 n
-?7 n
-?8 n
-entries 10
-plus(zero, zero) = ?0
-plus(?0, ?0) = ?1
-plus(?1, ?1) = ?2
-plus(?2, ?2) = ?3
-plus(?3, ?3) = ?4
-plus(?4, ?4) = ?5
-plus(?5, ?5) = ?6
-plus(?6, ?6) = ?7
-plus(?7, ?7) = ?8
-succ(?8) = zero
-end
-";
-
-#[test]
-fn a_term_at_the_limit_and_past_it(rt: HostRuntime) -> Result<(), Fail> {
-    let alloc = rt.alloc();
-    let words = words(alloc, RUN)?;
-    for (functions, written) in [(1, TALL_LISTED), (2, "refused 3:38 46 TooLarge\n")] {
-        let text = tall(alloc, functions)?;
-        let mut folder = folder(alloc, text.as_str(), &[])?;
-        let mut out = MemSink::new(alloc, Vec::new(alloc), 1000)?;
-        run(alloc, words.as_slice(), &mut folder, &mut out);
-        assert!(rt; out.bytes() == written.as_bytes());
-    }
     Ok(())
 }

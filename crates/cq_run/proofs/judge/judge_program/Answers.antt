@@ -4,11 +4,11 @@ use Rattle.cq_program.specs.declared.reason.ProgramRefusal.{ProgramRefusal}
 use Rattle.cq_program.specs.Posing.{RefusesProgram}
 use Rattle.cq_run.proofs.judge.judge_program.Goals as goal
 
-pub returns-in-Ok-output-clause-judges : goal.returns-in-Ok-output-clause-judges
-returns-in-Ok-output-clause-judges g c = record {
+pub returns-in-Ok-output_of-clause-judges : goal.returns-in-Ok-output_of-clause-judges
+returns-in-Ok-output_of-clause-judges g c = record {
   listings = map listed_as c.as_slice.result.now;
   means = rw c.as_slice.ensures.value c.in-Ok.ensures.means;
-  prints = c.in-Ok-output.ensures;
+  prints = c.in-Ok-output_of.ensures;
 }
 
 pub returns-in-Ok-line-clause-judges : goal.returns-in-Ok-line-clause-judges

@@ -1,0 +1,77 @@
+//! A file and a term at their limits and past them.
+use crate::tests::{RUN, folder, run, words};
+use cq_io::{MemFolder, MemSink};
+use std::alloc::{AllocError, Global};
+use std::test::Fail;
+
+#[test]
+fn a_file_at_the_limit_and_past_it(rt: HostRuntime) -> Result<(), Fail> {
+    let alloc = rt.alloc();
+    let words = words(alloc, RUN)?;
+    for (length, written) in [(8388608, ""), (8388609, "read p.cql too long\n")] {
+        let mut files = Vec::new(alloc);
+        let blanks = vec![in alloc; b' '; length]?;
+        files.push((String::from_str(alloc, "p.cql")?, blanks))?;
+        let mut folder = MemFolder::new(alloc, files, Vec::new(alloc))?;
+        let mut out = MemSink::new(alloc, Vec::new(alloc), 100)?;
+        run(alloc, words.as_slice(), &mut folder, &mut out);
+        assert!(rt; out.bytes() == written.as_bytes());
+    }
+    Ok(())
+}
+
+/// A file whose one equation has a left side of 1,023 symbols under this many functions.
+fn tall(alloc: Global, functions: usize) -> Result<String, AllocError> {
+    let mut term = String::from_str(alloc, "zero")?;
+    for _level in 0..9 {
+        term = format!(in alloc; "plus({term}, {term})")?;
+    }
+    for _function in 0..functions {
+        term = format!(in alloc; "succ({term})")?;
+    }
+    format!(in alloc;
+        "typeside T = literal {{ types n constants zero : n functions succ : n -> n plus : n, n -> n }}
+schema S = literal : T {{ }}
+instance I = literal : S {{ equations {term} = zero }}"
+    )
+}
+
+/// The instance of the one at the limit: a null for each sum, and what `succ` gives at the last of them.
+const TALL_LISTED: &str = "instance I : S
+nulls 9
+?0 n
+?1 n
+?2 n
+?3 n
+?4 n
+?5 n
+?6 n
+?7 n
+?8 n
+entries 10
+plus(zero, zero) = ?0
+plus(?0, ?0) = ?1
+plus(?1, ?1) = ?2
+plus(?2, ?2) = ?3
+plus(?3, ?3) = ?4
+plus(?4, ?4) = ?5
+plus(?5, ?5) = ?6
+plus(?6, ?6) = ?7
+plus(?7, ?7) = ?8
+succ(?8) = zero
+end
+";
+
+#[test]
+fn a_term_at_the_limit_and_past_it(rt: HostRuntime) -> Result<(), Fail> {
+    let alloc = rt.alloc();
+    let words = words(alloc, RUN)?;
+    for (functions, written) in [(1, TALL_LISTED), (2, "refused 3:38 46 TooLarge\n")] {
+        let text = tall(alloc, functions)?;
+        let mut folder = folder(alloc, text.as_str(), &[])?;
+        let mut out = MemSink::new(alloc, Vec::new(alloc), 1000)?;
+        run(alloc, words.as_slice(), &mut folder, &mut out);
+        assert!(rt; out.bytes() == written.as_bytes());
+    }
+    Ok(())
+}
