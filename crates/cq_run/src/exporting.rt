@@ -107,21 +107,30 @@ fn the_choice_of_format(rt: HostRuntime) -> Result<(), Fail> {
     Ok(())
 }
 
-/// Whether the exporters have these files and no others: name by name and line by line, behind the format of each.
+/// Where the files that are wanted go on behind those of one exporter, if it has the next ones, name by name and line by
+/// line.
+fn behind(kept: &[(String, Vec<u8>)], wanted: &[(&str, &str)], from: usize) -> Option<usize> {
+    let mut at = from;
+    for file in kept {
+        let next = wanted.get(at)?;
+        if file.0.as_str() != next.0 || file.1.as_slice() != next.1.as_bytes() {
+            return None;
+        }
+        at = at.saturating_add(1);
+    }
+    Some(at)
+}
+
+/// Whether the exporters have these files and no others.
 fn have(exporters: &[Box<dyn Exporter>], wanted: &[(&str, &str)]) -> bool {
-    let mut rest = wanted;
+    let mut at = 0;
     for exporter in exporters {
-        for file in exporter.kept() {
-            let Some(((name, text), others)) = rest.split_first() else {
-                return false;
-            };
-            if file.0.as_str() != *name || file.1.as_slice() != text.as_bytes() {
-                return false;
-            }
-            rest = others;
+        match behind(exporter.kept(), wanted, at) {
+            Some(next) => at = next,
+            None => return false,
         }
     }
-    rest.is_empty()
+    at == wanted.len()
 }
 
 const ROWS: (&str, &str) = ("I/E.csv", "id,x\n1,?0\n2,?1\n");
