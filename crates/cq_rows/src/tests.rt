@@ -1,5 +1,6 @@
 //! What saturation gives for known presentations.
 ghost use Rattle.std.specs.Prelude.{◌≡◌, ◌+◌, ◌<◌, ◌≤◌, ◌^◌, length, true, IfOk, IfSome};
+ghost use Rattle.cq_theory.specs.TypesideParts.{literals_count};
 ghost use Rattle.cq_theory.specs.Presentation.{IsPresentation};
 
 use crate::fill::count_live;
@@ -23,7 +24,7 @@ enum Outcome {
 
 // Each constructor is called by a function that says no more than what is needed of it.
 fn new_typeside(alloc: Global, parts: TypesideParts) -> Result<Typeside, TheoryRefusal>
-    requires { length parts.types + length parts.constants + length parts.functions < 2 ^ 32 }
+    requires { length parts.types + literals_count parts.literals + length parts.constants + length parts.functions < 2 ^ 32 }
 {
     Typeside::new(alloc, parts)
 }
@@ -52,6 +53,7 @@ fn new_presentation(
 fn empty_typeside(alloc: Global) -> Result<Typeside, TheoryRefusal> {
     let parts = TypesideParts {
         types: Seq::from_vec(Vec::new(alloc)),
+        literals: None,
         constants: Seq::from_vec(Vec::new(alloc)),
         functions: Seq::from_vec(Vec::new(alloc)),
     };
