@@ -420,6 +420,7 @@ fn term(alloc: Global, number: u64, keys: &[&str]) -> Result<Raw, AllocError> {
 """,
     "src/theory.rt": r"""//! A schema and a presentation of few enough parts. Each constructor is called by a function that says little.
 ghost use Rattle.std.specs.Prelude.{◌≡◌, ◌+◌, ◌<◌, ◌^◌, length, true, IfOk, IfSome};
+ghost use Rattle.cq_theory.specs.TypesideParts.{literals_count};
 ghost use Rattle.cq_theory.specs.Presentation.{IsPresentation};
 
 use cq_base::Seq;
@@ -430,7 +431,7 @@ use std::alloc::{AllocError, Global};
 use std::rc::Rc;
 
 fn new_typeside(alloc: Global, parts: TypesideParts) -> Result<Typeside, TheoryRefusal>
-    requires { length parts.types + length parts.constants + length parts.functions < 2 ^ 32 }
+    requires { length parts.types + literals_count parts.literals + length parts.constants + length parts.functions < 2 ^ 32 }
 {
     Typeside::new(alloc, parts)
 }
@@ -459,6 +460,7 @@ fn new_presentation(
 fn empty_typeside(alloc: Global) -> Result<Typeside, TheoryRefusal> {
     let parts = TypesideParts {
         types: Seq::from_vec(Vec::new(alloc)),
+        literals: None,
         constants: Seq::from_vec(Vec::new(alloc)),
         functions: Seq::from_vec(Vec::new(alloc)),
     };
