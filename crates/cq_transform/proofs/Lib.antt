@@ -1,0 +1,4 @@
+pub mod Normal
+pub mod ImagesOfTerms
+pub mod Kept
+pub mod ExactlyOne

@@ -1,0 +1,4 @@
+//! Transforms between instances.
+#![tactic(auto)]
+
+pub mod laws;
