@@ -96,8 +96,8 @@ fn are_one_class(
     have_one_value(alloc, list, first, second)
 }
 
-/// Whether the sides of an equation are equal over rows that were made for the presentation: yes only where it is derivable, and no only where
-/// no derivation concludes it within a depth up to which all terms lead to rows.
+/// Whether the sides of an equation are equal over rows that were made for the presentation: yes only where it is
+/// derivable, and no only where no derivation concludes it within a depth up to which all terms lead to rows.
 pub fn are_equal(
     alloc: Global,
     schema: &Schema,

@@ -88,9 +88,10 @@ pub(crate) fn verdict_up_to(
     Err(EqualRefusal::Depth)
 }
 
-/// Whether an equation is derivable from a presentation, by the depths from 0 up to the given one, which is at most 64. At each depth the rows
-/// of the presentation are made, and the sides are equal if they are so in the closure of all equations of which the paths can be traced (Nelson
-/// and Oppen, Fast Decision Procedures Based on Congruence Closure, 1980). The answer is No where all cells of the rows are filled besides.
+/// Whether an equation is derivable from a presentation, by the depths from 0 up to the given one, which is at most
+/// 64. At each depth the rows of the presentation are made, and the sides are equal if they are so in the closure of
+/// all equations of which the paths can be traced (Nelson and Oppen, Fast Decision Procedures Based on Congruence
+/// Closure, 1980). The answer is No where all cells of the rows are filled besides.
 pub fn equal(
     alloc: Global,
     schema: Rc<Schema>,

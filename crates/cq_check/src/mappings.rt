@@ -10,7 +10,8 @@ use cq_mapping::Mapping;
 use cq_theory::{Presentation, Schema, Sort};
 use std::alloc::{AllocError, Global};
 
-/// Why a mapping isn't known to preserve the equations of its source. The number, from 1, is that of the first duty that isn't derived.
+/// Why a mapping isn't known to preserve the equations of its source. The number, from 1, is that of the first duty
+/// that isn't derived.
 #[derive(Clone, Copy, Debug, PartialEq, Eq)]
 pub enum CheckRefusal {
     /// The duty isn't derivable.

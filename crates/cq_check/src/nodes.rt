@@ -12,7 +12,8 @@ use cq_theory::{EntTerm, TypeTerm};
 use std::alloc::{AllocError, Global};
 use std::marker::Model;
 
-/// Nodes, and equations between nodes. The first nodes are those of the rows, one for each that was made, and then those of the generators.
+/// Nodes, and equations between nodes. The first nodes are those of the rows, one for each that was made, and then
+/// those of the generators.
 #[derive(Drop)]
 pub struct NodeList {
     pub nodes: Vec<Node>,
@@ -67,7 +68,8 @@ fn push_node(nodes: &mut Vec<Node>, node: Node) -> Result<u64, AllocError>
     Ok(place)
 }
 
-/// The row to which a term leads, where `rows` has the row of each generator; None exactly where a cell on the way is empty.
+/// The row to which a term leads, where `rows` has the row of each generator; None exactly where a cell on the way is
+/// empty.
 pub fn row_of(tables: &Tables, rows: &[u64], term: &EntTerm) -> Option<u64>
     requires { (count : ℕ) × IsReadablePath tables.now rows.now count term.now }
     ensures { result ≡ row_of_term tables.now rows.now term.now }
@@ -76,8 +78,8 @@ pub fn row_of(tables: &Tables, rows: &[u64], term: &EntTerm) -> Option<u64>
     tables.trace(start, term.path.as_slice())
 }
 
-/// Adds the nodes of a term, arguments first, where `rows` has the row of each generator, and answers the place of the term's own node. None
-/// where some path of the term ends at an empty cell.
+/// Adds the nodes of a term, arguments first, where `rows` has the row of each generator, and answers the place of
+/// the term's own node. None where some path of the term ends at an empty cell.
 pub fn push_term(
     alloc: Global,
     tables: &Tables,

@@ -21,8 +21,9 @@ pub enum Handed {
     Memory,
 }
 
-/// Hands each exporter the files of its format. One that fails is moved to the end of `spoiled`, and the next goes on;
-/// room for all of them is there, so no memory is taken. One that has no memory ends it, and stays with those behind it.
+/// Hands each exporter the files of its format. One that fails is moved to the end of `spoiled`, and the next goes
+/// on; room for all of them is there, so no memory is taken. One that has no memory ends it, and stays with those
+/// behind it.
 pub fn hand_over(
     exporters: &mut Vec<Box<dyn Exporter>>,
     spoiled: &mut Vec<Box<dyn Exporter>>,

@@ -101,8 +101,8 @@ impl Flat {
         self.entries.as_slice()
     }
 
-    /// The least constant, in the order of constants, that is equal to a greater one, and the least such greater one. None
-    /// exactly where no two different constants are equal. It takes no memory.
+    /// The least constant, in the order of constants, that is equal to a greater one, and the least such greater one.
+    /// None exactly where no two different constants are equal. It takes no memory.
     pub fn clash(&self) -> Option<(&Con, &Con)>
         ensures { option_map (λ pair. (pair.0.now, pair.1.now)) result ≡ self.now.clash }
     {

@@ -10,8 +10,8 @@ use std::collections::HashMap;
 use std::hash::{Hash, Hasher};
 use std::marker::Model;
 
-/// By which nodes are looked up: a list of numbers, or a text. Contracts see a list, whose first number tells which of the two it is.
-/// The key of a constant, or of a function of one argument, needs no allocation.
+/// By which nodes are looked up: a list of numbers, or a text. Contracts see a list, whose first number tells which
+/// of the two it is. The key of a constant, or of a function of one argument, needs no allocation.
 #[derive(Drop)]
 pub struct Key {
     content: Content,

@@ -17,8 +17,8 @@ pub enum PutRefusal {
     Memory,
 }
 
-/// A place that takes files of one format, one by one. Its account tells the format, the files that it took, in order, and
-/// how many calls failed. A steady exporter never fails.
+/// A place that takes files of one format, one by one. Its account tells the format, the files that it took, in
+/// order, and how many calls failed. A steady exporter never fails.
 pub trait Exporter: Drop {
     ghost account: { Self → Account };
 

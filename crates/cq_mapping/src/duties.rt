@@ -17,7 +17,8 @@ pub struct Duty {
 }
 
 impl Mapping {
-    /// The images of the source's path equations and then of its observation equations, each over one generator of the image of its entity.
+    /// The images of the source's path equations and then of its observation equations, each over one generator of
+    /// the image of its entity.
     pub fn duties(&self, alloc: Global) -> Result<Vec<Duty>, AllocError>
         ensures { IfOk result (λ duties. duties.items ≡ duties_of self.now) }
     {

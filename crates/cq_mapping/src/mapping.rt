@@ -12,8 +12,9 @@ use std::alloc::{AllocError, Global};
 use std::marker::Model;
 use std::rc::Rc;
 
-/// A mapping from a schema to another over the same typeside: the image of each entity, the path of each foreign key, and the term of each
-/// attribute over one variable, which is generator 0. Contracts see these lists, in which each image has the right ends and type.
+/// A mapping from a schema to another over the same typeside: the image of each entity, the path of each foreign key,
+/// and the term of each attribute over one variable, which is generator 0. Contracts see these lists, in which each
+/// image has the right ends and type.
 #[derive(Drop)]
 pub struct Mapping {
     pub source: Rc<Schema>,
@@ -52,9 +53,9 @@ impl Model for Mapping {
 }
 
 impl Mapping {
-    /// The mapping that the parts give between schemas of one typeside. The parts of entities are tried first, then whether each entity has an
-    /// image, then the other parts in order, and then whether each foreign key and each attribute has one. The answer is the first fault,
-    /// of a part the least rule that it breaks, or want of memory.
+    /// The mapping that the parts give between schemas of one typeside. The parts of entities are tried first, then
+    /// whether each entity has an image, then the other parts in order, and then whether each foreign key and each
+    /// attribute has one. The answer is the first fault, of a part the least rule that it breaks, or want of memory.
     pub fn new(
         alloc: Global,
         source: Rc<Schema>,

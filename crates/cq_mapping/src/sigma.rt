@@ -16,8 +16,9 @@ use cq_theory::{EntTerm, Equation, Presentation, SizeRefusal, Sort, TypeTerm};
 use std::alloc::{AllocError, Global};
 
 impl Mapping {
-    /// The presentation with each generator at the image of its sort, and each equation replaced by its image. `TooLarge` is answered exactly
-    /// where a side of an equation would have over 1,024 symbols, and `Memory` for want of memory.
+    /// The presentation with each generator at the image of its sort, and each equation replaced by its image.
+    /// `TooLarge` is answered exactly where a side of an equation would have over 1,024 symbols, and `Memory` for
+    /// want of memory.
     pub fn sigma_presentation(
         &self,
         alloc: Global,
@@ -96,7 +97,8 @@ fn key_length(mapping: &Mapping, key: u32) -> usize
     }
 }
 
-/// The room that is left after the symbols of a term over one variable, in whose place a term of `base` symbols stands.
+/// The room that is left after the symbols of a term over one variable, in whose place a term of `base` symbols
+/// stands.
 fn room_after(base: u64, term: &TypeTerm, room: u64) -> Option<u64>
     ensures { MatchOption result (room < symbols_at base term.now) (λ left. symbols_at base term.now + left ≡ room) }
 {

@@ -41,7 +41,8 @@ pub enum BuildRefusal {
     Depth,
     /// A stage of the rows ended with more than 200,000 of them.
     TooManyRows,
-    /// Two constants are equal: the least, in the order of constants, that is equal to a greater one, and the least such greater one.
+    /// Two constants are equal: the least, in the order of constants, that is equal to a greater one, and the least
+    /// such greater one.
     Inconsistent(Con, Con),
     Memory,
 }
@@ -178,7 +179,8 @@ struct ModelParts {
     standings: Seq<Standing>,
 }
 
-/// The parts of the listed model, read from numbered rows and from the closure of nodes that have these types and places.
+/// The parts of the listed model, read from numbered rows and from the closure of nodes that have these types and
+/// places.
 fn read_parts(
     alloc: Global,
     schema: &Schema,
@@ -279,8 +281,8 @@ fn build_closed(
     }
 }
 
-/// The listed model of a presentation, made of rows up to a depth of at most 64. Rows that are named by shorter terms come
-/// first, nulls and entries in the order in which the cells, the generators and the equations bring them.
+/// The listed model of a presentation, made of rows up to a depth of at most 64. Rows that are named by shorter terms
+/// come first, nulls and entries in the order in which the cells, the generators and the equations bring them.
 ///
 /// The refusals are tried in this order: too many rows by stages, depth after the last stage, inconsistency.
 pub fn build(

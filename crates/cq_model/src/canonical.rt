@@ -1,5 +1,5 @@
-//! The canonical presentation of tables: a generator for each row and each null, and an equation for each cell, foreign
-//! key and entry.
+//! The canonical presentation of tables: a generator for each row and each null, and an equation for each cell,
+//! foreign key and entry.
 mod equations;
 pub(crate) mod generators;
 mod terms;

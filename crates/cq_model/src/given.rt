@@ -76,9 +76,9 @@ fn given_parts(
 }
 
 impl Instance {
-    /// The instance of these tables, with their canonical presentation: one generator for each row and each null, and an
-    /// equation for each cell, foreign key and entry. The name of each row is its own generator. `TooLarge` is answered
-    /// exactly where there are over 16,000,000 rows and nulls together, and `Memory` for want of memory.
+    /// The instance of these tables, with their canonical presentation: one generator for each row and each null, and
+    /// an equation for each cell, foreign key and entry. The name of each row is its own generator. `TooLarge` is
+    /// answered exactly where there are over 16,000,000 rows and nulls together, and `Memory` for want of memory.
     pub fn of_tables(
         alloc: Global,
         schema: Rc<Schema>,

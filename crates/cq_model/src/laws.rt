@@ -18,8 +18,8 @@ ghost use Rattle.cq_model.specs.declared.places.Places.{Places};
 ghost use Rattle.cq_model.specs.Closed.{AreClosed};
 ghost use Rattle.cq_model.specs.Built.{IsBuilt, IsClosureOf, tables_of, assignment_of};
 
-/// Tables whose rows are closed and stand in the order of their least names, and whose values are those of closed nodes,
-/// are the listed model of the presentation, with these names. Where two constants clash, the presentation is
+/// Tables whose rows are closed and stand in the order of their least names, and whose values are those of closed
+/// nodes, are the listed model of the presentation, with these names. Where two constants clash, the presentation is
 /// inconsistent at just these two.
 pub fn read_models()
     ensures listed { (S : Schema) (P : Presentation) (m : Content) (rows : List ℕ) → IsSchema S → IsPresentation S P → AreClosed S P m rows

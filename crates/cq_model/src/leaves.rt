@@ -10,8 +10,9 @@ use cq_flat::Node;
 use cq_theory::Sort;
 use std::alloc::{AllocError, Global};
 
-/// The place of the first cell of each row, by the number of the row in tables of `made` rows. `members` has the entity of
-/// each row, `attributes` the attributes of each entity, and `starts` the place of each entity's first cell.
+/// The place of the first cell of each row, by the number of the row in tables of `made` rows. `members` has the
+/// entity of each row, `attributes` the attributes of each entity, and `starts` the place of each entity's first
+/// cell.
 pub fn first_places(
     alloc: Global,
     made: u64,
@@ -68,8 +69,8 @@ pub fn push_leaves(list: &mut NodeList, types: &[u32]) -> Result<(), AllocError>
     Ok(())
 }
 
-/// A leaf for each generator of a type. The answer has the place of each generator; what it has for one of an entity means
-/// nothing.
+/// A leaf for each generator of a type. The answer has the place of each generator; what it has for one of an entity
+/// means nothing.
 pub fn push_generators(
     alloc: Global,
     list: &mut NodeList,

@@ -5,14 +5,16 @@ use crate::building::BuildRefusal;
 use cq_theory::Con;
 use std::alloc::AllocError;
 
-/// Why there is no instance that is built of other instances. `TooLarge` is tried first, the others are those of `build`.
+/// Why there is no instance that is built of other instances. `TooLarge` is tried first, the others are those of
+/// `build`.
 #[derive(Drop)]
 pub enum MoveRefusal {
     /// The presentation closes at no depth up to the given one.
     Depth,
     /// A stage of the rows ended with more than 200,000 of them.
     TooManyRows,
-    /// Two constants are equal: the least, in the order of constants, that is equal to a greater one, and the least such greater one.
+    /// Two constants are equal: the least, in the order of constants, that is equal to a greater one, and the least
+    /// such greater one.
     Inconsistent(Con, Con),
     /// A term of the presentation has over 1,024 symbols, or there are over 16,000,000 generators.
     TooLarge,

@@ -113,8 +113,8 @@ fn names_in_groups(
     Ok(sorted)
 }
 
-/// Numbers rows among those of their entity, in the order in which they stand. There is want of memory also where there
-/// are 2^32 rows or more.
+/// Numbers rows among those of their entity, in the order in which they stand. There is want of memory also where
+/// there are 2^32 rows or more.
 pub fn number_rows(
     alloc: Global,
     entities: usize,

@@ -152,8 +152,8 @@ fn row_counts(alloc: Global, order: &[Seq<u64>]) -> Result<Seq<u32>, AllocError>
     Ok(Seq::from_vec(counts))
 }
 
-/// The sheet of a model: `order` has the rows of each entity, by their numbers in the tables, `numbers` the number of each
-/// row among those of its entity, and `places` says where its cells stand among the closed terms.
+/// The sheet of a model: `order` has the rows of each entity, by their numbers in the tables, `numbers` the number of
+/// each row among those of its entity, and `places` says where its cells stand among the closed terms.
 pub fn read_sheet(
     alloc: Global,
     schema: &Schema,
@@ -225,8 +225,8 @@ fn read_standing(
     }
 }
 
-/// What each generator stands for: `rows` has the row of each generator of an entity, `numbers` the number of each row among
-/// those of its entity, and `places` says where the generators of types stand among the closed terms.
+/// What each generator stands for: `rows` has the row of each generator of an entity, `numbers` the number of each
+/// row among those of its entity, and `places` says where the generators of types stand among the closed terms.
 pub fn read_standings(
     alloc: Global,
     presentation: &Presentation,

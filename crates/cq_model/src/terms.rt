@@ -83,8 +83,8 @@ impl Instance {
         self.row_over(self.standings(), term)
     }
 
-    /// The value of a type term over the presentation. A function without an entry for its arguments gives the value that is
-    /// built of them.
+    /// The value of a type term over the presentation. A function without an entry for its arguments gives the value
+    /// that is built of them.
     pub fn value_of(&self, alloc: Global, term: &TypeTerm) -> Result<Value, AllocError>
         requires { IsGround self.now.schema self.now.presentation (Typ term.now) }
         ensures { IfOk result (λ value. value ≡ value_meant self.now.tables self.now.assignment term.now) }

@@ -22,10 +22,10 @@ use std::alloc::{AllocError, Global};
 /// The most rows and nulls of an instance.
 const MOST_GENERATORS: u64 = 16_000_000;
 
-/// The instance of the tables that the mapping pulls back, with their canonical presentation. The rows of an entity are those
-/// of its image, with their numbers; a foreign key leads where its path leads, and a cell has the value of its attribute's
-/// term. Nulls and entries are those of `instance`. `TooLarge` is answered exactly where there are over 16,000,000 rows and
-/// nulls together or a cell has over 1,024 symbols, and `Memory` for want of memory.
+/// The instance of the tables that the mapping pulls back, with their canonical presentation. The rows of an entity
+/// are those of its image, with their numbers; a foreign key leads where its path leads, and a cell has the value of
+/// its attribute's term. Nulls and entries are those of `instance`. `TooLarge` is answered exactly where there are
+/// over 16,000,000 rows and nulls together or a cell has over 1,024 symbols, and `Memory` for want of memory.
 pub fn delta(alloc: Global, mapping: &Mapping, instance: &Instance) -> Result<Instance, SizeRefusal>
     requires preserves { Preserves mapping.now }
     requires over { instance.now.schema ≡ mapping.now.target }

@@ -14,11 +14,11 @@ use cq_model::{Instance, MoveRefusal, build};
 use cq_theory::SizeRefusal;
 use std::alloc::Global;
 
-/// The listed model of the presentation to which the mapping sends the instance's presentation, made of rows up to a depth of
-/// at most 64.
+/// The listed model of the presentation to which the mapping sends the instance's presentation, made of rows up to a
+/// depth of at most 64.
 ///
-/// `TooLarge` is tried first: it is answered exactly where a term of that presentation has over 1,024 symbols. Then the
-/// refusals are those of `build`, in its order.
+/// `TooLarge` is tried first: it is answered exactly where a term of that presentation has over 1,024 symbols. Then
+/// the refusals are those of `build`, in its order.
 pub fn sigma(
     alloc: Global,
     mapping: &Mapping,

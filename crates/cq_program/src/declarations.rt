@@ -27,16 +27,16 @@ pub struct Named {
 
 /// The instances of a program in order, or the first rule that a declaration breaks, at its place.
 ///
-/// The declarations are taken in order. Each is checked in this order: its form is built (`NotBuilt`), its name is new
-/// (`NameTaken`), each name that it uses is declared (`NameUnknown`) and of the right kind (`WrongKind`), the two schemas
-/// of a mapping are over one typeside declaration (`WrongSchema`, at the second), its parts break no rule (`Duplicate`
-/// to `TooLarge`, at the first such part) and none is missing (`Missing`). Then the duties of a mapping literal are
-/// derived, in order: the first that isn't is not derivable (`NotPreserved`), or not decided within the depth
-/// (`DutyDepth`) or with 200,000 rows (`DutyRows`). The model of an instance has at most 200,000 rows at each depth up
-/// to the given one (`TooManyRows`), closes within it (`Depth`) and makes no two constants equal (`Inconsistent`, with
-/// the texts of the least such pair). `DutyDepth`, `DutyRows`, `Depth` and `TooManyRows` are limits and no rules: each is
-/// told only where the duty or the presentation gives leave for it. Want of memory may come at any time. No form that is
-/// built reads files.
+/// The declarations are taken in order. Each is checked in this order: its form is built (`NotBuilt`), its name is
+/// new (`NameTaken`), each name that it uses is declared (`NameUnknown`) and of the right kind (`WrongKind`), the two
+/// schemas of a mapping are over one typeside declaration (`WrongSchema`, at the second), its parts break no rule
+/// (`Duplicate` to `TooLarge`, at the first such part) and none is missing (`Missing`). Then the duties of a mapping
+/// literal are derived, in order: the first that isn't is not derivable (`NotPreserved`), or not decided within the
+/// depth (`DutyDepth`) or with 200,000 rows (`DutyRows`). The model of an instance has at most 200,000 rows at each
+/// depth up to the given one (`TooManyRows`), closes within it (`Depth`) and makes no two constants equal
+/// (`Inconsistent`, with the texts of the least such pair). `DutyDepth`, `DutyRows`, `Depth` and `TooManyRows` are
+/// limits and no rules: each is told only where the duty or the presentation gives leave for it. Want of memory may
+/// come at any time. No form that is built reads files.
 pub fn meaning<F: Folder>(
     alloc: Global,
     program: &Program,

@@ -14,14 +14,16 @@ ghost use Rattle.cq_program.specs.declared.reason.Reason.{Reason};
 ghost use Rattle.cq_program.specs.Program.{Breaks, IsLimit, IsWithinLimits, Listing, Means, TellsClash, TellsUnkept};
 ghost use Rattle.cq_mapping.specs.MappingData.{MappingData};
 
-/// A program that has a meaning breaks no rule; only the depth and the limit on rows can keep it from being made or a duty from being decided.
+/// A program that has a meaning breaks no rule; only the depth and the limit on rows can keep it from being made or a
+/// duty from being decided.
 pub fn means_unbroken()
     ensures { (depth : ℕ) (program : Program) (L : List Listing) (place : Place) (reason : Reason)
         → Means program L → Breaks depth program place reason → IsLimit reason }
 {}
 
-/// A program that has a meaning and keeps the limits at a depth breaks nothing at it: each of its presentations closes up to the depth and is never
-/// too wide, and each duty is derived within some depth up to it, up to which the duty's presentation isn't too wide.
+/// A program that has a meaning and keeps the limits at a depth breaks nothing at it: each of its presentations
+/// closes up to the depth and is never too wide, and each duty is derived within some depth up to it, up to which the
+/// duty's presentation isn't too wide.
 pub fn unbroken_within_limits()
     ensures { (depth : ℕ) (program : Program) (L : List Listing) (place : Place) (reason : Reason)
         → Means program L → IsWithinLimits depth program → Breaks depth program place reason → ⊥ }

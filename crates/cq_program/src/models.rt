@@ -21,8 +21,9 @@ use cq_theory::{Con, Presentation, Schema, Typeside, Value};
 use std::alloc::{AllocError, Global};
 use std::rc::Rc;
 
-/// What the declaration at a place stands for: a theory itself, a mapping that preserves equality itself, a presentation, given
-/// or moved, by its listed model, and tables that are pulled back with their canonical presentation.
+/// What the declaration at a place stands for: a theory itself, a mapping that preserves equality itself, a
+/// presentation, given or moved, by its listed model, and tables that are pulled back with their canonical
+/// presentation.
 pub fn meaning_of(
     alloc: Global,
     place: Place,

@@ -24,9 +24,9 @@ use cq_theory::{ArrowRefusal, Presentation, Schema, TheoryRefusal, Typeside};
 use std::alloc::{AllocError, Global};
 use std::rc::Rc;
 
-/// What a declaration poses: a theory; a mapping between schemas of printed names, whose duties are to be derived; the
-/// identity of the schema of a printed name; a presentation over such a schema, whose model is to be made; or an instance that
-/// is to be pulled back along a mapping from such a schema, or moved along one to such a schema.
+/// What a declaration poses: a theory; a mapping between schemas of printed names, whose duties are to be derived;
+/// the identity of the schema of a printed name; a presentation over such a schema, whose model is to be made; or an
+/// instance that is to be pulled back along a mapping from such a schema, or moved along one to such a schema.
 #[derive(Drop)]
 pub(crate) enum Statement {
     Typeside(Typeside),

@@ -19,10 +19,10 @@ use std::alloc::{AllocError, Global};
 const MOST_GENERATORS: u32 = 16_000_000;
 
 impl Query {
-    /// The presentation of coeval, over tables of the target: a generator for each row and each variable of its block, and then
-    /// one for each null; the where equations on each row's generators, and what the foreign keys and the attributes of the row
-    /// say of them; then the entries. `TooLarge` is answered exactly where a term would have over 1,024 symbols or there would
-    /// be over 16,000,000 generators, and `Memory` for want of memory.
+    /// The presentation of coeval, over tables of the target: a generator for each row and each variable of its
+    /// block, and then one for each null; the where equations on each row's generators, and what the foreign keys and
+    /// the attributes of the row say of them; then the entries. `TooLarge` is answered exactly where a term would
+    /// have over 1,024 symbols or there would be over 16,000,000 generators, and `Memory` for want of memory.
     pub fn coeval_presentation(
         &self,
         alloc: Global,

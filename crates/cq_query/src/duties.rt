@@ -17,7 +17,8 @@ use cq_theory::{EntTerm, Equation, Presentation, Sort, TypeTerm};
 use std::alloc::{AllocError, Global};
 
 impl Query {
-    /// The frozen presentation of an entity of the target: the variables of its block as generators, and its where equations.
+    /// The frozen presentation of an entity of the target: the variables of its block as generators, and its where
+    /// equations.
     pub fn frozen(&self, alloc: Global, entity: u32) -> Result<Presentation, AllocError>
         requires { entity < length self.now.target.entities }
         ensures frozen { IfOk result (λ made. made ≡ frozen_at self.now entity) }
@@ -27,10 +28,10 @@ impl Query {
         frozen_block(alloc, self, entity as usize)
     }
 
-    /// The duties of an entity of the target, in this order: for each foreign key from it, each where equation of the block to
-    /// which the key leads, with the assigned terms in place of its variables; for each path equation that begins at it
-    /// and each variable of the block where that ends, the equality of the two terms that its sides give the variable; each
-    /// observation equation at it, with the query's terms for keys and attributes.
+    /// The duties of an entity of the target, in this order: for each foreign key from it, each where equation of the
+    /// block to which the key leads, with the assigned terms in place of its variables; for each path equation that
+    /// begins at it and each variable of the block where that ends, the equality of the two terms that its sides give
+    /// the variable; each observation equation at it, with the query's terms for keys and attributes.
     pub fn duties(&self, alloc: Global, entity: u32) -> Result<Vec<Equation>, AllocError>
         requires { entity < length self.now.target.entities }
         ensures { IfOk result (λ made. made.items ≡ duties_at self.now entity) }

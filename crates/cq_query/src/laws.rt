@@ -18,8 +18,8 @@ pub fn sorts_of_duties()
         → (sort : Sort) × (sort_of Q.source (frozen Q entity).generators (left_of e) ≡ Some sort) × (sort_of Q.source (frozen Q entity).generators (right_of e) ≡ Some sort) }
 {}
 
-/// Rows are among the answers of a query for an entity exactly where they are one row of its entity for each variable of the
-/// block, and each where equation of the block holds at them.
+/// Rows are among the answers of a query for an entity exactly where they are one row of its entity for each variable
+/// of the block, and each where equation of the block holds at them.
 pub fn answers()
     ensures { (Q : Query) (M : Tables) (entity : ℕ) (answers : List (List ℕ)) → AreAnswers Q M entity answers → (rows : List ℕ)
         → ((place : ℕ) × (slice_get answers place ≡ Some rows)) ↔ (IsTuple rows (variable_counts Q M entity) × MeetsTests Q M entity rows) }

@@ -1,8 +1,8 @@
 //! The parts of a query, with names that are not yet looked up.
 use cq_base::{Name, Raw, Seq};
 
-/// The parts of a query: the entity of each block; the variables, each with the number of its block, its name and its entity;
-/// and the clauses, each with the number of its block. The parts are numbered list after list, from 0.
+/// The parts of a query: the entity of each block; the variables, each with the number of its block, its name and its
+/// entity; and the clauses, each with the number of its block. The parts are numbered list after list, from 0.
 #[derive(Drop)]
 pub struct QueryParts {
     pub entities: Seq<Name>,

@@ -16,10 +16,10 @@ use std::alloc::Global;
 use std::marker::Model;
 use std::rc::Rc;
 
-/// How a query makes the rows of one entity of its target. There is one row for each choice of a row for each variable that
-/// meets the where equations. Variables stand for generators, by their places. There is a term for each attribute of the
-/// entity, and for each foreign key of it a term for each variable of the block to which the key leads; both are in the
-/// order of the target.
+/// How a query makes the rows of one entity of its target. There is one row for each choice of a row for each
+/// variable that meets the where equations. Variables stand for generators, by their places. There is a term for each
+/// attribute of the entity, and for each foreign key of it a term for each variable of the block to which the key
+/// leads; both are in the order of the target.
 #[derive(Drop)]
 pub struct Block {
     pub vars: Seq<(Name, u32)>,
@@ -74,10 +74,10 @@ impl Model for Query {
 }
 
 impl Query {
-    /// The query that the parts give between schemas of one typeside. The entities of the blocks are tried first, then whether each
-    /// entity has a block, then the variables, then the clauses in order, and then, entity by entity, whether each attribute and
-    /// each foreign key is given, and each foreign key's term for each variable. The answer is the first fault, of a part the least
-    /// rule that it breaks, or want of memory.
+    /// The query that the parts give between schemas of one typeside. The entities of the blocks are tried first,
+    /// then whether each entity has a block, then the variables, then the clauses in order, and then, entity by
+    /// entity, whether each attribute and each foreign key is given, and each foreign key's term for each variable.
+    /// The answer is the first fault, of a part the least rule that it breaks, or want of memory.
     pub fn new(
         alloc: Global,
         source: Rc<Schema>,

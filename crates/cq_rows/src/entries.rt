@@ -6,8 +6,8 @@ ghost use Rattle.cq_rows.specs.Entries.{row_now, rows_of};
 use crate::renamings::Renamings;
 use std::alloc::{AllocError, Global};
 
-/// The row of each generator as it was made, or `u64::MAX` where it has none, and the row to which each row was renamed
-/// since.
+/// The row of each generator as it was made, or `u64::MAX` where it has none, and the row to which each row was
+/// renamed since.
 #[derive(Drop)]
 pub struct Entries {
     first: Vec<u64>,

@@ -22,8 +22,8 @@ use std::alloc::{AllocError, Global};
 /// The most live rows at the end of a stage.
 pub const MOST_ROWS: u64 = 200_000;
 
-/// Rows that were made up to some depth. The entry of a generator of an entity is its row, that of a generator of a type is
-/// `u64::MAX`. It is closed exactly where all cells are filled.
+/// Rows that were made up to some depth. The entry of a generator of an entity is its row, that of a generator of a
+/// type is `u64::MAX`. It is closed exactly where all cells are filled.
 #[derive(Drop)]
 pub struct Partial {
     pub tables: Tables,
@@ -129,9 +129,10 @@ fn grow(
     Ok((tables, rows, closed))
 }
 
-/// Makes the rows of a term model stage by stage. Stage 0 makes a row for each generator of an entity; each further stage
-/// fills each empty cell of each live row with a new row; at the end of every stage rows are merged until no equation joins
-/// two. The work stops where all cells are filled, or after stage `depth`. The answer is Ok also where cells are empty then.
+/// Makes the rows of a term model stage by stage. Stage 0 makes a row for each generator of an entity; each further
+/// stage fills each empty cell of each live row with a new row; at the end of every stage rows are merged until no
+/// equation joins two. The work stops where all cells are filled, or after stage `depth`. The answer is Ok also where
+/// cells are empty then.
 ///
 /// `TooManyRows` says that a stage ended with more than 200,000 live rows.
 pub fn saturate(

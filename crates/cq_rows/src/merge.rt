@@ -10,8 +10,8 @@ use crate::waiting::Waiting;
 use cq_tables::Tables;
 use std::alloc::{AllocError, Global};
 
-// The row that is renamed and the one that is kept: of two the one that stands in more cells, so that fewer cells change,
-// and of two that stand in as many the one with the lower number.
+// The row that is renamed and the one that is kept: of two the one that stands in more cells, so that fewer cells
+// change, and of two that stand in as many the one with the lower number.
 fn direction(tables: &Tables, a: u64, b: u64) -> (u64, u64)
     requires left { a < made_of tables.now }
     requires right { b < made_of tables.now }
@@ -28,7 +28,8 @@ fn direction(tables: &Tables, a: u64, b: u64) -> (u64, u64)
     (a, b)
 }
 
-// Merges two rows, and the pairs that follow from it. The pairs wait as they were given, and are looked up in their turn.
+// Merges two rows, and the pairs that follow from it. The pairs wait as they were given, and are looked up in their
+// turn.
 pub fn merge(
     alloc: Global,
     tables: &mut Tables,

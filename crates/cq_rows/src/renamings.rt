@@ -7,8 +7,8 @@ ghost use Rattle.cq_rows.specs.Entries.{row_now};
 use std::alloc::{AllocError, Global};
 use std::marker::Model;
 
-/// Seen as the list of the row to which each row was renamed. Rows that were renamed to one row are a class, a tree of rows
-/// under the lowest of them, which knows the row to which all were renamed.
+/// Seen as the list of the row to which each row was renamed. Rows that were renamed to one row are a class, a tree
+/// of rows under the lowest of them, which knows the row to which all were renamed.
 #[derive(Drop)]
 pub struct Renamings {
     parent: Vec<u64>,

@@ -230,8 +230,8 @@ fn first_pass(
     Ok(())
 }
 
-// Passes over all equations until none joins two rows. The first pass lists those that stop at an empty cell, and each merge
-// looks again at those that may go on, so that the later passes find little.
+// Passes over all equations until none joins two rows. The first pass lists those that stop at an empty cell, and
+// each merge looks again at those that may go on, so that the later passes find little.
 fn merge_all(
     alloc: Global,
     schema: &Schema,

@@ -1,8 +1,9 @@
-//! Which equations wait for cells, and which of them may go on. It is only the order in which equations are tried: merging
-//! ends where no equation joins two rows, whatever is kept here.
+//! Which equations wait for cells, and which of them may go on. It is only the order in which equations are tried:
+//! merging ends where no equation joins two rows, whatever is kept here.
 use std::alloc::{AllocError, Global};
 
-/// An equation of the presentation by its number, or a path equation by its number and the row at which it is looked at.
+/// An equation of the presentation by its number, or a path equation by its number and the row at which it is looked
+/// at.
 #[derive(Clone, Copy)]
 pub enum Stopped {
     Given(usize),
@@ -35,8 +36,8 @@ struct Entry {
     next: usize,
 }
 
-/// Lists of equations. A list is known by the place of its last equation, of which the next one is its first, or by none if it
-/// is empty; so two lists are joined in one step.
+/// Lists of equations. A list is known by the place of its last equation, of which the next one is its first, or by
+/// none if it is empty; so two lists are joined in one step.
 #[derive(Drop)]
 pub struct Waiting {
     rows: Vec<Cells>,
@@ -74,8 +75,8 @@ impl Waiting {
         self.open = false;
     }
 
-    /// Lists an equation that stopped at a row. A path equation that stopped at its first row isn't listed: if that row gets
-    /// cells, they are those of a row at which the path equation is looked at.
+    /// Lists an equation that stopped at a row. A path equation that stopped at its first row isn't listed: if that
+    /// row gets cells, they are those of a row at which the path equation is looked at.
     pub fn wait(&mut self, row: u64, stopped: Stopped) -> Result<(), AllocError> {
         if stopped.is_at(row) {
             return Ok(());
@@ -93,7 +94,8 @@ impl Waiting {
         Ok(())
     }
 
-    /// What waits for cells of a row waits for those of the row to which it is renamed; it may go on if one of them has cells.
+    /// What waits for cells of a row waits for those of the row to which it is renamed; it may go on if one of them
+    /// has cells.
     pub fn renamed(&mut self, from: u64, to: u64) {
         match (self.cells(from), self.cells(to)) {
             (Cells::Filled, Cells::Filled) => {}

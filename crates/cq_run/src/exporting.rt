@@ -43,8 +43,8 @@ fn given(alloc: Global, line: &str, text: &str) -> Result<(Vec<String>, MemFolde
     Ok((words, MemFolder::new(alloc, files, Vec::new(alloc))?))
 }
 
-/// Runs a line of words on a text, with an exporter of each format. The formats of the exporters that are left are those
-/// wanted, and none was moved.
+/// Runs a line of words on a text, with an exporter of each format. The formats of the exporters that are left are
+/// those wanted, and none was moved.
 fn leaves(
     rt: &impl Abort,
     alloc: Global,
@@ -107,8 +107,8 @@ fn the_choice_of_format(rt: HostRuntime) -> Result<(), Fail> {
     Ok(())
 }
 
-/// Where the files that are wanted go on behind those of one exporter, if it has the next ones, name by name and line by
-/// line.
+/// Where the files that are wanted go on behind those of one exporter, if it has the next ones, name by name and line
+/// by line.
 fn behind(kept: &[(String, Vec<u8>)], wanted: &[(&str, &str)], from: usize) -> Option<usize> {
     let mut at = from;
     for file in kept {

@@ -5,8 +5,8 @@ use cq_io::MemSink;
 use std::alloc::{AllocError, Global};
 use std::test::Fail;
 
-/// Two schemas and a mapping, which stand in front of each case. The mapping sends both entities to one, in which the foreign
-/// key is the identity.
+/// Two schemas and a mapping, which stand in front of each case. The mapping sends both entities to one, in which the
+/// foreign key is the identity.
 const HEAD: &str =
     "typeside T = literal { types s n constants Al Bob : s zero : n functions plus : n, n -> n }
 schema S = literal : T { entities A B foreign_keys p : A -> B attributes u : A -> s v : B -> s }

@@ -17,12 +17,13 @@ use std::alloc::Global;
 const USAGE: &str = "usage: cqlrun run FILE [--depth K] [--only csv|cql]\n";
 
 /// Runs the words: reads the file that they name from `folder`, and writes the transcripts of its instances, or the
-/// line that says why there are none, to `out`, in one write. Then the files of the instances are handed to each exporter of
-/// the formats that are asked for, in turn; the others are dropped before anything is read. An exporter that fails is moved
-/// to the end of `spoiled`, and the next goes on; one that has no memory ends the run.
+/// line that says why there are none, to `out`, in one write. Then the files of the instances are handed to each
+/// exporter of the formats that are asked for, in turn; the others are dropped before anything is read. An exporter
+/// that fails is moved to the end of `spoiled`, and the next goes on; one that has no memory ends the run.
 ///
-/// What each status says stands with the clause `gives`. A run over devices that don't fail, of a text that has a meaning,
-/// breaks no rule and passes no limit at the depth of the words, ends with `Ok` or for want of memory (the clause `complete`).
+/// What each status says stands with the clause `gives`. A run over devices that don't fail, of a text that has a
+/// meaning, breaks no rule and passes no limit at the depth of the words, ends with `Ok` or for want of memory (the
+/// clause `complete`).
 pub fn run<F: Folder, K: Sink>(
     alloc: Global,
     words: &[String],
@@ -77,8 +78,8 @@ fn tell<K: Sink>(out: &mut K, line: &[u8], wanted: Status) -> Status
     }
 }
 
-/// Writes the transcript, and then hands the files over. Room for every exporter in `spoiled` is made before the write,
-/// so that moving one takes no memory.
+/// Writes the transcript, and then hands the files over. Room for every exporter in `spoiled` is made before the
+/// write, so that moving one takes no memory.
 fn export<K: Sink>(
     exporters: &mut Vec<Box<dyn Exporter>>,
     spoiled: &mut Vec<Box<dyn Exporter>>,

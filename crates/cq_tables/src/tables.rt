@@ -10,9 +10,9 @@ use crate::plan::Plan;
 use std::alloc::{AllocError, Global};
 use std::marker::Model;
 
-/// Numbered rows, each of one entity, each live or renamed. A live row has a cell for each foreign key of its entity: empty,
-/// or a live row of the entity to which the key goes. For each row the cells that hold it are kept, so that a renaming walks
-/// over these alone.
+/// Numbered rows, each of one entity, each live or renamed. A live row has a cell for each foreign key of its entity:
+/// empty, or a live row of the entity to which the key goes. For each row the cells that hold it are kept, so that a
+/// renaming walks over these alone.
 #[derive(Drop)]
 pub struct Tables {
     plan: Plan,
@@ -36,8 +36,8 @@ impl Model for Tables {
 }
 
 impl Tables {
-    /// No rows, over entities that are numbered from 0. Each key is given by the entity from which and the entity to which it
-    /// goes.
+    /// No rows, over entities that are numbered from 0. Each key is given by the entity from which and the entity to
+    /// which it goes.
     pub fn new(alloc: Global, entities: u32, keys: &[(u32, u32)]) -> Result<Tables, AllocError>
         requires { All (λ k. (k.0 < entities) × (k.1 < entities)) keys.now }
         ensures entities { IfOk result (λ t. entities_of t ≡ entities) }
@@ -150,9 +150,9 @@ impl Tables {
         Ok(())
     }
 
-    /// Renames a live row to another one of its entity: every cell that held `from` holds `to`, and the cells of `from` fill
-    /// the empty cells of `to`. The answer lists, by key, the pairs where both had a cell, as they stand after the renaming,
-    /// without pairs of one row with itself.
+    /// Renames a live row to another one of its entity: every cell that held `from` holds `to`, and the cells of
+    /// `from` fill the empty cells of `to`. The answer lists, by key, the pairs where both had a cell, as they stand
+    /// after the renaming, without pairs of one row with itself.
     pub fn rename(&mut self, from: u64, to: u64) -> Result<Vec<(u64, u64)>, AllocError>
         requires from { live_of self.old from ≡ true }
         requires to { live_of self.old to ≡ true }
@@ -201,7 +201,8 @@ fn rename_cells(cells: &mut Cells, from: u64, to: u64)
     }
 }
 
-// The cells from `out` on fill the empty ones from `into` on, and are emptied. The pairs of filled ones are added to `given`.
+// The cells from `out` on fill the empty ones from `into` on, and are emptied. The pairs of filled ones are added to
+// `given`.
 fn join_cells(cells: &mut Cells, into: usize, out: usize, width: usize, given: &mut Vec<(u64, u64)>)
     requires into { into + width ≤ length cells.old.cells }
     requires out { out + width ≤ length cells.old.cells }

@@ -39,8 +39,9 @@ pub enum TermRefusal {
     Memory,
 }
 
-/// Why parts make no typeside, schema or presentation, with the number of the first wrong part. Reserved is a declared constant
-/// that is empty or begins with `?` or `=`, or under a typeside with an open type a text of a term that is so.
+/// Why parts make no typeside, schema or presentation, with the number of the first wrong part. Reserved is a
+/// declared constant that is empty or begins with `?` or `=`, or under a typeside with an open type a text of a term
+/// that is so.
 #[derive(Clone, Copy, Debug, PartialEq, Eq)]
 pub enum TheoryRefusal {
     Duplicate(u32),
@@ -52,8 +53,8 @@ pub enum TheoryRefusal {
     Memory,
 }
 
-/// Why parts make no mapping or query: a rule of `TheoryRefusal`, broken by the part with this number, or the first entity,
-/// foreign key or attribute that has no image.
+/// Why parts make no mapping or query: a rule of `TheoryRefusal`, broken by the part with this number, or the first
+/// entity, foreign key or attribute that has no image.
 #[derive(Drop)]
 pub enum ArrowRefusal {
     Duplicate(u32),
@@ -66,7 +67,8 @@ pub enum ArrowRefusal {
     Memory,
 }
 
-/// Why no presentation could be made of another one: a term would have over 1,024 symbols, or there would be over 16,000,000 generators.
+/// Why no presentation could be made of another one: a term would have over 1,024 symbols, or there would be over
+/// 16,000,000 generators.
 #[derive(Clone, Copy, Debug, PartialEq, Eq)]
 pub enum SizeRefusal {
     TooLarge,

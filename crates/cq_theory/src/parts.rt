@@ -2,8 +2,8 @@
 //! The parts of a call are numbered list after list, from 0.
 use cq_base::{Name, Raw, Seq};
 
-/// The parts of a typeside: types, the name of the open type where there is one, constants with their types, and functions
-/// with the types of their arguments and result.
+/// The parts of a typeside: types, the name of the open type where there is one, constants with their types, and
+/// functions with the types of their arguments and result.
 #[derive(Drop)]
 pub struct TypesideParts {
     pub types: Seq<Name>,
@@ -12,7 +12,8 @@ pub struct TypesideParts {
     pub functions: Seq<(Name, Seq<Name>, Name)>,
 }
 
-/// The parts of a schema. A foreign key or an attribute has its name, the entity from which it goes, and where it leads.
+/// The parts of a schema. A foreign key or an attribute has its name, the entity from which it goes, and where it
+/// leads.
 #[derive(Drop)]
 pub struct SchemaParts {
     pub entities: Seq<Name>,
@@ -38,7 +39,8 @@ pub struct PresentationParts {
     pub equations: Seq<(Raw, Raw)>,
 }
 
-/// The parts of a mapping: the image of each entity, and then the images of foreign keys and attributes in the order of the text.
+/// The parts of a mapping: the image of each entity, and then the images of foreign keys and attributes in the order
+/// of the text.
 #[derive(Drop)]
 pub struct MappingParts {
     pub entities: Seq<(Name, Name)>,
@@ -53,8 +55,8 @@ pub struct ArrowPart {
     pub image: ArrowImage,
 }
 
-/// The path to which a foreign key goes, or the path or the term to which an attribute goes. A term is over a variable,
-/// whose entity may be left out.
+/// The path to which a foreign key goes, or the path or the term to which an attribute goes. A term is over a
+/// variable, whose entity may be left out.
 #[derive(Drop)]
 pub enum ArrowImage {
     Key(Seq<Name>),

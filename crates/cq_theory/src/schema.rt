@@ -145,7 +145,8 @@ impl Schema {
         self.typeside.find_constant(name)
     }
 
-    /// The constant of a text: the declared one with this content, else the open one, where the typeside has an open type.
+    /// The constant of a text: the declared one with this content, else the open one, where the typeside has an open
+    /// type.
     pub fn find_text(&self, text: &Name) -> Result<Option<Con>, AllocError>
         ensures { IfOk result (λ constant. constant ≡ text_constant self.now text.now) }
     {

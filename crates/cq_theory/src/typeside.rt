@@ -21,8 +21,8 @@ pub struct Fun {
     pub result: u32,
 }
 
-/// Types, constants with their types, and functions, all free, and at most one open type, of which every text is a constant.
-/// Contracts see these four, which are well sorted, and in whose lists no name stands twice.
+/// Types, constants with their types, and functions, all free, and at most one open type, of which every text is a
+/// constant. Contracts see these four, which are well sorted, and in whose lists no name stands twice.
 #[derive(Drop)]
 pub struct Typeside {
     pub types: Seq<Name>,
@@ -54,8 +54,8 @@ impl Model for Typeside {
 }
 
 impl Typeside {
-    /// The typeside that the parts give. Where parts break rules, the answer is the first such part with the least rule that it breaks,
-    /// or want of memory.
+    /// The typeside that the parts give. Where parts break rules, the answer is the first such part with the least
+    /// rule that it breaks, or want of memory.
     pub fn new(alloc: Global, parts: TypesideParts) -> Result<Typeside, TheoryRefusal>
         requires { length parts.types + literals_count parts.literals + length parts.constants + length parts.functions < 2 ^ 32 }
         ensures accepted { IfOk result (λ _. typeside_fault parts ≡ None) }

@@ -9,8 +9,8 @@ use crate::value::Value;
 use itoa::Buffer;
 use std::alloc::{AllocError, Global};
 
-/// The text of a value: a declared constant's name, quoted where it is no word, an open constant's text in quotes, `?` and a null's label,
-/// or a function's name with the texts of its arguments.
+/// The text of a value: a declared constant's name, quoted where it is no word, an open constant's text in quotes,
+/// `?` and a null's label, or a function's name with the texts of its arguments.
 pub fn value_text(alloc: Global, typeside: &Typeside, value: &Value) -> Result<Vec<u8>, AllocError>
     requires { is_named typeside.now value.now ≡ true }
     ensures { IfOk result (λ text. text.items ≡ text_of typeside.now value.now) }
@@ -76,7 +76,8 @@ fn push_args(typeside: &Typeside, args: &[Value], text: &mut Vec<u8>) -> Result<
     Ok(())
 }
 
-/// Appends the text of a constant: a declared one's name, quoted where it is no word, or an open one's text, always quoted.
+/// Appends the text of a constant: a declared one's name, quoted where it is no word, or an open one's text, always
+/// quoted.
 pub fn push_con(typeside: &Typeside, constant: &Con, text: &mut Vec<u8>) -> Result<(), AllocError>
     requires { is_named_con typeside.now constant.now ≡ true }
     ensures { OnOk result (text.new.items ≡ text.old.items ++ con_text typeside.now constant.now) }

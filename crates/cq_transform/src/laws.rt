@@ -8,8 +8,8 @@ ghost use Rattle.cq_theory.specs.Tables.{Tables, Assignment, Holds, Initial};
 ghost use Rattle.cq_theory.specs.Homomorphism.{IsHomomorphism};
 ghost use Rattle.cq_transform.specs.Agreement.{Agrees};
 
-/// From the initial model of a presentation to tables in which the presentation holds there is exactly one homomorphism that
-/// sends what each generator stands for to what it stands for there.
+/// From the initial model of a presentation to tables in which the presentation holds there is exactly one
+/// homomorphism that sends what each generator stands for to what it stands for there.
 pub fn exactly_one()
     ensures some { (S : Schema) (P : Presentation) (M N : Tables) (A B : Assignment) → IsSchema S → Initial S P M A → Holds S P N B
         → (rows : List (List ℕ)) × (nulls : List Value) × IsHomomorphism S M N rows nulls × Agrees S P M N A B rows nulls }

@@ -10,8 +10,8 @@ use crate::request::Request;
 use clap::error::ErrorKind;
 use std::alloc::{AllocError, Global};
 
-/// Reads the words after the program's own name, as `clap` reads them: the options stand before or after the
-/// other words, `--depth=5` is `--depth 5`, and `--` ends the options. A number may have a `+` and zeros in front. Words
+/// Reads the words after the program's own name, as `clap` reads them: the options stand before or after the other
+/// words, `--depth=5` is `--depth 5`, and `--` ends the options. A number may have a `+` and zeros in front. Words
 /// that `clap` refuses, those that ask for help among them, give None.
 pub fn read_words<'a>(alloc: Global, words: &'a [String]) -> Result<Option<Request<'a>>, AllocError>
     ensures reads { IfOk result (λ request. option_map ask_of request ≡ reads (map string_bytes words.now)) }

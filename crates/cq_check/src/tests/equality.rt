@@ -10,7 +10,8 @@ use std::alloc::Global;
 use std::rc::Rc;
 use std::test::Fail;
 
-/// Generators with their sorts, equations, of which the last is asked for, and what is found up to a depth of at most 64.
+/// Generators with their sorts, equations, of which the last is asked for, and what is found up to a depth of at most
+/// 64.
 struct Case {
     keys: Keys,
     generators: &'static [(&'static str, &'static str)],
@@ -58,8 +59,8 @@ fn shape(keys: &Keys) -> &'static Shape {
     }
 }
 
-/// Entity terms: equal along a key, within depth 1 and not within 0; two generators that are not equal; and an equation between
-/// generators that makes others equal.
+/// Entity terms: equal along a key, within depth 1 and not within 0; two generators that are not equal; and an
+/// equation between generators that makes others equal.
 static ROWS: [Case; 5] = [
     Case {
         keys: Keys::Free,
@@ -107,7 +108,8 @@ static ROWS: [Case; 5] = [
     },
 ];
 
-/// Type terms: equal by congruence of a function, constants that one cell makes equal, and constants that nothing makes equal.
+/// Type terms: equal by congruence of a function, constants that one cell makes equal, and constants that nothing
+/// makes equal.
 static VALUES: [Case; 3] = [
     Case {
         keys: Keys::Free,

@@ -118,8 +118,8 @@ static PATHS: [Case; 5] = [
     },
 ];
 
-/// Observation equations: one that is derived within depth 1 where the schema never closes, one by congruence, one between constants that are equal, and
-/// two with a text, which is equal to itself alone.
+/// Observation equations: one that is derived within depth 1 where the schema never closes, one by congruence, one
+/// between constants that are equal, and two with a text, which is equal to itself alone.
 static OBSERVATIONS: [Case; 6] = [
     Case {
         source: Shape {

@@ -1,5 +1,6 @@
-//! Schemas and mappings from texts. Commas stand between the parts of a text, and a part is made of words. `l*3` stands for
-//! `l l l`; in a term the arguments stand before their function, as in `e v/1 zero plus/2`, and `'Bo` stands for a text.
+//! Schemas and mappings from texts. Commas stand between the parts of a text, and a part is made of words. `l*3`
+//! stands for `l l l`; in a term the arguments stand before their function, as in `e v/1 zero plus/2`, and `'Bo`
+//! stands for a text.
 ghost use Rattle.std.specs.Prelude.{◌≡◌, IfOk};
 
 use crate::Mapping;

@@ -86,8 +86,8 @@ fn is_attribute_duty(
     }
 }
 
-/// Foreign keys and a path equation of a schema of one entity E, those of a schema of one entity G, images of the foreign
-/// keys, and the paths of the one duty.
+/// Foreign keys and a path equation of a schema of one entity E, those of a schema of one entity G, images of the
+/// foreign keys, and the paths of the one duty.
 struct Loops {
     source: (&'static str, &'static str),
     target: (&'static str, &'static str),

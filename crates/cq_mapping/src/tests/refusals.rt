@@ -17,7 +17,8 @@ static MADE: [Case; 3] = [
 ];
 
 static IN_ENTITIES: [Case; 16] = [
-    // An image is there already, a name is unknown, a type stands for an entity: in one part each comes before the next.
+    // An image is there already, a name is unknown, a type stands for an entity: in one part each comes before the
+    // next.
     ("E G, E Q", "", "Duplicate 1"),
     ("E G, E s", "", "Duplicate 1"),
     ("Q G", "", "Unknown 0"),
@@ -90,8 +91,8 @@ static IN_ORDER: [Case; 10] = [
     (ENTITIES, "j, k, w", "Missing x"),
 ];
 
-// A path of 1,022 foreign keys and another one or an attribute has 1,024 symbols with its start, and so has a term of 1,022
-// functions, an attribute and its variable.
+// A path of 1,022 foreign keys and another one or an attribute has 1,024 symbols with its start, and so has a term of
+// 1,022 functions, an attribute and its variable.
 static IN_SIZE: [Case; 12] = [
     (ENTITIES, "j, E k = l*1022 m, w, x", "Ok"),
     (ENTITIES, "j, E k = l*1023 m, w, x", "TooLarge 3"),

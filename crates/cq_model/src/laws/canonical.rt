@@ -8,9 +8,9 @@ ghost use Rattle.cq_theory.specs.Canonical.{canonical, canonical_assignment, row
 ghost use Rattle.cq_theory.specs.Listed.{IsLeastName};
 ghost use Rattle.cq_model.specs.Given.{IsModel, size_of};
 
-/// Well-formed tables that satisfy their schema are the initial model of their canonical presentation, where the generator
-/// of each row stands for the row. No lesser term than this generator names the row. Within the limits on terms and on the
-/// number of generators the presentation is one over the schema.
+/// Well-formed tables that satisfy their schema are the initial model of their canonical presentation, where the
+/// generator of each row stands for the row. No lesser term than this generator names the row. Within the limits on
+/// terms and on the number of generators the presentation is one over the schema.
 pub fn canonical_presents()
     ensures initial { (S : Schema) (M : Tables) → IsSchema S → IsWellFormed S M → Satisfies S M → Initial S (canonical S M) M (canonical_assignment S M) }
     ensures least { (S : Schema) (M : Tables) → IsSchema S → IsWellFormed S M → (entity row : ℕ) → row < count_of M entity → IsLeastName S (canonical S M) M (canonical_assignment S M) entity row (row_term S M entity row) }

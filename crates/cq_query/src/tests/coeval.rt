@@ -63,8 +63,8 @@ fn has_constant(constants: &[(Name, u32)], number: usize, sort: u32) -> bool
     }
 }
 
-/// Two entities, a foreign key from the first to the second, and an attribute of the first. Its type is the first one, and has
-/// a constant.
+/// Two entities, a foreign key from the first to the second, and an attribute of the first. Its type is the first
+/// one, and has a constant.
 fn is_keyed(schema: &Schema) -> bool
     ensures types { result ≡ true → 0 < length schema.now.typeside.types }
     ensures constant { result ≡ true → option_map (λ c. c.1) (slice_get schema.now.typeside.constants 0) ≡ Some 0 }
@@ -340,8 +340,8 @@ fn applied(alloc: Global, value: Value) -> Result<Value, AllocError>
     Ok(Value::Fun(0, Seq::from_vec(vec![in alloc; value]?)))
 }
 
-/// The second constant under the first function, so many times: a value of the second type, where the function goes from
-/// that type to itself.
+/// The second constant under the first function, so many times: a value of the second type, where the function goes
+/// from that type to itself.
 fn tower(alloc: Global, levels: usize) -> Result<Value, AllocError>
     ensures { IfOk result (λ made. (S : SchemaData) (M : Tables) → option_map (λ c. c.1) (slice_get S.typeside.constants 1) ≡ Some 1 → option_map (λ f. f.args) (slice_get S.typeside.functions 0) ≡ Some (1 ∷ []) → option_map (λ f. f.result) (slice_get S.typeside.functions 0) ≡ Some 1 → M.algebra.entries ≡ [] → (value_type S M.algebra.nulls made ≡ Some 1) × (normal_of M made ≡ made)) }
 {

@@ -117,8 +117,8 @@ fn is_free(schema: &Schema) -> bool
     schema.path_eqs.len() == 0 && schema.obs_eqs.len() == 0
 }
 
-/// Two entities, a foreign key from the first to the second, and an attribute of the first. Its type is the first one, and has
-/// a constant.
+/// Two entities, a foreign key from the first to the second, and an attribute of the first. Its type is the first
+/// one, and has a constant.
 fn is_keyed(schema: &Schema) -> bool
     ensures types { result ≡ true → 0 < length schema.now.typeside.types }
     ensures constant { result ≡ true → option_map (λ c. c.1) (slice_get schema.now.typeside.constants 0) ≡ Some 0 }

@@ -7,7 +7,8 @@ ghost use Rattle.cq_theory.specs.Presentation.{IsPresentation};
 ghost use Rattle.cq_theory.specs.Tables.{Tables, Assignment};
 ghost use Rattle.cq_theory.specs.Listed.{Lists};
 
-/// Two models that are listed for one presentation are equal. Their lists of names are equal, and each generator stands for the same in both.
+/// Two models that are listed for one presentation are equal. Their lists of names are equal, and each generator
+/// stands for the same in both.
 pub fn one_model()
     ensures model { (S : Schema) (P : Presentation) → IsSchema S → IsPresentation S P → (M N : Tables) (A B : Assignment) → Lists S P M A → Lists S P N B → M ≡ N }
     ensures assignment { (S : Schema) (P : Presentation) → IsSchema S → IsPresentation S P → (M N : Tables) (A B : Assignment) → Lists S P M A → Lists S P N B → A ≡ B }

@@ -76,7 +76,8 @@ pub(crate) fn add_generators(
 }
 
 impl Presentation {
-    /// The presentation that the parts give. Where parts break rules, the answer is the first such part with the least rule that it breaks, or want of memory.
+    /// The presentation that the parts give. Where parts break rules, the answer is the first such part with the
+    /// least rule that it breaks, or want of memory.
     pub fn new(
         alloc: Global,
         schema: &Schema,
