@@ -1,0 +1,11 @@
+pub mod Naming
+pub mod Numbers
+pub mod Tabled
+pub mod Runs
+pub mod Quoting
+pub mod Steps
+pub mod Forwards
+pub mod Backwards
+pub mod Exactness
+pub mod Contents
+pub mod Fronts
