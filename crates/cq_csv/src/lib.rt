@@ -9,4 +9,5 @@ mod rows;
 #[cfg(test)]
 mod tests;
 
+pub use cq_import::{CsvRefusal, import};
 pub use export::files;

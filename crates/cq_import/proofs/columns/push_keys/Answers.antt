@@ -1,0 +1,16 @@
+use Rattle.std.proofs.Common.{◌<◌, subst, sym}
+use Rattle.cq_theory.specs.declared.schema.Edge.{Edge}
+use Rattle.cq_import.specs.Columns.{IsGrouped, attribute_columns, attribute_of, key_of}
+use Rattle.cq_import.proofs.Grouping.{IsGrouped-more, IsGrouped-next}
+use Rattle.cq_import.proofs.columns.push_keys.Goals as goal
+
+pub loop-number-preserved : goal.loop-number-preserved
+loop-number-preserved c =
+    let edge = c.index-edges-number.result in
+    let source : edge.from < c.args.count =
+    subst (λ (e : Edge). e.from < c.args.count) (sym c.index-edges-number.is) (c.requires.sources c.loop-number.number edge c.loop-number-test.true) in
+    IsGrouped-more (attribute_columns c.args.attributes.now) key_of c.args.edges.now c.args.count c.loop-number.number c.loop-number.lists.items edge c.index_mut.result.now c.push.new.self
+    c.loop-number-test.true c.index-edges-number.is source c.loop-number.invariant c.index_mut.ensures.value c.in_ok-push.ensures.items
+
+pub loop-number-init : goal.loop-number-init
+loop-number-init c = IsGrouped-next attribute_of key_of c.args.attributes.now c.args.count c.args.lists.now.items c.requires.lists

@@ -1,0 +1,9 @@
+pub mod Cells
+pub mod Columns
+pub mod Context
+pub mod Faults
+pub mod Folders
+pub mod Imports
+pub mod Labels
+pub mod Records
+pub mod Rows

@@ -1,0 +1,14 @@
+//! Files of entities that were read.
+ghost use Rattle.std.specs.Prelude.{◌≡◌};
+ghost use Rattle.cq_import.specs.Rows.{ids_of, rows_of};
+
+use crate::ids::Ids;
+
+/// A file of an entity, with the ids of its records.
+#[derive(Drop)]
+pub struct EntityFile {
+    pub name: String,
+    pub text: Vec<u8>,
+    pub ids: Ids,
+    ghost ids_are: { ids ≡ ids_of (rows_of text.items) },
+}

@@ -1,0 +1,62 @@
+//! Folders of CSV files as presentations.
+ghost use Rattle.std.specs.Prelude.{◌≡◌, ◌≤◌, true, false};
+ghost use Rattle.cq_io.specs.Counts.{Rose};
+ghost use Rattle.cq_import.specs.Imports.{IsImport, OfFiles, IfAbsent, IfReadFault, IfTooLong};
+
+use crate::columns::columns;
+use crate::folder::read_files;
+use crate::presenting::present;
+use crate::refusal::CsvRefusal;
+use cq_base::Name;
+use cq_io::Folder;
+use cq_theory::{Presentation, Schema};
+use std::alloc::Global;
+
+/// The presentation of the CSV files `DIR/ENTITY.csv`, one for each entity of the schema, of at most 64 MiB each.
+///
+/// The first record of a file is its header: `id`, then the entity's attributes, then its foreign keys, in the order
+/// of the schema. Each other record is a generator, named `g1`, `g2`, .. by entity and record. An empty cell says
+/// nothing. In the column of an attribute `?` and a label of one to nine digits is a null, which is one for each label;
+/// behind `=` stands a value by its text; all else is the constant with this content. In the column of a foreign key
+/// stands the id of the record to which it leads. The labels have generators too, in order of first appearance, and
+/// each cell gives an equation.
+///
+/// A refusal is the first fault in this order. File by file: it is read (`Absent`, `ReadFault`, `TooLong`), its first
+/// record is tested (`BadHeader`), and then each record in turn: `NotCsv` where it has another number of fields than
+/// the header or a field that isn't UTF-8, `BadCell` in column 1 where its id is empty, `DoubleId` where its id stood
+/// before in this file. Then `TooLarge`, where there are over 16,000,000 records. Then the cells in order: `BadCell`
+/// where a cell of an attribute has no meaning or has a label that appeared with another type, `NoSuchId` where no
+/// record has the id, and `TooLarge` where a new label makes over 16,000,000 generators. `Memory` may come at any time.
+pub fn import<F: Folder>(
+    alloc: Global,
+    folder: &mut F,
+    dir: &Name,
+    schema: &Schema,
+) -> Result<Presentation, CsvRefusal>
+    // Where the folder tells its files, the answer is decided by them, but for a read that fails and want of memory;
+    // where it tells none, there are files over which it is.
+    ensures answer { OfFiles (F.files folder.old) (λ files. IsImport files dir.now schema.now result) }
+    ensures files { F.files folder.new ≡ F.files folder.old }
+
+    // No count falls, and a read that is refused has raised its count.
+    ensures absences { F.absences folder.old ≤ F.absences folder.new }
+    ensures faults { F.faults folder.old ≤ F.faults folder.new }
+    ensures overruns { F.overruns folder.old ≤ F.overruns folder.new }
+    ensures absent { IfAbsent result (Rose (F.absences folder.old) (F.absences folder.new)) }
+    ensures failed { IfReadFault result (Rose (F.faults folder.old) (F.faults folder.new)) }
+    ensures too_long { IfTooLong result (Rose (F.overruns folder.old) (F.overruns folder.new)) }
+
+    // A steady folder stays so, and never fails.
+    ensures steady { F.steady folder.new ≡ F.steady folder.old }
+    ensures fails { IfReadFault result (F.steady folder.old ≡ false) }
+    ensures calm { F.steady folder.old ≡ true → F.faults folder.new ≡ F.faults folder.old }
+{
+    schema.is_well_sorted();
+    let Ok(columns) = columns(alloc, schema) else {
+        return Err(CsvRefusal::Memory);
+    };
+    match read_files(alloc, folder, dir, schema, columns.as_slice()) {
+        Ok(files) => present(alloc, schema, columns.as_slice(), files.as_slice()),
+        Err(refusal) => Err(refusal),
+    }
+}
