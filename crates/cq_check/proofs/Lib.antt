@@ -11,4 +11,6 @@ pub mod Leaves
 pub mod OneValue
 pub mod Sides
 pub mod Depths
-pub mod Duties
+pub mod MappingDuties
+pub mod Numbered
+pub mod QueryDuties

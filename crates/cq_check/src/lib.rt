@@ -1,14 +1,19 @@
-//! Whether an equation is derivable from a presentation, and whether a mapping preserves the equations of its source.
+//! Whether an equation is derivable from a presentation, whether a mapping preserves the equations of its source, and
+//! whether the duties of a query hold.
 #![tactic(auto)]
 
 pub(crate) mod closing;
+pub mod duties;
 pub mod equality;
 pub(crate) mod equations;
 pub mod mappings;
 pub(crate) mod nodes;
+pub mod queries;
 
+pub use duties::CheckRefusal;
 pub use equality::{EqualRefusal, Verdict, equal};
-pub use mappings::{CheckRefusal, check_mapping};
+pub use mappings::check_mapping;
+pub use queries::check_query;
 
 #[cfg(test)]
 mod tests;

@@ -1,4 +1,5 @@
-//! Equations over small schemas, and mappings between them, that are checked.
+//! Equations over small schemas, and mappings and queries between them, that are checked.
 mod equality;
 mod given;
 mod mappings;
+mod queries;

@@ -10,34 +10,34 @@ use Rattle.cq_query.specs.Answers.{tuples, IsTuple, AreFiltered, none, kept, lef
 abbrev pub IsIn : {X : Type 0} → X → List X → Type 0
 IsIn x xs = (place : ℕ) × (slice_get xs place ≡ Some x)
 
-first : {X : Type 0} (x : X) (xs : List X) → IsIn x (x ∷ xs)
+pub first : {X : Type 0} (x : X) (xs : List X) → IsIn x (x ∷ xs)
 first x xs = (0, refl)
 
-later : {X : Type 0} (x y : X) (xs : List X) → IsIn x xs → IsIn x (y ∷ xs)
+pub later : {X : Type 0} (x y : X) (xs : List X) → IsIn x xs → IsIn x (y ∷ xs)
 later x y xs h = (suc h.0, h.1)
 
 -- a member of a list with one more in front is that one or a member of the rest
-cases_in : {X : Type 0} (P : Type 0) (x y : X) (xs : List X) → IsIn x (y ∷ xs) → (y ≡ x → P) → (IsIn x xs → P) → P
+pub cases_in : {X : Type 0} (P : Type 0) (x y : X) (xs : List X) → IsIn x (y ∷ xs) → (y ≡ x → P) → (IsIn x xs → P) → P
 cases_in P x y xs h one rest = at h.0 h.1
   where
     at : (n : ℕ) → slice_get (y ∷ xs) n ≡ Some x → P
     at zero is = one (let same : y ≡ x = cc in same)
     at (suc n) is = rest (n, is)
 
-no_member : {X : Type 0} (x : X) → IsIn x [] → ⊥
+pub no_member : {X : Type 0} (x : X) → IsIn x [] → ⊥
 no_member x h = let none_is : None ≡ Some x = h.1 in cc
 
-in_front : {X : Type 0} (x : X) (xs ys : List X) → IsIn x xs → IsIn x (xs ++ ys)
+pub in_front : {X : Type 0} (x : X) (xs ys : List X) → IsIn x xs → IsIn x (xs ++ ys)
 in_front x [] ys h = absurd (no_member x h)
 in_front x (y ∷ xs) ys h = cases_in (IsIn x ((y ∷ xs) ++ ys)) x y xs h
     (λ same. (0, ap (λ z. Some z) same))
     (λ rest. later x y (xs ++ ys) (in_front x xs ys rest))
 
-in_back : {X : Type 0} (x : X) (xs ys : List X) → IsIn x ys → IsIn x (xs ++ ys)
+pub in_back : {X : Type 0} (x : X) (xs ys : List X) → IsIn x ys → IsIn x (xs ++ ys)
 in_back x [] ys h = h
 in_back x (y ∷ xs) ys h = later x y (xs ++ ys) (in_back x xs ys h)
 
-in_either : {X : Type 0} (P : Type 0) (x : X) (xs ys : List X) → IsIn x (xs ++ ys) → (IsIn x xs → P) → (IsIn x ys → P) → P
+pub in_either : {X : Type 0} (P : Type 0) (x : X) (xs ys : List X) → IsIn x (xs ++ ys) → (IsIn x xs → P) → (IsIn x ys → P) → P
 in_either P x [] ys h left right = right h
 in_either P x (y ∷ xs) ys h left right = cases_in P x y (xs ++ ys) h
     (λ same. left (0, ap (λ z. Some z) same))
@@ -50,7 +50,7 @@ in_longer row rows (r ∷ rest) h = cases_in (IsIn (row ∷ rows) (map (λ r. ro
     (λ same. (0, ap (λ z. Some (row ∷ z)) same))
     (λ i. later (row ∷ rows) (row ∷ r) (map (λ r. row ∷ r) rest) (in_longer row rows rest i))
 
-from_longer : (P : Type 0) (row : ℕ) (rows : List ℕ) (rest : List (List ℕ)) → IsIn rows (map (λ r. row ∷ r) rest)
+pub from_longer : (P : Type 0) (row : ℕ) (rows : List ℕ) (rest : List (List ℕ)) → IsIn rows (map (λ r. row ∷ r) rest)
     → ((tail : List ℕ) → rows ≡ row ∷ tail → IsIn tail rest → P) → P
 from_longer P row rows [] h then = absurd (no_member rows h)
 from_longer P row rows (r ∷ rest) h then = cases_in P rows (row ∷ r) (map (λ r. row ∷ r) rest) h
@@ -95,7 +95,7 @@ in_tuple rows (count ∷ counts) h = out_of counts (IsTuple rows (count ∷ coun
     (λ row tail less is i. subst (λ (r : List ℕ). IsTuple r (count ∷ counts)) (sym is) (let below_count : row < count = omega arith in (below_count, in_tuple tail counts i)))
 
 module _ {X : Type 0} (P : X → Type 0) where
-  filtered_out : {xs ys : List X} → AreFiltered P xs ys → (x : X) → IsIn x ys → IsIn x xs × P x
+  pub filtered_out : {xs ys : List X} → AreFiltered P xs ys → (x : X) → IsIn x ys → IsIn x xs × P x
   filtered_out none x h = absurd (no_member x h)
   filtered_out (kept {x = y} {xs = xs} {ys = ys} p rest) x h = cases_in (IsIn x (y ∷ xs) × P x) x y ys h
       (λ same. ((0, ap (λ z. Some z) same), subst P same p))

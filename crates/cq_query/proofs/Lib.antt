@@ -14,3 +14,8 @@ pub mod Indexing
 pub mod FormedTables
 pub mod Blocking
 pub mod Assigning
+pub mod Meaning
+pub mod Holding
+pub mod Once
+pub mod Normal
+pub mod Evaluated

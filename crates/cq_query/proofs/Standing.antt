@@ -34,7 +34,7 @@ use Rattle.cq_query.specs.IsQuery.{IsQuery}
 abbrev pub HasOneSort : Query → Generators → Equation → Type 0
 HasOneSort Q H e = (sort : Sort) × (sort_of Q.source H (left_of e) ≡ Some sort) × (sort_of Q.source H (right_of e) ≡ Some sort)
 
-within_length : {X Y : Type 0} (xs : List X) (ys : List Y) (n : ℕ) (y : Y) → slice_get ys n ≡ Some y → length xs ≡ length ys → (x : X) × (slice_get xs n ≡ Some x)
+pub within_length : {X Y : Type 0} (xs : List X) (ys : List Y) (n : ℕ) (y : Y) → slice_get ys n ≡ Some y → length xs ≡ length ys → (x : X) × (slice_get xs n ≡ Some x)
 within_length [] [] n y h same = cc
 within_length [] (z ∷ ys) n y h same = absurd (omega arith)
 within_length (x ∷ xs) [] n y h same = cc
@@ -51,7 +51,7 @@ module _ (Q : Query) where
     pub each : (n : ℕ) (t : EntTerm) (v : Name × ℕ) → slice_get terms n ≡ Some t → slice_get (variables_at Q entity) n ≡ Some v → entity_of Q.source H t ≡ Some v.1
 
   -- a generator of the frozen presentation of an entity is a variable
-  variable_at : (entity n e : ℕ) → entity_at (slice_get (generators_at entity) n) ≡ Some e → (v : Name × ℕ) × (slice_get (variables_at Q entity) n ≡ Some v) × (v.1 ≡ e)
+  pub variable_at : (entity n e : ℕ) → entity_at (slice_get (generators_at entity) n) ≡ Some e → (v : Name × ℕ) × (slice_get (variables_at Q entity) n ≡ Some v) × (v.1 ≡ e)
   variable_at entity n e h = at (slice_get (generators_at entity) n) refl h
     where
       at : (o : Option (Name × Sort)) → slice_get (generators_at entity) n ≡ o → entity_at o ≡ Some e → (v : Name × ℕ) × (slice_get (variables_at Q entity) n ≡ Some v) × (v.1 ≡ e)
@@ -61,7 +61,7 @@ module _ (Q : Query) where
           let same : Some made.0.1 ≡ Some e = ap (λ (x : Name × Sort). entity_at (Some x)) (sym made.2) ∙ k in
           (made.0, made.1, (let number : made.0.1 ≡ e = cc in number))
 
-  no_type_at : (entity n type : ℕ) → type_at (slice_get (generators_at entity) n) ≡ Some type → ⊥
+  pub no_type_at : (entity n type : ℕ) → type_at (slice_get (generators_at entity) n) ≡ Some type → ⊥
   no_type_at entity n type h = at (slice_get (generators_at entity) n) refl h
     where
       at : (o : Option (Name × Sort)) → slice_get (generators_at entity) n ≡ o → type_at o ≡ Some type → ⊥

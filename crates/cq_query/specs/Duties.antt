@@ -9,6 +9,7 @@ use Rattle.cq_theory.specs.declared.schema.Edge.{Edge}
 use Rattle.cq_theory.specs.declared.schema.PathEq.{PathEq}
 use Rattle.cq_theory.specs.declared.schema.ObsEq.{ObsEq}
 use Rattle.cq_theory.specs.declared.term.EntTerm.{EntTerm}
+use Rattle.cq_theory.specs.Canonical.{below}
 use Rattle.cq_theory.specs.Derivation.{Derives, left_of, right_of}
 use Rattle.cq_query.specs.QueryData.{QueryData as Query}
 use Rattle.cq_query.specs.Groups.{positions}
@@ -50,6 +51,13 @@ module _ (Q : Query) where
       flat_map (λ k. key_duties k (slice_get Q.target.keys k)) (positions (key_sources Q) entity)
       ++ flat_map (λ n. path_duties entity (slice_get Q.target.path_eqs n)) (positions (path_sources Q) entity)
       ++ flat_map (λ n. observation_duties entity (slice_get Q.target.obs_eqs n)) (positions (observation_sources Q) entity)
+
+  -- the duties of the first entities of the target, entity by entity, each with its entity
+  abbrev pub duties_below : ℕ → List (ℕ × Equation)
+  duties_below count = flat_map (λ entity. map (λ e. (entity, e)) (duties entity)) (below count)
+
+  abbrev pub all_duties : List (ℕ × Equation)
+  all_duties = duties_below (length Q.target.entities)
 
   -- each duty is derivable from the frozen presentation of its entity
   abbrev pub Sound : Type 0

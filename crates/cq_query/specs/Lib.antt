@@ -10,3 +10,4 @@ pub mod Answers
 pub mod Given
 pub mod Index
 pub mod Assigned
+pub mod Leading

@@ -1,4 +1,6 @@
 //! Laws of the definitions. Each is the contract of a function that does nothing.
+pub mod eval;
+
 ghost use Rattle.std.specs.Prelude.{ℕ, false, ◌≡◌, ◌↔◌, Some, List, slice_get};
 ghost use Rattle.cq_theory.specs.declared.presentation.Equation.{Equation};
 ghost use Rattle.cq_theory.specs.declared.presentation.Sort.{Sort};

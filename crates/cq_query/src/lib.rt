@@ -23,7 +23,7 @@ mod sorts;
 mod tables;
 #[cfg(test)]
 mod tests;
-mod translation;
+pub mod translation;
 mod values;
 
 pub use parts::{Clause, QueryParts};

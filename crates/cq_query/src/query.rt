@@ -140,7 +140,7 @@ impl Query {
     }
 
     /// The block of an entity of the target.
-    pub(crate) fn block(&self, entity: usize) -> Option<&Block>
+    pub fn block(&self, entity: usize) -> Option<&Block>
         ensures { option_copied result ≡ slice_get self.now.blocks entity }
     {
         self.blocks.as_slice().get(entity)

@@ -10,7 +10,7 @@ use cq_theory::{Con, EntTerm, TypeTerm};
 use std::alloc::{AllocError, Global};
 
 /// The terms that a foreign key of the target assigns.
-pub(crate) fn found_terms(query: &Query, key: usize) -> Option<&Seq<EntTerm>>
+pub fn found_terms(query: &Query, key: usize) -> Option<&Seq<EntTerm>>
     ensures { option_copied result ≡ found_terms_of query.now key }
 {
     let edge = query.target.keys.as_slice().get(key)?;
@@ -20,7 +20,7 @@ pub(crate) fn found_terms(query: &Query, key: usize) -> Option<&Seq<EntTerm>>
 }
 
 /// The term of an attribute of the target.
-fn found_term(query: &Query, attribute: usize) -> Option<&TypeTerm>
+pub fn found_term(query: &Query, attribute: usize) -> Option<&TypeTerm>
     ensures { option_copied result ≡ found_term_of query.now attribute }
 {
     let edge = query.target.attributes.as_slice().get(attribute)?;

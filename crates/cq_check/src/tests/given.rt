@@ -35,11 +35,11 @@ pub enum Image {
 /// The name and the image of a foreign key or an attribute.
 pub struct Arrow(pub &'static str, pub Image);
 
-fn name(alloc: Global, text: &str) -> Result<Name, Fail> {
+pub fn name(alloc: Global, text: &str) -> Result<Name, Fail> {
     Ok(Name::new(alloc, text)?)
 }
 
-fn names(alloc: Global, texts: &[&str]) -> Result<Seq<Name>, Fail> {
+pub fn names(alloc: Global, texts: &[&str]) -> Result<Seq<Name>, Fail> {
     let mut names = Vec::new(alloc);
     for text in texts {
         names.push(name(alloc, text)?)?;
@@ -113,7 +113,7 @@ fn push_word(alloc: Global, terms: &mut Vec<Raw>, text: &str, args: usize) -> Re
     Ok(())
 }
 
-fn term(alloc: Global, words: &[(&str, usize)]) -> Result<Raw, Fail> {
+pub fn term(alloc: Global, words: &[(&str, usize)]) -> Result<Raw, Fail> {
     let mut terms = Vec::new(alloc);
     for (text, args) in words {
         push_word(alloc, &mut terms, text, *args)?;

@@ -1,0 +1,72 @@
+//! Duties: equations, each of which is to be derivable from a presentation, numbered from 1.
+ghost use Rattle.std.specs.Prelude.{ℕ, ◌≡◌, ◌≤◌, ◌+◌, Err, IfOk, IfErr};
+ghost use Rattle.cq_check.specs.Answers.{IsWellSorted, IsDerived, IsTooDeep, IsTooWide};
+ghost use Rattle.cq_check.specs.declared.duties.CheckRefusal.TheVariants.{NotPreserved, Depth, TooManyRows};
+ghost use Rattle.cq_theory.specs.Presentation.{IsPresentation};
+
+use crate::equality::{EqualRefusal, Verdict, verdict_up_to};
+use cq_theory::{Equation, Presentation, Schema};
+use std::alloc::{AllocError, Global};
+
+/// Why a mapping isn't known to preserve the equations of its source, or the duties of a query aren't known to hold.
+/// The number, from 1, is that of the first duty that isn't derived.
+#[derive(Clone, Copy, Debug, PartialEq, Eq)]
+pub enum CheckRefusal {
+    /// The duty isn't derivable.
+    NotPreserved(u64),
+    /// The duty isn't derived within the given depth, and its presentation closes at no depth up to it.
+    Depth(u64),
+    /// A stage of the duty's rows ended with more than 200,000 of them.
+    TooManyRows(u64),
+    Memory,
+}
+
+impl From<AllocError> for CheckRefusal {
+    ghost use Rattle.cq_check.specs.declared.duties.CheckRefusal.TheVariants.{Memory};
+
+    ghost from_gives = { λ _ e. e ≡ Memory };
+
+    fn from(_error: AllocError) -> CheckRefusal {
+        CheckRefusal::Memory
+    }
+}
+
+/// Whether the duty with this number is derivable.
+pub(crate) fn check_duty(
+    alloc: Global,
+    schema: &Schema,
+    presentation: &Presentation,
+    equation: &Equation,
+    depth: u32,
+    number: u64,
+) -> Result<(), CheckRefusal>
+    requires presentation { IsPresentation schema.now presentation.now }
+    requires sorted { IsWellSorted schema.now presentation.now equation.now }
+    requires depth { depth ≤ 64 }
+    ensures derived { IfOk result (λ _. IsDerived schema.now presentation.now equation.now) }
+    ensures not_derivable { (n : ℕ) → result ≡ Err (NotPreserved n)
+        → (n ≡ number) × (IsDerived schema.now presentation.now equation.now → ⊥) }
+    ensures deep { (n : ℕ) → result ≡ Err (Depth n)
+        → (n ≡ number) × IsTooDeep schema.now presentation.now equation.now depth }
+    ensures many { (n : ℕ) → result ≡ Err (TooManyRows n)
+        → (n ≡ number) × IsTooWide schema.now presentation.now equation.now depth }
+{
+    match verdict_up_to(alloc, schema, presentation, depth, equation) {
+        Ok(Verdict::Yes) => Ok(()),
+        Ok(Verdict::No) => Err(CheckRefusal::NotPreserved(number)),
+        Err(EqualRefusal::Depth) => Err(CheckRefusal::Depth(number)),
+        Err(EqualRefusal::TooManyRows) => Err(CheckRefusal::TooManyRows(number)),
+        Err(EqualRefusal::Memory) => Err(CheckRefusal::Memory),
+    }
+}
+
+/// The number of the next duty. Memory ends long before the numbers do.
+pub(crate) fn number_after(number: u64) -> Result<u64, CheckRefusal>
+    ensures next { IfOk result (λ next. next ≡ number + 1) }
+    ensures memory { IfErr result (λ refusal. refusal ≡ CheckRefusal.Memory) }
+{
+    match number.checked_add(1) {
+        Some(next) => Ok(next),
+        None => Err(CheckRefusal::Memory),
+    }
+}

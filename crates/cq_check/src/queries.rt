@@ -1,0 +1,77 @@
+//! Whether a query is sound: each of its duties is derivable.
+ghost use Rattle.std.specs.Prelude.{ℕ, ◌≡◌, ◌<◌, ◌≤◌, ◌+◌, Err, IfOk, length};
+ghost use Rattle.cq_check.specs.Answers.{AreMetOf, IsUnsoundAt, IsTooDeepAt, IsTooWideAt};
+ghost use Rattle.cq_check.specs.declared.duties.CheckRefusal.TheVariants.{NotPreserved, Depth, TooManyRows};
+ghost use Rattle.cq_query.specs.Duties.{Sound, duties_below};
+
+use crate::duties::{CheckRefusal, check_duty, number_after};
+use cq_query::Query;
+use cq_theory::Schema;
+use std::alloc::Global;
+
+fn source(query: &Query) -> &Schema
+    ensures { result.now ≡ query.now.source }
+{
+    &query.source
+}
+
+/// How many entities the target has.
+fn entity_count(query: &Query) -> u32
+    ensures { result ≡ length query.now.target.entities }
+{
+    query.is_well_sorted();
+    query.target.entities.len() as u32
+}
+
+/// Whether each duty of an entity is derivable, where those of the entities before it are, and how many duties there
+/// are up to the end of this entity's. `before` is how many come before them.
+fn check_entity(
+    alloc: Global,
+    query: &Query,
+    entity: u32,
+    depth: u32,
+    before: u64,
+) -> Result<u64, CheckRefusal>
+    requires depth { depth ≤ 64 }
+    requires entity { entity < length query.now.target.entities }
+    requires before { before ≡ length (duties_below query.now entity) }
+    requires met { AreMetOf query.now before }
+    ensures number { IfOk result (λ number. number ≡ length (duties_below query.now (entity + 1))) }
+    ensures met { IfOk result (λ number. AreMetOf query.now number) }
+    ensures not_sound { (n : ℕ) → result ≡ Err (NotPreserved n) → IsUnsoundAt query.now n }
+    ensures deep { (n : ℕ) → result ≡ Err (Depth n) → IsTooDeepAt query.now depth n }
+    ensures many { (n : ℕ) → result ≡ Err (TooManyRows n) → IsTooWideAt query.now depth n }
+{
+    query.is_well_sorted();
+    let over = query.frozen(alloc, entity)?;
+    let duties = query.duties(alloc, entity)?;
+    let mut number = before;
+    for duty in duties.iter() {
+        number = number_after(number)?;
+        let answer = check_duty(alloc, source(query), &over, duty, depth, number);
+        if let Err(refusal) = answer {
+            return Err(refusal);
+        }
+    }
+    Ok(number)
+}
+
+/// Whether each duty of a query is derivable from the frozen presentation of its entity, by `equal` up to the given
+/// depth, which is at most 64. The duties are numbered from 1 through the entities of the target, in its order; those
+/// of one entity are in the order of `Query::duties`.
+pub fn check_query(alloc: Global, query: &Query, depth: u32) -> Result<(), CheckRefusal>
+    requires { depth ≤ 64 }
+    ensures sound { IfOk result (λ _. Sound query.now) }
+    ensures not_sound { (n : ℕ) → result ≡ Err (NotPreserved n) → IsUnsoundAt query.now n }
+    ensures deep { (n : ℕ) → result ≡ Err (Depth n) → IsTooDeepAt query.now depth n }
+    ensures many { (n : ℕ) → result ≡ Err (TooManyRows n) → IsTooWideAt query.now depth n }
+{
+    let mut number = 0;
+    for entity in 0..entity_count(query) {
+        match check_entity(alloc, query, entity, depth, number) {
+            Ok(next) => number = next,
+            Err(refusal) => return Err(refusal),
+        }
+    }
+    Ok(())
+}
