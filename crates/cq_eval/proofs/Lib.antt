@@ -1,0 +1,11 @@
+pub mod Answered
+pub mod Chosen
+pub mod Covered
+pub mod Extended
+pub mod Filled
+pub mod Indexed
+pub mod Joined
+pub mod Placed
+pub mod Tested
+pub mod Told
+pub mod Typed

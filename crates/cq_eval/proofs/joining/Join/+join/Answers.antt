@@ -1,0 +1,133 @@
+use Rattle.std.proofs.Common.{ℕ, List, [], ◌∷◌, ◌++◌, ◌≡◌, ◌<◌, ◌+◌, take, drop, length, get_or, refl, sym, ap, subst, ◌∙◌, arith}
+use Rattle.std.specs.Prelude.{slice_index}
+use Rattle.std.proofs.lemmas.List.{take_all}
+use Rattle.cq_theory.specs.declared.presentation.Equation.{Equation}
+use Rattle.cq_theory.specs.Tables.{Tables}
+use Rattle.cq_query.proofs.Holding.{tuple_length}
+use Rattle.cq_eval.specs.Join.{found_from, found_by}
+use Rattle.cq_eval.specs.Refused.{TellsOver}
+use Rattle.cq_eval.proofs.Extended as steps
+use Rattle.cq_eval.proofs.joining.Join.+join.Goals as goal
+
+pub extend-returns-then-bound-len-clause-found : goal.extend-returns-then-bound-len-clause-found
+extend-returns-then-bound-len-clause-found t c =
+    let M : Tables = c.args.self.now.instance.now.tables in
+    let tests : List Equation = c.args.self.now.tests.now in
+    let counts : List ℕ = c.args.self.now.counts in
+    let choice : List ℕ = c.args.choice.now in
+    let all : length counts < c.args.bound + 1 = omega (arith, c.if-bound-len.true, c.len.ensures) in
+    let whole : take c.args.bound choice ≡ choice = take_all c.args.bound choice (omega (arith, tuple_length choice counts c.requires.choice, all)) in
+    let is : found_from M tests counts (drop c.args.bound counts) (take c.args.bound choice) ≡ choice ∷ [] =
+    steps.none_left M tests counts c.args.bound (take c.args.bound choice) (omega (arith, all)) ∙ ap (λ r. r ∷ []) whole in
+    steps.on_ok c.keep.result (c.keep.new.found.items ≡ c.args.found.now.items ++ choice ∷ []) (c.keep.new.found.items ≡ c.args.found.now.items ++ found_from M tests counts (drop c.args.bound counts) (take c.args.bound choice))
+    (λ h. h ∙ ap (λ l. c.args.found.now.items ++ l) (sym is)) c.keep.ensures.found
+
+pub extend-returns-in-Err-clause-refused : goal.extend-returns-in-Err-clause-refused
+extend-returns-in-Err-clause-refused t c =
+    let counts : List ℕ = c.args.self.now.counts in
+    let less : c.args.bound < length counts = omega (arith, c.if-bound-len.false, c.len.ensures) in
+    let inside : c.loop-row.row < slice_index counts c.args.bound = subst (λ l. c.loop-row.row < slice_index l c.args.bound) c.as_slice.ensures c.loop-row-test.true in
+    steps.refused_step c.args.self.now.instance.now.tables c.args.self.now.tests.now counts c.args.self.now.entity c.args.bound c.loop-row.row (take c.args.bound c.args.choice.now) (take c.args.bound c.loop-row.choice)
+    c.args.found.now.items c.loop-row.found.items c.in-Err.refusal less inside c.loop-row.invariant.found c.loop-row.invariant.kept c.in-Err.ensures.refused
+
+pub extend-loop-row-preserved : goal.extend-loop-row-preserved
+extend-loop-row-preserved t c =
+    let M : Tables = c.args.self.now.instance.now.tables in
+    let counts : List ℕ = c.args.self.now.counts in
+    record {
+      found = steps.found_step M c.args.self.now.tests.now counts (drop (c.args.bound + 1) counts) (take c.args.bound c.args.choice.now) (take c.args.bound c.loop-row.choice) c.loop-row.row
+          c.args.found.now.items c.loop-row.found.items c.extend_by.new.found.items c.loop-row.invariant.found c.loop-row.invariant.kept c.in_default-extend_by.ensures.found;
+      few = c.in_default-extend_by.ensures.few;
+      choice = c.extend_by.ensures.choice;
+      kept = c.extend_by.ensures.kept ∙ c.loop-row.invariant.kept;
+    }
+
+pub extend_by-set-requires : goal.extend_by-set-requires
+extend_by-set-requires t c = omega (arith, tuple_length c.args.choice.now c.args.self.now.counts c.requires.choice, c.requires.bound)
+
+pub extend_by-passes-requires-clause-choice : goal.extend_by-passes-requires-clause-choice
+extend_by-passes-requires-clause-choice t c =
+    steps.next_tuple c.args.self.now.instance.now.tables c.args.self.now.tests.now c.args.self.now.counts c.args.choice.now c.set.new.self c.args.bound c.args.row c.requires.choice c.requires.bound c.requires.row c.set.ensures
+
+pub extend_by-returns-in_err-passes-clause-choice : goal.extend_by-returns-in_err-passes-clause-choice
+extend_by-returns-in_err-passes-clause-choice t c =
+    steps.next_tuple c.args.self.now.instance.now.tables c.args.self.now.tests.now c.args.self.now.counts c.args.choice.now c.set.new.self c.args.bound c.args.row c.requires.choice c.requires.bound c.requires.row c.set.ensures
+
+pub extend_by-returns-then-not-branch-clause-found : goal.extend_by-returns-then-not-branch-clause-found
+extend_by-returns-then-not-branch-clause-found t c =
+    steps.none_found c.args.self.now.instance.now.tables c.args.self.now.tests.now c.args.self.now.counts c.args.choice.now c.set.new.self c.args.bound c.args.row c.requires.choice c.requires.bound c.requires.row c.set.ensures
+    c.in_ok-passes.field-0 c.in_ok-passes.ensures c.if-not-branch.true c.args.found.now.items
+
+pub extend_by-returns-then-not-branch-clause-choice : goal.extend_by-returns-then-not-branch-clause-choice
+extend_by-returns-then-not-branch-clause-choice t c =
+    steps.next_tuple c.args.self.now.instance.now.tables c.args.self.now.tests.now c.args.self.now.counts c.args.choice.now c.set.new.self c.args.bound c.args.row c.requires.choice c.requires.bound c.requires.row c.set.ensures
+
+pub extend_by-extend-requires : goal.extend_by-extend-requires
+extend_by-extend-requires t c = (
+  omega arith,
+  (
+    c.requires.join,
+    (
+      c.requires.indexed,
+      (
+        steps.next_tuple c.args.self.now.instance.now.tables c.args.self.now.tests.now c.args.self.now.counts c.args.choice.now c.set.new.self c.args.bound c.args.row c.requires.choice c.requires.bound c.requires.row c.set.ensures,
+        (omega arith, c.requires.few),
+      ),
+    ),
+  ),
+)
+
+pub extend_by-returns-clause-found : goal.extend_by-returns-clause-found
+extend_by-returns-clause-found t c =
+    let M : Tables = c.args.self.now.instance.now.tables in
+    let tests : List Equation = c.args.self.now.tests.now in
+    let counts : List ℕ = c.args.self.now.counts in
+    let is = steps.some_found M tests counts c.args.choice.now c.set.new.self c.args.bound c.args.row c.requires.choice c.requires.bound c.requires.row c.set.ensures c.in_ok-passes.field-0 c.in_ok-passes.ensures c.if-not-branch.false in
+    steps.on_ok c.extend.result (c.extend.new.found.items ≡ c.args.found.now.items ++ found_from M tests counts (drop (c.args.bound + 1) counts) (take (c.args.bound + 1) c.set.new.self))
+    (c.extend.new.found.items ≡ c.args.found.now.items ++ found_by M tests counts (drop (c.args.bound + 1) counts) (take c.args.bound c.args.choice.now ++ c.args.row ∷ []))
+    (λ h. h ∙ ap (λ l. c.args.found.now.items ++ l) is) c.extend.ensures.found
+
+pub extend_by-returns-clause-kept : goal.extend_by-returns-clause-kept
+extend_by-returns-clause-kept t c =
+    steps.next_kept c.args.self.now.instance.now.tables c.args.self.now.tests.now c.args.self.now.counts c.args.choice.now c.set.new.self c.args.bound c.args.row c.requires.choice c.requires.bound c.requires.row c.set.ensures
+    c.extend.new.choice c.extend.ensures.kept
+
+pub extend_by-returns-clause-refused : goal.extend_by-returns-clause-refused
+extend_by-returns-clause-refused t c =
+    let M : Tables = c.args.self.now.instance.now.tables in
+    let tests : List Equation = c.args.self.now.tests.now in
+    let counts : List ℕ = c.args.self.now.counts in
+    let is = steps.some_found M tests counts c.args.choice.now c.set.new.self c.args.bound c.args.row c.requires.choice c.requires.bound c.requires.row c.set.ensures c.in_ok-passes.field-0 c.in_ok-passes.ensures c.if-not-branch.false in
+    steps.if_err c.extend.result (TellsOver c.args.self.now.entity (length c.args.found.now.items + length (found_from M tests counts (drop (c.args.bound + 1) counts) (take (c.args.bound + 1) c.set.new.self))))
+    (TellsOver c.args.self.now.entity (length c.args.found.now.items + length (found_by M tests counts (drop (c.args.bound + 1) counts) (take c.args.bound c.args.choice.now ++ c.args.row ∷ []))))
+    (λ e h. subst (λ (l : List (List ℕ)). TellsOver c.args.self.now.entity (length c.args.found.now.items + length l) e) is h) c.extend.ensures.refused
+
+pub extend_among-extend_by-requires : goal.extend_among-extend_by-requires
+extend_among-extend_by-requires t c = (
+  omega arith,
+  (
+    c.requires.join,
+    (c.requires.indexed, (c.loop-row.invariant.choice, (c.requires.bound, (c.requires.cover.within c.loop-row.row-index 0 c.loop-row-test.true, c.loop-row.invariant.few)))),
+  ),
+)
+
+pub extend_among-returns-in-Err-clause-refused : goal.extend_among-returns-in-Err-clause-refused
+extend_among-returns-in-Err-clause-refused t c =
+    steps.refused_over c.args.self.now.instance.now.tables c.args.self.now.tests.now c.args.self.now.counts c.args.bound (take c.args.bound c.args.choice.now) c.args.rows.now c.requires.bound c.requires.cover
+    c.args.self.now.entity c.loop-row.row-index (get_or c.args.rows.now c.loop-row.row-index 0) (take c.args.bound c.loop-row.choice) c.args.found.now.items c.loop-row.found.items c.in-Err.refusal
+    c.loop-row-test.true refl c.loop-row.invariant.found c.loop-row.invariant.kept c.in-Err.ensures.refused
+
+pub extend_among-loop-row-preserved : goal.extend_among-loop-row-preserved
+extend_among-loop-row-preserved t c = record {
+  found = steps.over_step c.args.self.now.instance.now.tables c.args.self.now.tests.now c.args.self.now.counts c.args.bound (take c.args.bound c.args.choice.now) c.args.rows.now c.requires.bound c.requires.cover
+      (take c.args.bound c.loop-row.choice) c.loop-row.row-index (get_or c.args.rows.now c.loop-row.row-index 0) c.args.found.now.items c.loop-row.found.items c.extend_by.new.found.items
+      c.loop-row-test.true refl c.loop-row.invariant.found c.loop-row.invariant.kept c.in_default.ensures.found;
+  few = c.in_default.ensures.few;
+  choice = c.extend_by.ensures.choice;
+  kept = c.extend_by.ensures.kept ∙ c.loop-row.invariant.kept;
+}
+
+pub extend_among-returns-clause-found : goal.extend_among-returns-clause-found
+extend_among-returns-clause-found t c =
+    steps.over_end c.args.self.now.instance.now.tables c.args.self.now.tests.now c.args.self.now.counts c.args.bound (take c.args.bound c.args.choice.now) c.args.rows.now c.requires.bound c.requires.cover
+    c.loop-row.row-index c.args.found.now.items c.loop-row.found.items c.loop-row-test.false c.loop-row.invariant.found

@@ -1,0 +1,6 @@
+pub mod Testing
+pub mod Join
+pub mod Digests
+pub mod Index
+pub mod Made
+pub mod Refused

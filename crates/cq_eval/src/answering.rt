@@ -1,0 +1,129 @@
+//! The answers of a query for an entity.
+ghost use Rattle.std.specs.Prelude.{◌≡◌, ◌==◌, ◌<◌, ◌≤◌, All, IfOk, IfErr, length, map, vec_len};
+ghost use Rattle.std.specs.List.{list_any};
+ghost use Rattle.cq_theory.specs.Tables.{count_of};
+ghost use Rattle.cq_query.specs.Answers.{AreAnswers};
+ghost use Rattle.cq_eval.specs.Join.{IsTested};
+ghost use Rattle.cq_eval.specs.Made.{answers_with, answers_of, StandOnce};
+ghost use Rattle.cq_eval.specs.Refused.{TellsMany, TellsOver};
+
+use crate::index::indexes;
+use crate::joining::Join;
+use crate::reaches::stages;
+use crate::refusal::EvalRefusal;
+use crate::rows::Rows;
+use cq_base::{Name, Seq};
+use cq_model::Instance;
+use cq_query::{Block, Query};
+use std::alloc::{AllocError, Global};
+
+/// All choices of a row for each variable of an entity's block at which the where equations hold, in lexicographic
+/// order, each once (Schultz and Wisnesky, Algebraic Data Integration: uber-flower queries). There are at most
+/// 1,000,000. `TooManyAnswers` is answered exactly where there are more, and `Memory` for want of memory.
+pub fn answers(
+    alloc: Global,
+    query: &Query,
+    instance: &Instance,
+    entity: u32,
+) -> Result<Vec<Vec<u32>>, EvalRefusal>
+    requires over { instance.now.schema ≡ query.now.source }
+    requires within { entity < length query.now.target.entities }
+    ensures answers { IfOk result (λ made. AreAnswers query.now instance.now.tables entity (map (λ rows. rows.items) made.items)) }
+    ensures few { IfOk result (λ made. vec_len made ≤ 1000000) }
+    ensures refused { IfErr result (TellsMany query.now instance.now.tables entity) }
+{
+    match found_answers(alloc, query, instance, entity) {
+        Ok(found) => match unwrapped(alloc, found) {
+            Ok(lists) => Ok(lists),
+            Err(_) => Err(EvalRefusal::Memory),
+        },
+        Err(refusal) => Err(refusal),
+    }
+}
+
+/// The same lists of rows.
+fn unwrapped(alloc: Global, found: Vec<Rows>) -> Result<Vec<Vec<u32>>, AllocError>
+    ensures lists { IfOk result (λ made. map (λ rows. rows.items) made.items ≡ found.items) }
+    ensures length { IfOk result (λ made. vec_len made ≡ length found.items) }
+{
+    let mut made = Vec::with_capacity(alloc, found.len())?;
+    for rows in found {
+        made.push(rows.into_vec())?;
+    }
+    Ok(made)
+}
+
+/// The answers for an entity.
+pub(crate) fn found_answers(
+    alloc: Global,
+    query: &Query,
+    instance: &Instance,
+    entity: u32,
+) -> Result<Vec<Rows>, EvalRefusal>
+    requires over { instance.now.schema ≡ query.now.source }
+    requires within { entity < length query.now.target.entities }
+    ensures answers { IfOk result (λ found. found.items ≡ answers_of query.now instance.now.tables entity) }
+    ensures few { IfOk result (λ found. length found.items ≤ 1000000) }
+    ensures refused { IfErr result (TellsOver entity (length (answers_of query.now instance.now.tables entity))) }
+    ensures once { StandOnce (answers_of query.now instance.now.tables entity) }
+{
+    query.is_well_sorted();
+    instance.is_instance();
+    match query.block(entity as usize) {
+        Some(block) => block_answers(alloc, instance, block, entity),
+        None => unreachable!(),
+    }
+}
+
+/// How many rows there are for each variable.
+fn variable_counts(
+    alloc: Global,
+    instance: &Instance,
+    variables: &[(Name, u32)],
+) -> Result<Seq<u32>, AllocError>
+    requires { All (λ v. v.1 < length instance.now.schema.entities) variables.now }
+    ensures { IfOk result (λ counts. counts ≡ map (λ v. count_of instance.now.tables v.1) variables.now) }
+{
+    let mut counts = Vec::with_capacity(alloc, variables.len())?;
+    for variable in variables {
+        counts.push(instance.count(variable.1))?;
+    }
+    Ok(Seq::from_vec(counts))
+}
+
+/// Whether there are no rows for some variable.
+fn has_none(counts: &[u32]) -> bool
+    ensures { result ≡ list_any (λ count. count == 0) counts.now }
+{
+    counts.iter().any(|count| *count == 0)
+}
+
+/// The answers for the entity of a block.
+fn block_answers(
+    alloc: Global,
+    instance: &Instance,
+    block: &Block,
+    entity: u32,
+) -> Result<Vec<Rows>, EvalRefusal>
+    requires entities { All (λ v. v.1 < length instance.now.schema.entities) block.now.vars }
+    requires tested { IsTested instance.now.schema instance.now.tables block.now }
+    ensures answers { IfOk result (λ found. found.items ≡ answers_with instance.now.tables block.now.tests (map (λ v. count_of instance.now.tables v.1) block.now.vars)) }
+    ensures few { IfOk result (λ found. length found.items ≤ 1000000) }
+    ensures refused { IfErr result (TellsOver entity (length (answers_with instance.now.tables block.now.tests (map (λ v. count_of instance.now.tables v.1) block.now.vars)))) }
+{
+    let counts = variable_counts(alloc, instance, block.vars.as_slice())?;
+    if has_none(counts.as_slice()) {
+        return Ok(Vec::new(alloc));
+    }
+    let stages = stages(alloc, block.tests.as_slice(), block.vars.len())?;
+    let indexes = indexes(alloc, instance, counts.as_slice(), block.tests.as_slice())?;
+    let join = Join {
+        entity,
+        instance,
+        tests: block.tests.as_slice(),
+        stages,
+        counts,
+        indexes,
+    };
+    join.answers(alloc)
+}

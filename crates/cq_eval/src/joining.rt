@@ -1,0 +1,303 @@
+//! The search for answers, one variable at a time.
+ghost use Rattle.std.specs.Prelude.{ℕ, ◌≡◌, ◌+◌, ◌<◌, ◌≤◌, ◌==◌, ◌++◌, ◌∷◌, [], false, IfOk, IfSome, OnOk, IfErr, length, map, take, drop, slice_get, slice_index, option_copied};
+ghost use Rattle.std.specs.List.{list_any};
+ghost use Rattle.cq_theory.specs.Tables.{AtRow};
+ghost use Rattle.cq_model.specs.Terms.{IsTypeTermOf};
+ghost use Rattle.cq_query.specs.Answers.{IsTuple};
+ghost use Rattle.cq_eval.specs.Join.{IsJoin, test_passes_at, found_from, found_by};
+ghost use Rattle.cq_eval.specs.Index.{AreIndexes, HasList, IsCover, cell_list, indexed_rows};
+ghost use Rattle.cq_eval.specs.Made.{answers_with};
+ghost use Rattle.cq_eval.specs.Testing.{IsTestAt};
+ghost use Rattle.cq_eval.specs.Refused.{TellsOver};
+
+use crate::choice::Choice;
+use crate::digests::digest;
+use crate::index::TestIndex;
+use crate::refusal::EvalRefusal;
+use crate::rows::Rows;
+use crate::testing::passes_test;
+use cq_base::Seq;
+use cq_model::Instance;
+use cq_theory::{Equation, TypeTerm};
+use std::alloc::{AllocError, Global};
+
+/// The most answers for an entity.
+const MOST_ANSWERS: usize = 1_000_000;
+
+/// What the answers for an entity are searched by: the where equations of its block, when each is tested, and how many
+/// rows there are for each variable.
+#[derive(Drop)]
+pub(crate) struct Join<'a> {
+    pub(crate) entity: u32,
+    pub(crate) instance: &'a Instance,
+    pub(crate) tests: &'a [Equation],
+    pub(crate) stages: Seq<usize>,
+    pub(crate) counts: Seq<u32>,
+    pub(crate) indexes: Seq<Option<TestIndex>>,
+}
+
+/// The rows of an index whose cells have the number of a term's value.
+fn cell_rows<'b>(
+    alloc: Global,
+    instance: &Instance,
+    choice: &Choice,
+    other: &TypeTerm,
+    index: &'b TestIndex,
+) -> Result<Option<&'b [u32]>, AllocError>
+    requires { (type : ℕ) × IsTypeTermOf instance.now.schema instance.now.tables (map AtRow choice.now) other.now type }
+    ensures { IfOk result (λ found. IfSome found (λ rows. rows.now ≡ cell_list instance.now.tables choice.now other.now index.now)) }
+{
+    let value = instance.value_over(alloc, choice.standings(), other)?;
+    let lists = index.lists.as_slice();
+    if lists.len() == 0 {
+        return Ok(None);
+    }
+    let place = (digest(&value) % lists.len() as u64) as usize;
+    Ok(Some(lists[place].as_slice()))
+}
+
+/// The rows of an index at which its where equation can hold.
+fn indexed<'b>(
+    alloc: Global,
+    instance: &Instance,
+    choice: &Choice,
+    test: &Equation,
+    index: &'b TestIndex,
+) -> Result<Option<&'b [u32]>, AllocError>
+    requires test { IsTestAt instance.now.schema instance.now.tables choice.now test.now }
+    ensures { IfOk result (λ found. IfSome found (λ rows. (rows.now ≡ indexed_rows instance.now.tables choice.now test.now index.now) × HasList instance.now.tables choice.now test.now index.now)) }
+{
+    let standings = choice.standings();
+    let lists = index.lists.as_slice();
+    match test {
+        Equation::Ent(left, right) => {
+            let place = instance.row_over(
+                standings,
+                if index.turned { left } else { right },
+            ) as usize;
+            if place >= lists.len() {
+                return Ok(None);
+            }
+            Ok(Some(lists[place].as_slice()))
+        }
+        Equation::Typ(left, right) => {
+            if index.turned {
+                cell_rows(alloc, instance, choice, left, index)
+            } else {
+                cell_rows(alloc, instance, choice, right, index)
+            }
+        }
+    }
+}
+
+impl Join<'_> {
+    /// Whether the where equations hold that are tested when so many variables are bound.
+    fn passes(&self, alloc: Global, choice: &Choice, bound: usize) -> Result<bool, AllocError>
+        requires join { IsJoin self.now.instance.now.schema self.now.instance.now.tables self.now.tests.now self.now.stages self.now.counts }
+        requires choice { IsTuple choice.now self.now.counts }
+        ensures { IfOk result (λ passes. passes ≡ test_passes_at self.now.instance.now.tables self.now.tests.now self.now.counts bound choice.now) }
+    {
+        for (place, test) in self.tests.iter().enumerate() {
+            let stage = self.stages.as_slice()[place];
+            if !passes_test(alloc, self.instance, choice, test, stage, bound)? {
+                return Ok(false);
+            }
+        }
+        Ok(true)
+    }
+
+    /// Puts an answer behind others, of which there may be 1,000,000.
+    fn keep(&self, alloc: Global, choice: &Choice, found: &mut Vec<Rows>) -> Result<(), EvalRefusal>
+        ensures found { OnOk result (found.new.items ≡ found.old.items ++ choice.now ∷ []) }
+        ensures few { OnOk result (length found.new.items ≤ 1000000) }
+        ensures refused { IfErr result (TellsOver self.now.entity (length found.old.items + 1)) }
+    {
+        if found.len() >= MOST_ANSWERS {
+            return Err(EvalRefusal::TooManyAnswers(self.entity));
+        }
+        let rows = choice.rows(alloc)?;
+        match found.push(rows) {
+            Ok(()) => Ok(()),
+            Err(_) => Err(EvalRefusal::Memory),
+        }
+    }
+
+    /// The index of a where equation, if it has one.
+    fn index_at(&self, place: usize) -> Option<&Option<TestIndex>>
+        ensures { option_copied result ≡ slice_get self.now.indexes place }
+    {
+        self.indexes.as_slice().get(place)
+    }
+
+    /// The rows for the next variable by the index of one where equation, if they are fewer than those by others.
+    fn fewer<'b>(
+        &'b self,
+        alloc: Global,
+        choice: &Choice,
+        bound: usize,
+        place: usize,
+        fewest: Option<&'b [u32]>,
+    ) -> Result<Option<&'b [u32]>, AllocError>
+        requires join { IsJoin self.now.instance.now.schema self.now.instance.now.tables self.now.tests.now self.now.stages self.now.counts }
+        requires indexed { AreIndexes self.now.instance.now.tables self.now.counts self.now.tests.now self.now.indexes }
+        requires choice { IsTuple choice.now self.now.counts }
+        requires place { place < length self.now.tests.now }
+        requires fewest { IfSome fewest (λ rows. IsCover self.now.instance.now.tables self.now.tests.now self.now.counts (take bound choice.now) (slice_index self.now.counts bound) rows.now) }
+        ensures { IfOk result (λ found. IfSome found (λ rows. IsCover self.now.instance.now.tables self.now.tests.now self.now.counts (take bound choice.now) (slice_index self.now.counts bound) rows.now)) }
+    {
+        let Some(Some(index)) = self.index_at(place) else {
+            return Ok(fewest);
+        };
+        if index.variable != bound {
+            return Ok(fewest);
+        }
+        let test = &self.tests[place];
+        let Some(rows) = indexed(alloc, self.instance, choice, test, index)? else {
+            return Ok(fewest);
+        };
+        match fewest {
+            Some(others) => {
+                if others.len() <= rows.len() {
+                    Ok(Some(others))
+                } else {
+                    Ok(Some(rows))
+                }
+            }
+            None => Ok(Some(rows)),
+        }
+    }
+
+    /// The rows for the next variable by an index, the fewest where there are several, or nothing where there is none.
+    fn candidates(
+        &self,
+        alloc: Global,
+        choice: &Choice,
+        bound: usize,
+    ) -> Result<Option<&[u32]>, AllocError>
+        requires join { IsJoin self.now.instance.now.schema self.now.instance.now.tables self.now.tests.now self.now.stages self.now.counts }
+        requires indexed { AreIndexes self.now.instance.now.tables self.now.counts self.now.tests.now self.now.indexes }
+        requires choice { IsTuple choice.now self.now.counts }
+        ensures { IfOk result (λ found. IfSome found (λ rows. IsCover self.now.instance.now.tables self.now.tests.now self.now.counts (take bound choice.now) (slice_index self.now.counts bound) rows.now)) }
+    {
+        let mut fewest = None;
+        for place in 0..self.tests.len() {
+            fewest = self.fewer(alloc, choice, bound, place, fewest)?;
+        }
+        Ok(fewest)
+    }
+
+    /// Finds all answers that begin with the rows of the first `bound` variables, and puts them behind others.
+    #[cycle(join)]
+    fn extend(
+        &self,
+        alloc: Global,
+        choice: &mut Choice,
+        bound: usize,
+        found: &mut Vec<Rows>,
+    ) -> Result<(), EvalRefusal>
+        requires join { IsJoin self.now.instance.now.schema self.now.instance.now.tables self.now.tests.now self.now.stages self.now.counts }
+        requires indexed { AreIndexes self.now.instance.now.tables self.now.counts self.now.tests.now self.now.indexes }
+        requires choice { IsTuple choice.old self.now.counts }
+        requires bound { bound ≤ length self.now.counts }
+        requires few { length found.old.items ≤ 1000000 }
+        ensures found { OnOk result (found.new.items ≡ found.old.items ++ found_from self.now.instance.now.tables self.now.tests.now self.now.counts (drop bound self.now.counts) (take bound choice.old)) }
+        ensures few { OnOk result (length found.new.items ≤ 1000000) }
+        ensures choice { IsTuple choice.new self.now.counts }
+        ensures kept { take bound choice.new ≡ take bound choice.old }
+        ensures refused { IfErr result (TellsOver self.now.entity (length found.old.items + length (found_from self.now.instance.now.tables self.now.tests.now self.now.counts (drop bound self.now.counts) (take bound choice.old)))) }
+    {
+        if bound >= self.counts.len() {
+            return self.keep(alloc, choice, found);
+        }
+        if let Some(rows) = self.candidates(alloc, choice, bound)? {
+            return self.extend_among(alloc, choice, bound, rows, found);
+        }
+        for row in 0..self.counts.as_slice()[bound] {
+            if let Err(refusal) = self.extend_by(alloc, choice, bound, row, found) {
+                return Err(refusal);
+            }
+        }
+        Ok(())
+    }
+
+    /// Finds all answers that begin so, where the next variable has one of these rows.
+    #[cycle(join)]
+    fn extend_among(
+        &self,
+        alloc: Global,
+        choice: &mut Choice,
+        bound: usize,
+        rows: &[u32],
+        found: &mut Vec<Rows>,
+    ) -> Result<(), EvalRefusal>
+        requires join { IsJoin self.now.instance.now.schema self.now.instance.now.tables self.now.tests.now self.now.stages self.now.counts }
+        requires indexed { AreIndexes self.now.instance.now.tables self.now.counts self.now.tests.now self.now.indexes }
+        requires choice { IsTuple choice.old self.now.counts }
+        requires bound { bound < length self.now.counts }
+        requires cover { IsCover self.now.instance.now.tables self.now.tests.now self.now.counts (take bound choice.old) (slice_index self.now.counts bound) rows.now }
+        requires few { length found.old.items ≤ 1000000 }
+        ensures found { OnOk result (found.new.items ≡ found.old.items ++ found_from self.now.instance.now.tables self.now.tests.now self.now.counts (drop bound self.now.counts) (take bound choice.old)) }
+        ensures few { OnOk result (length found.new.items ≤ 1000000) }
+        ensures choice { IsTuple choice.new self.now.counts }
+        ensures kept { take bound choice.new ≡ take bound choice.old }
+        ensures refused { IfErr result (TellsOver self.now.entity (length found.old.items + length (found_from self.now.instance.now.tables self.now.tests.now self.now.counts (drop bound self.now.counts) (take bound choice.old)))) }
+    {
+        for row in rows {
+            if let Err(refusal) = self.extend_by(alloc, choice, bound, *row, found) {
+                return Err(refusal);
+            }
+        }
+        Ok(())
+    }
+
+    /// Binds one more variable to a row, and finds the answers that begin so.
+    #[cycle(join)]
+    fn extend_by(
+        &self,
+        alloc: Global,
+        choice: &mut Choice,
+        bound: usize,
+        row: u32,
+        found: &mut Vec<Rows>,
+    ) -> Result<(), EvalRefusal>
+        requires join { IsJoin self.now.instance.now.schema self.now.instance.now.tables self.now.tests.now self.now.stages self.now.counts }
+        requires indexed { AreIndexes self.now.instance.now.tables self.now.counts self.now.tests.now self.now.indexes }
+        requires choice { IsTuple choice.old self.now.counts }
+        requires bound { bound < length self.now.counts }
+        requires row { row < slice_index self.now.counts bound }
+        requires few { length found.old.items ≤ 1000000 }
+        ensures found { OnOk result (found.new.items ≡ found.old.items ++ found_by self.now.instance.now.tables self.now.tests.now self.now.counts (drop (bound + 1) self.now.counts) (take bound choice.old ++ row ∷ [])) }
+        ensures few { OnOk result (length found.new.items ≤ 1000000) }
+        ensures choice { IsTuple choice.new self.now.counts }
+        ensures kept { take bound choice.new ≡ take bound choice.old }
+        ensures refused { IfErr result (TellsOver self.now.entity (length found.old.items + length (found_by self.now.instance.now.tables self.now.tests.now self.now.counts (drop (bound + 1) self.now.counts) (take bound choice.old ++ row ∷ [])))) }
+    {
+        // A length fits, and so does the number behind one that is less.
+        let _width = self.counts.len();
+        choice.set(bound, row);
+        if !self.passes(alloc, choice, bound + 1)? {
+            return Ok(());
+        }
+        self.extend(alloc, choice, bound + 1, found)
+    }
+
+    /// All answers, in lexicographic order.
+    pub(crate) fn answers(&self, alloc: Global) -> Result<Vec<Rows>, EvalRefusal>
+        requires join { IsJoin self.now.instance.now.schema self.now.instance.now.tables self.now.tests.now self.now.stages self.now.counts }
+        requires indexed { AreIndexes self.now.instance.now.tables self.now.counts self.now.tests.now self.now.indexes }
+        requires rows { list_any (λ count. count == 0) self.now.counts ≡ false }
+        ensures answers { IfOk result (λ found. found.items ≡ answers_with self.now.instance.now.tables self.now.tests.now self.now.counts) }
+        ensures few { IfOk result (λ found. length found.items ≤ 1000000) }
+        ensures refused { IfErr result (TellsOver self.now.entity (length (answers_with self.now.instance.now.tables self.now.tests.now self.now.counts))) }
+    {
+        let mut choice = Choice::first(alloc, self.counts.as_slice())?;
+        let mut found = Vec::new(alloc);
+        if !self.passes(alloc, &choice, 0)? {
+            return Ok(found);
+        }
+        match self.extend(alloc, &mut choice, 0, &mut found) {
+            Ok(()) => Ok(found),
+            Err(refusal) => Err(refusal),
+        }
+    }
+}

@@ -1,0 +1,57 @@
+//! How many variables a where equation needs.
+ghost use Rattle.std.specs.Prelude.{◌≡◌, IfOk, map};
+ghost use Rattle.cq_eval.specs.Testing.{reach_of_entity as entity_reach, reach_of as type_reach, reach as equation_reach, stage};
+
+use cq_base::Seq;
+use cq_theory::{EntTerm, Equation, TypeTerm};
+use std::alloc::{AllocError, Global};
+
+/// How many of the first variables an entity term needs.
+pub(crate) fn reach_of_entity(term: &EntTerm) -> usize
+    ensures { result ≡ entity_reach term.now }
+{
+    term.generator as usize + 1
+}
+
+/// How many of the first variables a type term needs.
+pub(crate) fn reach_of(term: &TypeTerm) -> usize
+    ensures { result ≡ type_reach term.now }
+{
+    match term {
+        TypeTerm::Gen(generator) => *generator as usize + 1,
+        TypeTerm::Const(_) => 0,
+        TypeTerm::Att(_, term) => reach_of_entity(term),
+        TypeTerm::Fun(_, args) => {
+            let mut most = 0;
+            for arg in args.as_slice() {
+                most = reach_of(arg).max(most);
+            }
+            most
+        }
+    }
+}
+
+/// How many of the first variables a where equation needs.
+fn reach(test: &Equation) -> usize
+    ensures { result ≡ equation_reach test.now }
+{
+    match test {
+        Equation::Ent(left, right) => reach_of_entity(left).max(reach_of_entity(right)),
+        Equation::Typ(left, right) => reach_of(left).max(reach_of(right)),
+    }
+}
+
+/// When each where equation is tested, if there are `width` variables: as soon as those that it needs are bound.
+pub(crate) fn stages(
+    alloc: Global,
+    tests: &[Equation],
+    width: usize,
+) -> Result<Seq<usize>, AllocError>
+    ensures { IfOk result (λ made. made ≡ map (stage width) tests.now) }
+{
+    let mut made = Vec::with_capacity(alloc, tests.len())?;
+    for test in tests {
+        made.push(width.min(reach(test)))?;
+    }
+    Ok(Seq::from_vec(made))
+}

@@ -1,0 +1,87 @@
+//! Tests of where equations.
+ghost use Rattle.std.specs.Prelude.{◌≡◌, ◌==◌, ◌||◌, not, IfOk, IsTrue, ◌↔◌};
+ghost use Rattle.cq_eval.specs.Testing.{holds_at, IsTestAt};
+
+use crate::choice::Choice;
+use cq_model::Instance;
+use cq_theory::{Equation, Value};
+use std::alloc::{AllocError, Global};
+
+/// Whether both are the same value.
+pub(crate) fn is_same(left: &Value, right: &Value) -> bool
+    ensures { IsTrue result ↔ (left.now ≡ right.now) }
+{
+    match left {
+        Value::Const(constant) => match right {
+            Value::Const(other) => constant == other,
+            Value::Null(_) => false,
+            Value::Fun(_, _) => false,
+        },
+        Value::Null(label) => match right {
+            Value::Const(_) => false,
+            Value::Null(other) => *label == *other,
+            Value::Fun(_, _) => false,
+        },
+        Value::Fun(function, args) => match right {
+            Value::Const(_) => false,
+            Value::Null(_) => false,
+            Value::Fun(other, others) => {
+                let args = args.as_slice();
+                let others = others.as_slice();
+                if *function != *other || args.len() != others.len() {
+                    return false;
+                }
+                for (place, arg) in args.iter().enumerate() {
+                    if !is_same(arg, &others[place]) {
+                        return false;
+                    }
+                }
+                true
+            }
+        },
+    }
+}
+
+/// Whether a where equation holds at these rows.
+pub(crate) fn holds(
+    alloc: Global,
+    instance: &Instance,
+    choice: &Choice,
+    test: &Equation,
+) -> Result<bool, AllocError>
+    requires { IsTestAt instance.now.schema instance.now.tables choice.now test.now }
+    ensures { IfOk result (λ holds. holds ≡ holds_at instance.now.tables choice.now test.now) }
+{
+    let standings = choice.standings();
+    match test {
+        Equation::Ent(left, right) => {
+            let left = instance.row_over(standings, left);
+            let right = instance.row_over(standings, right);
+            Ok(left == right)
+        }
+        Equation::Typ(left, right) => {
+            let left = instance.value_over(alloc, standings, left)?;
+            let right = instance.value_over(alloc, standings, right)?;
+            Ok(is_same(&left, &right))
+        }
+    }
+}
+
+/// Whether a where equation of this stage holds at these rows, of which so many are bound. One of another stage isn't
+/// tested.
+pub(crate) fn passes_test(
+    alloc: Global,
+    instance: &Instance,
+    choice: &Choice,
+    test: &Equation,
+    stage: usize,
+    bound: usize,
+) -> Result<bool, AllocError>
+    requires { IsTestAt instance.now.schema instance.now.tables choice.now test.now }
+    ensures { IfOk result (λ passes. passes ≡ (not (stage == bound) || holds_at instance.now.tables choice.now test.now)) }
+{
+    if stage != bound {
+        return Ok(true);
+    }
+    holds(alloc, instance, choice, test)
+}
