@@ -1,2 +1,4 @@
 pub mod Agreement
 pub mod Transforms
+pub mod Refusals
+pub mod Identities

@@ -1,0 +1,5 @@
+pub mod Shifted
+pub mod Gluing
+pub mod Sorted
+pub mod Answers
+pub mod Ways

@@ -1,0 +1,75 @@
+//! Coproducts.
+ghost use Rattle.std.specs.Prelude.{◌≡◌, ◌≤◌, ◌<◌, ◌⊎◌, IfOk, IfErr, Err, All, length, map};
+ghost use Rattle.cq_rows.specs.Saturated.{NoneCloses, SomeWide};
+ghost use Rattle.cq_theory.specs.declared.constant.Con.{Con};
+ghost use Rattle.cq_theory.specs.SchemaData.{SchemaData as AnySchema};
+ghost use Rattle.cq_theory.specs.Presentation.{IsPresentation};
+ghost use Rattle.cq_theory.specs.Closing.{IsInconsistent, IsInconsistentAt};
+ghost use Rattle.cq_model.specs.Listed.{IsListed};
+ghost use Rattle.cq_model.specs.Moving.{SaysSize};
+ghost use Rattle.cq_model.specs.declared.moving.MoveRefusal.TheVariants.{Depth, TooManyRows, Inconsistent};
+ghost use Rattle.cq_push.specs.Gluing.{sorts_of, equations_from, coproduct_of, is_oversized};
+
+use crate::gluing::Gluing;
+use cq_model::{Instance, MoveRefusal};
+use cq_theory::{Schema, SizeRefusal};
+use std::alloc::Global;
+use std::rc::Rc;
+
+/// The listed model of the disjoint union of the presentations of any number of instances over one schema, made of
+/// rows up to a depth of at most 64. Source: Algebraic Data Integration (colimits of instances).
+///
+/// `TooLarge` is tried first: it is answered exactly where there would be over 16,000,000 generators. Then the
+/// refusals are those of `build`, in its order.
+pub fn coproduct(
+    alloc: Global,
+    schema: Rc<Schema>,
+    parts: &[Rc<Instance>],
+    depth: u32,
+) -> Result<Instance, MoveRefusal>
+    requires over { All (λ part. part.value.schema ≡ schema.value) parts.now }
+    requires depth { depth ≤ 64 }
+    ensures schema { IfOk result (λ made. made.schema ≡ schema.value) }
+    ensures presentation { IfOk result (λ made.
+        made.presentation ≡ coproduct_of (map (λ part. part.value.presentation) parts.now)) }
+    ensures listed { IfOk result (λ made. IsListed made) }
+    ensures consistent { IfOk result (λ _.
+        IsInconsistent schema.value (coproduct_of (map (λ part. part.value.presentation) parts.now)) → ⊥) }
+    ensures size { SaysSize result (is_oversized (coproduct_of (map (λ part. part.value.presentation) parts.now))) }
+    ensures open { result ≡ Err Depth
+        → NoneCloses schema.value (coproduct_of (map (λ part. part.value.presentation) parts.now)) depth }
+    ensures many { result ≡ Err TooManyRows
+        → SomeWide schema.value (coproduct_of (map (λ part. part.value.presentation) parts.now)) depth }
+    ensures inconsistent { (c d : Con) → result ≡ Err (Inconsistent c d)
+        → IsInconsistentAt schema.value (coproduct_of (map (λ part. part.value.presentation) parts.now)) c d }
+{
+    let gluing = match side_by_side(alloc, parts) {
+        Ok(gluing) => gluing,
+        Err(SizeRefusal::TooLarge) => return Err(MoveRefusal::TooLarge),
+        Err(SizeRefusal::Memory) => return Err(MoveRefusal::Memory),
+    };
+    gluing.build(alloc, schema, depth)
+}
+
+/// The presentations of instances beside one another. `TooLarge` is answered exactly where there would be over
+/// 16,000,000 generators, and `Memory` for want of memory.
+fn side_by_side(alloc: Global, parts: &[Rc<Instance>]) -> Result<Gluing, SizeRefusal>
+    ensures few { IfOk result (λ made. length made.sorts.items ≤ 16000000) }
+    ensures sorts { IfOk result (λ made.
+        made.sorts.items ≡ sorts_of (map (λ part. part.value.presentation) parts.now)) }
+    ensures equations { IfOk result (λ made.
+        made.equations.items ≡ equations_from 0 (map (λ part. part.value.presentation) parts.now)) }
+    ensures presented { (S : AnySchema) → All (λ part. part.value.schema ≡ S) parts.now
+        → IfOk result (λ _. All (IsPresentation S) (map (λ part. part.value.presentation) parts.now)) }
+    ensures refused { IfErr result (λ refusal. (refusal ≡ SizeRefusal.Memory)
+        ⊎ ((refusal ≡ SizeRefusal.TooLarge)
+        × (16000000 < length (sorts_of (map (λ part. part.value.presentation) parts.now))))) }
+{
+    let mut gluing = Gluing::new(alloc);
+    for part in parts {
+        if let Err(refusal) = gluing.add(alloc, part.presentation()) {
+            return Err(refusal);
+        }
+    }
+    Ok(gluing)
+}

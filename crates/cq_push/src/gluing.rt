@@ -1,0 +1,138 @@
+//! Presentations that are glued together, part by part.
+ghost use Rattle.std.specs.Prelude.{◌≡◌, ◌≤◌, ◌<◌, ◌+◌, ◌++◌, ◌⊎◌, [], true, false, IfOk, IfErr, OnOk, All, length, map};
+ghost use Rattle.cq_theory.specs.Canonical.{named};
+ghost use Rattle.cq_theory.specs.Presentation.{IsSort};
+ghost use Rattle.cq_push.specs.Shifted.{shifted_equation};
+ghost use Rattle.cq_push.specs.Gluing.{presented, is_oversized};
+ghost use Rattle.cq_push.specs.Sorted.{AreSorted};
+ghost use Rattle.cq_push.specs.Answers.{IsModelOrCause};
+
+use crate::generators::{name_generators, push_sorts};
+use crate::shifting::push_shifted;
+use crate::sizes::has_long_sides;
+use cq_base::Seq;
+use cq_model::{Instance, MoveRefusal, build};
+use cq_theory::{Equation, Presentation, Schema, SizeRefusal, Sort};
+use std::alloc::{AllocError, Global};
+use std::rc::Rc;
+
+/// The most generators of a presentation.
+const MOST_GENERATORS: u32 = 16_000_000;
+
+/// The sorts of the generators so far, and the equations between terms over them.
+#[derive(Drop)]
+pub(crate) struct Gluing {
+    pub(crate) sorts: Vec<Sort>,
+    pub(crate) equations: Vec<Equation>,
+}
+
+impl Gluing {
+    /// No generators and no equations.
+    pub(crate) fn new(alloc: Global) -> Gluing
+        ensures sorts { result.sorts.items ≡ [] }
+        ensures equations { result.equations.items ≡ [] }
+    {
+        Gluing {
+            sorts: Vec::new(alloc),
+            equations: Vec::new(alloc),
+        }
+    }
+
+    /// Adds a presentation, whose generators stand behind those so far. `TooLarge` is answered exactly where there
+    /// would be over 16,000,000 generators, and `Memory` for want of memory.
+    pub(crate) fn add(
+        &mut self,
+        alloc: Global,
+        presentation: &Presentation,
+    ) -> Result<(), SizeRefusal>
+        requires { length self.old.sorts.items ≤ 16000000 }
+        ensures sorts { OnOk result (self.new.sorts.items
+            ≡ self.old.sorts.items ++ map (λ g. g.1) presentation.now.generators) }
+        ensures equations { OnOk result (self.new.equations.items
+            ≡ self.old.equations.items
+            ++ map (shifted_equation (length self.old.sorts.items)) presentation.now.equations) }
+        ensures few { OnOk result (length self.old.sorts.items + length presentation.now.generators ≤ 16000000) }
+        ensures refused { IfErr result (λ refusal. (refusal ≡ SizeRefusal.Memory)
+            ⊎ ((refusal ≡ SizeRefusal.TooLarge)
+            × (16000000 < length self.old.sorts.items + length presentation.now.generators))) }
+    {
+        let first = self.sorts.len() as u32;
+        if presentation.generators.len() > (MOST_GENERATORS - first) as usize {
+            return Err(SizeRefusal::TooLarge);
+        }
+        match self.append(alloc, first, presentation) {
+            Ok(()) => Ok(()),
+            Err(_) => Err(SizeRefusal::Memory),
+        }
+    }
+
+    /// Appends the sorts of a presentation's generators, and its equations, with their generators behind `first`
+    /// others.
+    fn append(
+        &mut self,
+        alloc: Global,
+        first: u32,
+        presentation: &Presentation,
+    ) -> Result<(), AllocError>
+        ensures sorts { OnOk result (self.new.sorts.items
+            ≡ self.old.sorts.items ++ map (λ g. g.1) presentation.now.generators) }
+        ensures equations { OnOk result (self.new.equations.items
+            ≡ self.old.equations.items
+            ++ map (shifted_equation first) presentation.now.equations) }
+    {
+        push_sorts(presentation.generators.as_slice(), &mut self.sorts)?;
+        push_shifted(
+            alloc,
+            first,
+            presentation.equations.as_slice(),
+            &mut self.equations,
+        )
+    }
+
+    /// The presentation, whose generators are named `g1`, `g2` and so on. `TooLarge` is answered exactly where a side
+    /// of an equation has over 1,024 symbols, and `Memory` for want of memory.
+    fn into_presentation(self, alloc: Global) -> Result<Presentation, SizeRefusal>
+        requires { length self.sorts.items ≤ 16000000 }
+        ensures accepted { IfOk result (λ _. is_oversized (presented self.sorts.items self.equations.items) ≡ false) }
+        ensures made { IfOk result (λ made. made ≡ presented self.sorts.items self.equations.items) }
+        ensures refused { IfErr result (λ refusal. (refusal ≡ SizeRefusal.Memory)
+            ⊎ ((refusal ≡ SizeRefusal.TooLarge)
+            × (is_oversized (presented self.sorts.items self.equations.items) ≡ true))) }
+    {
+        let Gluing { sorts, equations } = self;
+        if has_long_sides(equations.as_slice()) {
+            return Err(SizeRefusal::TooLarge);
+        }
+        match name_generators(alloc, sorts.as_slice()) {
+            Ok(generators) => Ok(Presentation {
+                generators: Seq::from_vec(generators),
+                equations: Seq::from_vec(equations),
+            }),
+            Err(_) => Err(SizeRefusal::Memory),
+        }
+    }
+
+    /// The listed model of the presentation, of which the limit on terms is tested first.
+    pub(crate) fn build(
+        self,
+        alloc: Global,
+        schema: Rc<Schema>,
+        depth: u32,
+    ) -> Result<Instance, MoveRefusal>
+        requires sorts { All (IsSort schema.value) self.sorts.items }
+        requires few { length self.sorts.items ≤ 16000000 }
+        requires sorted { AreSorted schema.value (named self.sorts.items) self.equations.items }
+        requires depth { depth ≤ 64 }
+        ensures { IsModelOrCause schema.value (presented self.sorts.items self.equations.items) depth result }
+    {
+        let presentation = match self.into_presentation(alloc) {
+            Ok(presentation) => presentation,
+            Err(SizeRefusal::TooLarge) => return Err(MoveRefusal::TooLarge),
+            Err(SizeRefusal::Memory) => return Err(MoveRefusal::Memory),
+        };
+        match build(alloc, schema, presentation, depth) {
+            Ok(made) => Ok(made),
+            Err(refusal) => Err(MoveRefusal::from(refusal)),
+        }
+    }
+}
