@@ -6,18 +6,20 @@ use Rattle.cq_base.specs.declared.place.Place.{Place}
 use Rattle.cq_syntax.specs.declared.program.Decl.{Decl}
 use Rattle.cq_syntax.specs.declared.program.Program.{Program}
 use Rattle.cq_mapping.specs.MappingData.{MappingData}
-use Rattle.cq_mapping.specs.Duties.{is_too_large}
-use Rattle.cq_mapping.specs.Images.{sigma}
+use Rattle.cq_query.specs.QueryData.{QueryData}
+use Rattle.cq_push.specs.Gluing.{is_oversized as is_too_large}
 use Rattle.cq_theory.specs.declared.presentation.Presentation.{Presentation}
 use Rattle.cq_theory.specs.SchemaData.{SchemaData}
 use Rattle.cq_model.specs.InstanceData.{InstanceData}
 use Rattle.cq_model.specs.Given.{is_oversized}
 use Rattle.cq_mapping.specs.Moved.{delta_tables}
 use Rattle.cq_program.specs.declared.reason.Reason.{Reason}
-use Rattle.cq_program.specs.Checks.{Meant, Environment, Checked, Posed, a_typeside, a_schema, a_mapping, an_identity, a_presentation, a_delta, a_sigma, posed_by}
-use Rattle.cq_program.specs.Program.{IsModelOf, Stands, TellsMoved, Fails, ExceedsAtDuty, ExceedsAtModel, Exceeds, IsLimit, IsWithinLimits, Declares, Breach, by_rule, by_failure, by_limit, Follow, Listing, Means, Breaks}
+use Rattle.cq_program.specs.Checks.{Meant, Environment, Checked, Posed, a_typeside, a_schema, a_mapping, an_identity, a_query, a_presentation, a_made, a_delta, an_eval, a_transform, posed_by}
+use Rattle.cq_program.specs.Program.{IsModelOf, Stands, TellsMade, Fails, ExceedsAtDuty, ExceedsAtQueryDuty, ExceedsAtModel, Exceeds, IsLimit, IsWithinLimits, Declares, Breach, by_rule, by_failure, by_limit, Follow, Listing, Means, Breaks}
 use Rattle.cq_program.proofs.Constants.{one_clash}
-use Rattle.cq_program.proofs.Unkept.{kept, one_unkept}
+use Rattle.cq_program.proofs.Unkept.{kept, one_unkept, kept_query, one_unsound}
+use Rattle.cq_program.proofs.OneEval.{within_answers, one_answer_told}
+use Rattle.cq_program.proofs.OneTransform.{none_broken, one_broken}
 use Rattle.cq_program.proofs.Limits.{none_exceeded}
 use Rattle.cq_program.proofs.OneMeaning.{declares_one, follow_one}
 
@@ -43,6 +45,12 @@ exceeds_at_duty depth F reason duty exceeds = elim exceeds [
   | inr wide ↦ subst IsLimit (sym wide.0) tt
 ]
 
+exceeds_at_query_duty : (depth : ℕ) (Q : QueryData) (reason : Reason) (duty : ℕ) → ExceedsAtQueryDuty depth Q reason duty → IsLimit reason
+exceeds_at_query_duty depth Q reason duty exceeds = elim exceeds [
+  | inl deep ↦ subst IsLimit (sym deep.0) tt
+  | inr wide ↦ subst IsLimit (sym wide.0) tt
+]
+
 exceeds_at_model : (depth : ℕ) (S : SchemaData) (P : Presentation) (reason : Reason) → ExceedsAtModel depth S P reason → IsLimit reason
 exceeds_at_model depth S P reason exceeds = elim exceeds [ inl deep ↦ subst IsLimit (sym deep.0) tt | inr wide ↦ subst IsLimit (sym wide.0) tt ]
 
@@ -51,29 +59,32 @@ exceeds_limit depth (a_typeside T) reason exceeds = absurd exceeds
 exceeds_limit depth (a_schema S) reason exceeds = absurd exceeds
 exceeds_limit depth (a_mapping n t F) reason exceeds = exceeds_at_duty depth F reason exceeds.0 exceeds.1
 exceeds_limit depth (an_identity n S) reason exceeds = absurd exceeds
+exceeds_limit depth (a_query n t Q) reason exceeds = exceeds_at_query_duty depth Q reason exceeds.0 exceeds.1
 exceeds_limit depth (a_presentation n S P) reason exceeds = exceeds_at_model depth S P reason exceeds
+exceeds_limit depth (a_made n S P) reason exceeds = exceeds_at_model depth S P reason exceeds.1
 exceeds_limit depth (a_delta n F M) reason exceeds = absurd exceeds
-exceeds_limit depth (a_sigma n F P) reason exceeds = exceeds_at_model depth F.target (sigma F P) reason exceeds.1
+exceeds_limit depth (an_eval n Q M) reason exceeds = absurd exceeds
+exceeds_limit depth (a_transform e images) reason exceeds = absurd exceeds
 
 -- a limit that is kept isn't passed
 not_passed : (b : Bool) → b ≡ false → b ≡ true → ⊥
 not_passed b kept passed = let both : false ≡ true = sym kept ∙ passed in cc
 
-no_move : (F : MappingData) (P : Presentation) (reason : Reason) (i : InstanceData) → is_too_large F P ≡ false → IsModelOf F.target (sigma F P) i → TellsMoved F P reason → ⊥
-no_move F P reason i short model tells = elim tells [
-  | inl large ↦ not_passed (is_too_large F P) short large.1
+none_made : (S : SchemaData) (P : Presentation) (reason : Reason) (i : InstanceData) → is_too_large P ≡ false → IsModelOf S P i → TellsMade S P reason → ⊥
+none_made S P reason i short model tells = elim tells [
+  | inl large ↦ not_passed (is_too_large P) short large.1
   | inr clash ↦ model.consistent (clash.1.least, clash.1.greater, clash.1.equal)
 ]
 
-one_move : (F : MappingData) (P : Presentation) (reason other : Reason) → TellsMoved F P reason → TellsMoved F P other → reason ≡ other
-one_move F P reason other tells tells' = elim tells [
+one_made : (S : SchemaData) (P : Presentation) (reason other : Reason) → TellsMade S P reason → TellsMade S P other → reason ≡ other
+one_made S P reason other tells tells' = elim tells [
   | inl large ↦ elim tells' [
     | inl large' ↦ large.0 ∙ sym large'.0
-    | inr clash' ↦ absurd (not_passed (is_too_large F P) clash'.0 large.1)
+    | inr clash' ↦ absurd (not_passed (is_too_large P) clash'.0 large.1)
   ]
   | inr clash ↦ elim tells' [
-    | inl large' ↦ absurd (not_passed (is_too_large F P) clash.0 large'.1)
-    | inr clash' ↦ one_clash F.target (sigma F P) reason other clash.1 clash'.1
+    | inl large' ↦ absurd (not_passed (is_too_large P) clash.0 large'.1)
+    | inr clash' ↦ one_clash S P reason other clash.1 clash'.1
   ]
 ]
 
@@ -83,18 +94,24 @@ no_failure (a_typeside T) m reason stands fails = fails
 no_failure (a_schema S) m reason stands fails = fails
 no_failure (a_mapping n t F) m reason stands fails = kept F reason stands.1 fails
 no_failure (an_identity n S) m reason stands fails = fails
+no_failure (a_query n t Q) m reason stands fails = kept_query Q reason stands.1 fails
 no_failure (a_presentation n S P) m reason stands fails = stands.2.consistent (fails.least, fails.greater, fails.equal)
+no_failure (a_made n S P) m reason stands fails = none_made S P reason stands.0 stands.3 stands.2 fails
 no_failure (a_delta n F M) m reason stands fails = not_passed (is_oversized (delta_tables F M)) stands.1 fails.1
-no_failure (a_sigma n F P) m reason stands fails = no_move F P reason stands.0 stands.3 stands.2 fails
+no_failure (an_eval n Q M) m reason stands fails = within_answers Q M stands.0 reason stands.2 fails
+no_failure (a_transform e images) m reason stands fails = none_broken e images stands.0 reason stands.2 fails
 
 one_failure : (posed : Posed) (reason other : Reason) → Fails posed reason → Fails posed other → reason ≡ other
 one_failure (a_typeside T) reason other fails fails' = absurd fails
 one_failure (a_schema S) reason other fails fails' = absurd fails
 one_failure (a_mapping n t F) reason other fails fails' = one_unkept F reason other fails fails'
 one_failure (an_identity n S) reason other fails fails' = absurd fails
+one_failure (a_query n t Q) reason other fails fails' = one_unsound Q reason other fails fails'
 one_failure (a_presentation n S P) reason other fails fails' = one_clash S P reason other fails fails'
+one_failure (a_made n S P) reason other fails fails' = one_made S P reason other fails fails'
 one_failure (a_delta n F M) reason other fails fails' = fails.0 ∙ sym fails'.0
-one_failure (a_sigma n F P) reason other fails fails' = one_move F P reason other fails fails'
+one_failure (an_eval n Q M) reason other fails fails' = one_answer_told Q M reason other fails fails'
+one_failure (a_transform e images) reason other fails fails' = one_broken e images reason other fails fails'
 
 no_rule : (check : Checked Posed) (posed : Posed) (at : Place × Reason) → check ≡ Ok posed → check ≡ Err at → ⊥
 no_rule check posed at is is' = cc

@@ -10,9 +10,11 @@ use Rattle.cq_theory.specs.SchemaData.{SchemaData}
 use Rattle.cq_theory.specs.Tables.{Tables, Assignment}
 use Rattle.cq_theory.specs.Listed.{Lists}
 use Rattle.cq_theory.proofs.OneModel.{same_models, same_assignments, same_lists_of_names}
-use Rattle.cq_mapping.specs.Images.{sigma}
 use Rattle.cq_model.specs.InstanceData.{InstanceData}
-use Rattle.cq_program.specs.Checks.{Meant, instance, Environment, Posed, a_typeside, a_schema, a_mapping, an_identity, a_presentation, a_delta, a_sigma, posed_by}
+use Rattle.cq_model.specs.Given.{given}
+use Rattle.cq_program.specs.Checks.{Meant, instance, transform, Environment, Posed, a_typeside, a_schema, a_mapping, an_identity, a_query, a_presentation, a_made, a_delta, an_eval, a_transform, posed_by}
+use Rattle.cq_program.proofs.OneEval.{one_eval}
+use Rattle.cq_program.proofs.OneTransform.{one_transform}
 use Rattle.cq_program.specs.Program.{IsModelOf, Stands, Declares, Follow, Listing, listing_of, Means}
 
 -- a model is listed for the presentation itself
@@ -41,9 +43,13 @@ stands_one (a_typeside T) m n h g = h ∙ sym g
 stands_one (a_schema S) m n h g = h ∙ sym g
 stands_one (a_mapping source target F) m n h g = h.0 ∙ sym g.0
 stands_one (an_identity name S) m n h g = h ∙ sym g
+stands_one (a_query source target Q) m n h g = h.0 ∙ sym g.0
 stands_one (a_presentation name S P) m n h g = h.1 ∙ ap (instance name) (one_model_of S P h.0 g.0 h.2 g.2) ∙ sym g.1
+stands_one (a_made name S P) m n h g = h.1 ∙ ap (instance name) (one_model_of S P h.0 g.0 h.2 g.2) ∙ sym g.1
 stands_one (a_delta name F M) m n h g = h.0 ∙ sym g.0
-stands_one (a_sigma name F P) m n h g = h.1 ∙ ap (instance name) (one_model_of F.target (sigma F P) h.0 g.0 h.2 g.2) ∙ sym g.1
+stands_one (an_eval name Q M) m n h g =
+    h.1 ∙ ap (λ (N : Tables). instance name (given Q.target N)) (one_eval Q M h.0 g.0 h.2.target h.2.eval g.2.eval) ∙ sym g.1
+stands_one (a_transform e images) m n h g = h.1 ∙ ap (transform e) (one_transform e images h.0 g.0 h.2 g.2) ∙ sym g.1
 
 pub declares_one : (env : Environment) (d : Decl) (m n : Meant) → Declares env d m → Declares env d n → m ≡ n
 declares_one env d m n h g =

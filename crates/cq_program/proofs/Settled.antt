@@ -8,8 +8,8 @@ use Rattle.cq_base.specs.declared.place.Place.{Place}
 use Rattle.cq_base.specs.Names.{same_name}
 use Rattle.cq_syntax.specs.declared.part.Spot.{Spot}
 use Rattle.cq_theory.specs.SchemaData.{SchemaData}
-use Rattle.cq_program.specs.Checks.{Meant, typeside, schema, mapping, instance, SchemaMeant, MappingMeant, InstanceMeant, Environment, Checked, Posed, a_typeside, a_schema, a_mapping, an_identity, a_presentation, a_delta, a_sigma, meant_by, as_schema, as_mapping, as_instance, schema_used, mapping_used, instance_used}
-use Rattle.cq_program.specs.Environment.{IsPrinted, IsSettled, AreSettled, WillSettle}
+use Rattle.cq_program.specs.Checks.{Meant, typeside, schema, mapping, query, instance, transform, Ends, SchemaMeant, MappingMeant, QueryMeant, InstanceMeant, TransformMeant, Environment, Checked, Posed, a_typeside, a_schema, a_mapping, an_identity, a_query, a_presentation, a_made, a_delta, an_eval, a_transform, meant_by, as_schema, as_mapping, as_query, as_instance, as_transform, schema_used, mapping_used, query_used, instance_used, transform_used}
+use Rattle.cq_program.specs.Environment.{AreEnds, IsModelled, IsPrinted, IsTermModel, IsSettled, AreSettled, WillSettle}
 use Rattle.cq_program.specs.Program.{Stands}
 use Rattle.cq_program.specs.Posing.{IsGrounded}
 
@@ -30,7 +30,15 @@ settled-more : (env : Environment) (last : Name × Meant) (m : Meant) → IsSett
 settled-more env last (typeside T) settled = tt
 settled-more env last (schema S) settled = (meant_by-more env S.typeside (typeside S.schema.typeside) last settled.0, meant_by-more env S.name (schema S) last settled.1)
 settled-more env last (mapping n t F) settled = (settled.0, printed-more env n F.source last settled.1, printed-more env t F.target last settled.2)
-settled-more env last (instance n i) settled = printed-more env n i.schema last settled
+settled-more env last (query n t Q) settled = (settled.0, printed-more env n Q.source last settled.1, printed-more env t Q.target last settled.2)
+settled-more env last (instance n i) settled = (printed-more env n i.schema last settled.0, settled.1)
+settled-more env last (transform e t) settled = (
+  (
+    meant_by-more env e.source (instance e.start.schema e.start.instance) last settled.0.0,
+    meant_by-more env e.target (instance e.finish.schema e.finish.instance) last settled.0.1,
+  ),
+  settled.1,
+)
 
 same_text_itself : (name : List ℕ) → same_name name name ≡ true
 same_text_itself [] = refl
@@ -52,7 +60,9 @@ settles env name (schema S) new will =
     let longer : Environment = env ++ (name, schema S) ∷ [] in
     (meant_by-more env S.typeside (typeside S.schema.typeside) (name, schema S) will.0, ap (meant_by longer) will.1 ∙ found_new env name (schema S) new)
 settles env name (mapping n t F) new will = settled-more env (name, mapping n t F) (mapping n t F) will
+settles env name (query n t Q) new will = settled-more env (name, query n t Q) (query n t Q) will
 settles env name (instance n i) new will = settled-more env (name, instance n i) (instance n i) will
+settles env name (transform e t) new will = settled-more env (name, transform e t) (transform e t) will
 
 -- one name more, whose meaning will be settled
 pub AreSettled-more : (env : Environment) (name : Name) (m : Meant) → AreSettled env → is_some (meant_by env name) ≡ false → WillSettle env name m → AreSettled (env ++ (name, m) ∷ [])
@@ -78,7 +88,9 @@ used env S place None is = absurd (cc is)
 used env S place (Some (typeside T)) is = absurd (cc is)
 used env S place (Some (schema T)) is = cc
 used env S place (Some (mapping n t F)) is = absurd (cc is)
+used env S place (Some (query n t Q)) is = absurd (cc is)
 used env S place (Some (instance n i)) is = absurd (cc is)
+used env S place (Some (transform e t)) is = absurd (cc is)
 
 pub used_settled : (env : Environment) (spot : Spot) (S : SchemaMeant) → AreSettled env → schema_used env spot ≡ Ok S → IsSettled env (schema S)
 used_settled env spot S settled is = meant_settled env env spot.name (schema S) settled (used env S spot.place (meant_by env spot.name) is)
@@ -91,23 +103,69 @@ mapping_there F place (Some (mapping n t G)) is = same_mapping (record { source 
   where
     same_mapping : (G F : MappingMeant) → ◌≡◌ {A = Checked MappingMeant} (Ok G) (Ok F) → Some (mapping G.source G.target G.mapping) ≡ Some (mapping F.source F.target F.mapping)
     same_mapping G F is = let one : G ≡ F = cc in ap (λ (H : MappingMeant). Some (mapping H.source H.target H.mapping)) one
+mapping_there F place (Some (query n t Q)) is = absurd (cc is)
 mapping_there F place (Some (instance n i)) is = absurd (cc is)
+mapping_there F place (Some (transform e t)) is = absurd (cc is)
+
+query_there : (Q : QueryMeant) (place : Place) (o : Option Meant) → as_query place o ≡ Ok Q → o ≡ Some (query Q.source Q.target Q.query)
+query_there Q place None is = absurd (cc is)
+query_there Q place (Some (typeside T)) is = absurd (cc is)
+query_there Q place (Some (schema S)) is = absurd (cc is)
+query_there Q place (Some (mapping n t F)) is = absurd (cc is)
+query_there Q place (Some (query n t R)) is = same_query (record { source = n; target = t; query = R }) Q is
+  where
+    same_query : (R Q : QueryMeant) → ◌≡◌ {A = Checked QueryMeant} (Ok R) (Ok Q) → Some (query R.source R.target R.query) ≡ Some (query Q.source Q.target Q.query)
+    same_query R Q is = let one : R ≡ Q = cc in ap (λ (H : QueryMeant). Some (query H.source H.target H.query)) one
+query_there Q place (Some (instance n i)) is = absurd (cc is)
+query_there Q place (Some (transform e t)) is = absurd (cc is)
 
 instance_there : (i : InstanceMeant) (place : Place) (o : Option Meant) → as_instance place o ≡ Ok i → o ≡ Some (instance i.schema i.instance)
 instance_there i place None is = absurd (cc is)
 instance_there i place (Some (typeside T)) is = absurd (cc is)
 instance_there i place (Some (schema S)) is = absurd (cc is)
 instance_there i place (Some (mapping n t G)) is = absurd (cc is)
+instance_there i place (Some (query n t Q)) is = absurd (cc is)
 instance_there i place (Some (instance n j)) is = same_instance (record { schema = n; instance = j }) i is
   where
     same_instance : (j i : InstanceMeant) → ◌≡◌ {A = Checked InstanceMeant} (Ok j) (Ok i) → Some (instance j.schema j.instance) ≡ Some (instance i.schema i.instance)
     same_instance j i is = let one : j ≡ i = cc in ap (λ (h : InstanceMeant). Some (instance h.schema h.instance)) one
+instance_there i place (Some (transform e t)) is = absurd (cc is)
+
+transform_there : (t : TransformMeant) (place : Place) (o : Option Meant) → as_transform place o ≡ Ok t → o ≡ Some (transform t.ends t.transform)
+transform_there t place None is = absurd (cc is)
+transform_there t place (Some (typeside T)) is = absurd (cc is)
+transform_there t place (Some (schema S)) is = absurd (cc is)
+transform_there t place (Some (mapping n m G)) is = absurd (cc is)
+transform_there t place (Some (query n m Q)) is = absurd (cc is)
+transform_there t place (Some (instance n j)) is = absurd (cc is)
+transform_there t place (Some (transform e u)) is = same_transform (record { ends = e; transform = u }) t is
+  where
+    same_transform : (u t : TransformMeant) → ◌≡◌ {A = Checked TransformMeant} (Ok u) (Ok t) → Some (transform u.ends u.transform) ≡ Some (transform t.ends t.transform)
+    same_transform u t is = let one : u ≡ t = cc in ap (λ (h : TransformMeant). Some (transform h.ends h.transform)) one
 
 pub mapping_settled : (env : Environment) (spot : Spot) (F : MappingMeant) → AreSettled env → mapping_used env spot ≡ Ok F → IsSettled env (mapping F.source F.target F.mapping)
 mapping_settled env spot F settled is = meant_settled env env spot.name (mapping F.source F.target F.mapping) settled (mapping_there F spot.place (meant_by env spot.name) is)
 
+pub query_settled : (env : Environment) (spot : Spot) (Q : QueryMeant) → AreSettled env → query_used env spot ≡ Ok Q → IsSettled env (query Q.source Q.target Q.query)
+query_settled env spot Q settled is = meant_settled env env spot.name (query Q.source Q.target Q.query) settled (query_there Q spot.place (meant_by env spot.name) is)
+
+-- what a used instance and a used transform are
+pub instance_meant_by : (env : Environment) (spot : Spot) (i : InstanceMeant) → instance_used env spot ≡ Ok i → meant_by env spot.name ≡ Some (instance i.schema i.instance)
+instance_meant_by env spot i is = instance_there i spot.place (meant_by env spot.name) is
+
 pub instance_settled : (env : Environment) (spot : Spot) (i : InstanceMeant) → AreSettled env → instance_used env spot ≡ Ok i → IsPrinted env i.schema i.instance.schema
-instance_settled env spot i settled is = meant_settled env env spot.name (instance i.schema i.instance) settled (instance_there i spot.place (meant_by env spot.name) is)
+instance_settled env spot i settled is = (meant_settled env env spot.name (instance i.schema i.instance) settled (instance_meant_by env spot i is)).0
+
+pub instance_modelled : (env : Environment) (spot : Spot) (i : InstanceMeant) → AreSettled env → instance_used env spot ≡ Ok i → IsTermModel i.instance
+instance_modelled env spot i settled is = (meant_settled env env spot.name (instance i.schema i.instance) settled (instance_meant_by env spot i is)).1
+
+pub transform_settled : (env : Environment) (spot : Spot) (t : TransformMeant) → AreSettled env → transform_used env spot ≡ Ok t → IsSettled env (transform t.ends t.transform)
+transform_settled env spot t settled is =
+    meant_settled env env spot.name (transform t.ends t.transform) settled (transform_there t spot.place (meant_by env spot.name) is)
+
+-- the schema of a transform's start stands for its printed name
+pub start_printed : (env : Environment) (t : TransformMeant) → AreSettled env → IsSettled env (transform t.ends t.transform) → IsPrinted env t.ends.start.schema t.ends.start.instance.schema
+start_printed env t settled is = (meant_settled env env t.ends.source (instance t.ends.start.schema t.ends.start.instance) settled is.0.0).0
 
 -- a schema that is used stands for its printed name
 pub schema_printed : (env : Environment) (spot : Spot) (S : SchemaMeant) → AreSettled env → schema_used env spot ≡ Ok S → IsPrinted env S.name S.schema
@@ -133,19 +191,31 @@ one_printed env n m S T printed printed' same =
     same_schemas : (X Y : SchemaMeant) → Some (schema X) ≡ Some (schema Y) → X.schema ≡ Y.schema
     same_schemas X Y h = let one : X ≡ Y = cc in ap (λ (Z : SchemaMeant). Z.schema) one
 
+-- one name stands for one instance
+pub one_start : (env : Environment) (e f : Ends) → AreEnds env e → AreEnds env f → false ≡ not (same_name e.source f.source) → f.start ≡ e.start
+one_start env e f are are' same =
+    let found : Some (instance f.start.schema f.start.instance) ≡ Some (instance e.start.schema e.start.instance) =
+    sym are'.0 ∙ ap (meant_by env) (sym (same_text e.source f.source (passes (same_name e.source f.source) same))) ∙ are.0 in
+    let schemas : f.start.schema ≡ e.start.schema = cc in
+    let instances : f.start.instance ≡ e.start.instance = cc in
+    λ k. record { schema = schemas k; instance = instances k }
+
 -- what stands for a grounded statement will be settled
-pub stands_settled : (env : Environment) (name : Name) (posed : Posed) (m : Meant) → IsGrounded env name posed → Stands posed m → WillSettle env name m
-stands_settled env name (a_typeside T) m grounded stands = subst (WillSettle env name) (sym stands) tt
-stands_settled env name (a_schema S) m grounded stands = subst (WillSettle env name) (sym stands) grounded
-stands_settled env name (a_mapping n t F) m grounded stands = subst (WillSettle env name) (sym stands.0) (stands.1, grounded.0, grounded.1)
-stands_settled env name (an_identity n S) m grounded stands = subst (WillSettle env name) (sym stands) (grounded.0, grounded.1, grounded.1)
-stands_settled env name (a_presentation n S P) m grounded stands =
-    subst (WillSettle env name) (sym stands.1) (subst (IsPrinted env n) (sym stands.2.over) grounded)
-stands_settled env name (a_delta n F M) m grounded stands = subst (WillSettle env name) (sym stands.0) grounded
-stands_settled env name (a_sigma n F P) m grounded stands =
-    subst (WillSettle env name) (sym stands.1) (subst (IsPrinted env n) (sym stands.2.over) grounded)
+pub stands_settled : (env : Environment) (name : Name) (posed : Posed) (m : Meant) → IsGrounded env name posed → Stands posed m → IsModelled m → WillSettle env name m
+stands_settled env name (a_typeside T) m grounded stands modelled = subst (WillSettle env name) (sym stands) tt
+stands_settled env name (a_schema S) m grounded stands modelled = subst (WillSettle env name) (sym stands) grounded
+stands_settled env name (a_mapping n t F) m grounded stands modelled = subst (WillSettle env name) (sym stands.0) (stands.1, grounded.0, grounded.1)
+stands_settled env name (an_identity n S) m grounded stands modelled = subst (WillSettle env name) (sym stands) (grounded.0, grounded.1, grounded.1)
+stands_settled env name (a_query n t Q) m grounded stands modelled = subst (WillSettle env name) (sym stands.0) (stands.1, grounded.0, grounded.1)
+stands_settled env name (a_presentation n S P) m grounded stands modelled =
+    subst (WillSettle env name) (sym stands.1) (subst (IsPrinted env n) (sym stands.2.over) grounded, subst IsModelled stands.1 modelled)
+stands_settled env name (a_made n S P) m grounded stands modelled =
+    subst (WillSettle env name) (sym stands.1) (subst (IsPrinted env n) (sym stands.2.over) grounded, subst IsModelled stands.1 modelled)
+stands_settled env name (a_delta n F M) m grounded stands modelled = subst (WillSettle env name) (sym stands.0) (grounded, subst IsModelled stands.0 modelled)
+stands_settled env name (an_eval n Q M) m grounded stands modelled = subst (WillSettle env name) (sym stands.1) (grounded, subst IsModelled stands.1 modelled)
+stands_settled env name (a_transform e images) m grounded stands modelled = subst (WillSettle env name) (sym stands.1) (grounded, stands.2.goes)
 
 pub settled_result : {X R : Type 0} (view : X → Meant) (env : Environment) (name : Name) (posed : Posed) (r : Result X R) → IsGrounded env name posed
-    → IfOk r (λ x. Stands posed (view x)) → IfOk r (λ x. WillSettle env name (view x))
-settled_result view env name posed (Ok x) grounded stands = stands_settled env name posed (view x) grounded stands
-settled_result view env name posed (Err refusal) grounded stands = tt
+    → IfOk r (λ x. Stands posed (view x)) → IfOk r (λ x. IsModelled (view x)) → IfOk r (λ x. WillSettle env name (view x))
+settled_result view env name posed (Ok x) grounded stands modelled = stands_settled env name posed (view x) grounded stands modelled
+settled_result view env name posed (Err refusal) grounded stands modelled = tt

@@ -6,23 +6,40 @@ use Rattle.cq_program.specs.declared.reason.Reason.{Reason}
 use Rattle.cq_program.specs.declared.reason.ProgramRefusal.{ProgramRefusal}
 use Rattle.cq_program.specs.declared.reason.ProgramRefusal.TheVariants as program_refusal
 use Rattle.cq_program.specs.declared.environment.NamedSchema.{NamedSchema}
+use Rattle.cq_program.specs.declared.environment.NamedInstance.{NamedInstance}
+use Rattle.cq_program.specs.declared.environment.NamedEnds.{NamedEnds}
+use Rattle.cq_program.specs.declared.environment.NamedTransform.{NamedTransform}
 use Rattle.cq_program.specs.declared.used.NamedMapping.{NamedMapping}
-use Rattle.cq_program.specs.declared.used.NamedInstance.{NamedInstance}
+use Rattle.cq_program.specs.declared.used.NamedQuery.{NamedQuery}
+use Rattle.cq_program.specs.declared.gluing.Operand.{Operand}
 use Rattle.cq_program.specs.declared.environment.Meaning.{Meaning}
 use Rattle.cq_program.specs.declared.environment.Meaning.TheVariants as meaning
 use Rattle.cq_program.specs.declared.environment.Entry.{Entry}
 use Rattle.cq_mapping.specs.Duties.{Preserves}
+use Rattle.cq_query.specs.Duties.{Sound}
 use Rattle.cq_theory.specs.SchemaData.{SchemaData}
-use Rattle.cq_program.specs.Checks.{Meant, typeside, schema, mapping, instance, SchemaMeant, MappingMeant, InstanceMeant, Environment, Checked, meant_by}
+use Rattle.cq_theory.specs.Tables.{Initial}
+use Rattle.cq_model.specs.InstanceData.{InstanceData}
+use Rattle.cq_model.specs.Given.{HasLeastNames}
+use Rattle.cq_transform.specs.Transforms.{GoesFrom}
+use Rattle.cq_program.specs.Checks.{Meant, typeside, schema, mapping, query, instance, transform, Ends, SchemaMeant, MappingMeant, QueryMeant, InstanceMeant, TransformMeant, Environment, Checked, meant_by}
 
 abbrev pub schema_meant : NamedSchema → SchemaMeant
 schema_meant named = record { name = named.name; typeside = named.typeside; schema = named.schema.value }
+
+abbrev pub instance_meant : NamedInstance → InstanceMeant
+instance_meant named = record { schema = named.schema; instance = named.instance.value }
+
+abbrev pub ends_meant : NamedEnds → Ends
+ends_meant named = record { source = named.source; target = named.target; start = instance_meant named.start; finish = instance_meant named.finish }
 
 abbrev pub meant : Meaning → Meant
 meant (meaning.Typeside t) = typeside t.value
 meant (meaning.Schema s) = schema (schema_meant s)
 meant (meaning.Mapping n t F) = mapping n t F.value
+meant (meaning.Query n t Q) = query n t Q.value
 meant (meaning.Instance n i) = instance n i.value
+meant (meaning.Transform t) = transform (ends_meant t.ends) t.transform.value
 
 abbrev pub entry_names : List Entry → List Name
 entry_names entries = map (λ entry. entry.name) entries
@@ -33,27 +50,56 @@ environment_of entries = map (λ entry. (entry.name, meant entry.meaning)) entri
 abbrev pub mapping_meant : NamedMapping → MappingMeant
 mapping_meant named = record { source = named.source; target = named.target; mapping = named.mapping.value }
 
-abbrev pub instance_meant : NamedInstance → InstanceMeant
-instance_meant named = record { schema = named.schema; instance = named.instance.value }
+abbrev pub query_meant : NamedQuery → QueryMeant
+query_meant named = record { source = named.source; target = named.target; query = named.query.value }
+
+abbrev pub transform_meant : NamedTransform → TransformMeant
+transform_meant named = record { ends = ends_meant named.ends; transform = named.transform.value }
+
+abbrev pub operand_meant : Operand → Place × InstanceMeant
+operand_meant operand = (operand.place, instance_meant operand.part)
+
+abbrev pub operands_meant : List Operand → List (Place × InstanceMeant)
+operands_meant operands = map operand_meant operands
 
 -- a printed name stands for a schema, and is that under which the schema is printed
 abbrev pub IsPrinted : Environment → Name → SchemaData → Type 0
 IsPrinted env n S = (T : Name) × (meant_by env n ≡ Some (schema (record { name = n; typeside = T; schema = S })))
 
--- What holds of each meaning: the name of a schema's typeside stands for that typeside, and its printed name for the schema; each duty of a mapping is
--- derivable, and the printed names of its two schemas stand for them; that of an instance's schema stands for the schema.
+-- an instance is the term model of its presentation, and its names are the least ones
+abbrev pub IsTermModel : InstanceData → Type 0
+IsTermModel i = Initial i.schema i.presentation i.tables i.assignment × HasLeastNames i
+
+-- the same of an instance for which a name stands
+abbrev pub IsModelled : Meant → Type 0
+IsModelled (instance n i) = IsTermModel i
+IsModelled _ = Unit {0}
+
+-- the declared names of the ends stand for what they are
+abbrev pub AreEnds : Environment → Ends → Type 0
+AreEnds env e =
+    (meant_by env e.source ≡ Some (instance e.start.schema e.start.instance))
+    × (meant_by env e.target ≡ Some (instance e.finish.schema e.finish.instance))
+
+-- What holds of each meaning: the name of a schema's typeside stands for that typeside, and its printed name for the schema; each duty of a mapping or a
+-- query is derivable, and the printed names of its two schemas stand for them; that of an instance's schema stands for the schema, and the instance is
+-- the term model of its presentation; the names of a transform's ends stand for these, and the transform goes from the one to the other.
 abbrev pub IsSettled : Environment → Meant → Type 0
 IsSettled env (typeside T) = Unit {0}
 IsSettled env (schema S) = (meant_by env S.typeside ≡ Some (typeside S.schema.typeside)) × (meant_by env S.name ≡ Some (schema S))
 IsSettled env (mapping n t F) = Preserves F × IsPrinted env n F.source × IsPrinted env t F.target
-IsSettled env (instance n i) = IsPrinted env n i.schema
+IsSettled env (query n t Q) = Sound Q × IsPrinted env n Q.source × IsPrinted env t Q.target
+IsSettled env (instance n i) = IsPrinted env n i.schema × IsTermModel i
+IsSettled env (transform e t) = AreEnds env e × GoesFrom t e.start.instance e.finish.instance
 
 -- the same of a meaning that is to be put behind the others under a name
 abbrev pub WillSettle : Environment → Name → Meant → Type 0
 WillSettle env name (typeside T) = Unit {0}
 WillSettle env name (schema S) = (meant_by env S.typeside ≡ Some (typeside S.schema.typeside)) × (S.name ≡ name)
 WillSettle env name (mapping n t F) = IsSettled env (mapping n t F)
+WillSettle env name (query n t Q) = IsSettled env (query n t Q)
 WillSettle env name (instance n i) = IsSettled env (instance n i)
+WillSettle env name (transform e t) = IsSettled env (transform e t)
 
 abbrev pub AreSettled : Environment → Type 0
 AreSettled env = All (λ entry. IsSettled env entry.1) env

@@ -1,6 +1,6 @@
 -- The parts of literals, and the place of each. A name in a group is a part of its own.
-use Rattle.std.specs.Prelude.{ℕ, List, ◌+◌, ◌++◌, map, length, sum_by, Option, option_map, option_to_list}
-use Rattle.std.specs.List.{flat_map}
+use Rattle.std.specs.Prelude.{ℕ, List, ◌∷◌, ◌+◌, ◌++◌, map, length, sum_by, Option, option_map, option_to_list}
+use Rattle.std.specs.List.{flat_map, enumerate_from}
 use Rattle.cq_base.specs.declared.name.Name.{Name}
 use Rattle.cq_base.specs.declared.place.Place.{Place}
 use Rattle.cq_base.specs.declared.raw.Raw.{Raw}
@@ -11,6 +11,7 @@ use Rattle.cq_syntax.specs.declared.part.FunSyn.{FunSyn}
 use Rattle.cq_syntax.specs.declared.part.EqSyn.{EqSyn}
 use Rattle.cq_syntax.specs.declared.part.PathEqSyn.{PathEqSyn}
 use Rattle.cq_syntax.specs.declared.part.ObsSyn.{ObsSyn}
+use Rattle.cq_syntax.specs.declared.part.Bind.{Bind}
 use Rattle.cq_syntax.specs.declared.literal.TypesideLit.{TypesideLit}
 use Rattle.cq_syntax.specs.declared.literal.SchemaLit.{SchemaLit}
 use Rattle.cq_syntax.specs.declared.literal.InstanceLit.{InstanceLit}
@@ -20,6 +21,10 @@ use Rattle.cq_syntax.specs.declared.literal.AttSyn.TheVariants.{Path, Lambda}
 use Rattle.cq_syntax.specs.declared.literal.AttImage.{AttImage}
 use Rattle.cq_syntax.specs.declared.literal.MapBlock.{MapBlock}
 use Rattle.cq_syntax.specs.declared.literal.MappingLit.{MappingLit}
+use Rattle.cq_syntax.specs.declared.literal.QueryKey.{QueryKey}
+use Rattle.cq_syntax.specs.declared.literal.QueryBlock.{QueryBlock}
+use Rattle.cq_syntax.specs.declared.literal.QueryLit.{QueryLit}
+use Rattle.cq_syntax.specs.declared.literal.TransformLit.{TransformLit}
 use Rattle.cq_theory.specs.TypesideParts.{literals_count}
 use Rattle.cq_theory.specs.declared.parts.ObsPart.{ObsPart}
 use Rattle.cq_theory.specs.declared.parts.TypesideParts.{TypesideParts}
@@ -29,6 +34,9 @@ use Rattle.cq_theory.specs.declared.parts.ArrowImage.{ArrowImage}
 use Rattle.cq_theory.specs.declared.parts.ArrowImage.TheVariants as image
 use Rattle.cq_theory.specs.declared.parts.ArrowPart.{ArrowPart}
 use Rattle.cq_theory.specs.declared.parts.MappingParts.{MappingParts}
+use Rattle.cq_query.specs.declared.parts.Clause.{Clause}
+use Rattle.cq_query.specs.declared.parts.Clause.TheVariants as clause
+use Rattle.cq_query.specs.declared.parts.QueryParts.{QueryParts}
 
 abbrev pub names_of : List Spot → List Name
 names_of spots = map (λ spot. spot.name) spots
@@ -151,3 +159,62 @@ mapping_places m = map (λ b. b.place) m.blocks ++ flat_map arrow_places m.block
 
 abbrev pub mapping_count : MappingLit → ℕ
 mapping_count m = length m.blocks + sum_by (λ b. length b.keys + length b.attributes) m.blocks
+
+-- Each variable and each clause of a block, with the number of the block. A foreign key is a clause, and each term that it assigns one more.
+abbrev pub variable_parts : ℕ → GroupSyn → List (ℕ × Name × Name)
+variable_parts block g = map (λ spot. (block, spot.name, g.sort)) g.names
+
+abbrev pub test_clause : ℕ → EqSyn → ℕ × Clause
+test_clause block e = (block, clause.Test e.left.raw e.right.raw)
+
+abbrev pub attribute_clause : ℕ → Bind → ℕ × Clause
+attribute_clause block b = (block, clause.Att b.name b.term.raw)
+
+abbrev pub assign_clause : ℕ → Name → Bind → ℕ × Clause
+assign_clause block key b = (block, clause.Assign key b.name b.term.raw)
+
+abbrev pub key_clauses : ℕ → QueryKey → List (ℕ × Clause)
+key_clauses block k = (block, clause.Key k.name) ∷ map (assign_clause block k.name) k.assigns
+
+abbrev pub block_variables : ℕ × QueryBlock → List (ℕ × Name × Name)
+block_variables numbered = flat_map (variable_parts numbered.0) numbered.1.vars
+
+abbrev pub block_clauses : ℕ × QueryBlock → List (ℕ × Clause)
+block_clauses numbered =
+    map (test_clause numbered.0) numbered.1.tests ++ map (attribute_clause numbered.0) numbered.1.attributes
+    ++ flat_map (key_clauses numbered.0) numbered.1.keys
+
+-- the entity of each block, then the variables and then the clauses, block by block
+unfoldable pub query_parts : QueryLit → QueryParts
+query_parts q = record {
+  entities = map (λ b. b.entity) q.blocks;
+  vars = flat_map block_variables (enumerate_from 0 q.blocks);
+  clauses = flat_map block_clauses (enumerate_from 0 q.blocks);
+}
+
+abbrev pub variable_places : QueryBlock → List Place
+variable_places b = flat_map group_places b.vars
+
+abbrev pub key_places : QueryKey → List Place
+key_places k = k.place ∷ map (λ b. b.place) k.assigns
+
+abbrev pub clause_places : QueryBlock → List Place
+clause_places b = map equation_place b.tests ++ map (λ a. a.place) b.attributes ++ flat_map key_places b.keys
+
+unfoldable pub query_places : QueryLit → List Place
+query_places q = map (λ b. b.place) q.blocks ++ flat_map variable_places q.blocks ++ flat_map clause_places q.blocks
+
+abbrev pub variable_count : QueryBlock → ℕ
+variable_count b = sum_by (λ g. length g.names) b.vars
+
+abbrev pub key_count : QueryKey → ℕ
+key_count k = length k.assigns + 1
+
+abbrev pub clause_count : QueryBlock → ℕ
+clause_count b = length b.tests + length b.attributes + sum_by key_count b.keys
+
+abbrev pub query_count : QueryLit → ℕ
+query_count q = length q.blocks + sum_by variable_count q.blocks + sum_by clause_count q.blocks
+
+abbrev pub transform_count : TransformLit → ℕ
+transform_count t = length t.images

@@ -1,51 +1,88 @@
 -- What the code poses, as the definitions see it.
-use Rattle.std.specs.Prelude.{◌≡◌, ◌⊎◌, ℕ, List, [], ◌∷◌, ◌++◌, Some}
+use Rattle.std.specs.Prelude.{◌≡◌, ◌⊎◌, ℕ, List, [], ◌∷◌, ◌++◌, Some, All, map, Result, Err, IfOk}
 use Rattle.cq_base.specs.declared.name.Name.{Name}
 use Rattle.cq_base.specs.declared.place.Place.{Place}
 use Rattle.cq_syntax.specs.declared.program.Decl.{Decl}
 use Rattle.cq_syntax.specs.declared.program.Program.{Program}
+use Rattle.cq_theory.specs.declared.constant.Con.{Con}
+use Rattle.cq_theory.specs.declared.presentation.Presentation.{Presentation}
+use Rattle.cq_theory.specs.SchemaData.{SchemaData}
+use Rattle.cq_theory.specs.Closing.{IsInconsistentAt}
 use Rattle.cq_theory.specs.Presentation.{IsPresentation}
+use Rattle.cq_rows.specs.Saturated.{NoneCloses, SomeWide}
+use Rattle.cq_model.specs.InstanceData.{InstanceData}
+use Rattle.cq_model.specs.Moving.{SaysSize}
+use Rattle.cq_model.specs.declared.moving.MoveRefusal.{MoveRefusal}
+use Rattle.cq_model.specs.declared.moving.MoveRefusal.TheVariants.{Depth, TooManyRows, Inconsistent as Clashing}
 use Rattle.cq_mapping.specs.Mapping.{identity_of}
 use Rattle.cq_mapping.specs.Duties.{Preserves}
+use Rattle.cq_mapping.specs.Images.{sigma}
+use Rattle.cq_query.specs.Duties.{Sound}
+use Rattle.cq_query.specs.Coeval.{coeval_of}
+use Rattle.cq_transform.specs.Transforms.{GoesFrom}
+use Rattle.cq_push.specs.Gluing.{coproduct_of, is_oversized as is_too_large}
 use Rattle.cq_program.specs.declared.reason.Reason.TheVariants.{Inconsistent}
 use Rattle.cq_program.specs.declared.reason.ProgramRefusal.{ProgramRefusal}
 use Rattle.cq_program.specs.declared.reason.ProgramRefusal.TheVariants as program_refusal
 use Rattle.cq_program.specs.declared.posing.Statement.{Statement}
 use Rattle.cq_program.specs.declared.posing.Statement.TheVariants as statement
-use Rattle.cq_program.specs.Checks.{Environment, Meant, Posed, typeside, a_typeside, a_schema, a_mapping, an_identity, a_presentation, a_delta, a_sigma, meant_by}
-use Rattle.cq_program.specs.Environment.{IsPrinted, schema_meant}
-use Rattle.cq_program.specs.Program.{Breach, Breaks, Fails, Declares, Exceeds}
+use Rattle.cq_program.specs.Checks.{Environment, Meant, TransformMeant, Posed, typeside, a_typeside, a_schema, a_mapping, an_identity, a_query, a_presentation, a_made, a_delta, an_eval, a_transform, pushed_out, meant_by}
+use Rattle.cq_program.specs.Environment.{AreEnds, IsPrinted, ends_meant, schema_meant, transform_meant}
+use Rattle.cq_program.specs.Program.{Breach, Breaks, Fails, Declares, Exceeds, IsModelOf, IsTransformOf}
+
+-- two transforms go from the start of the first
+abbrev pub AreSpan : TransformMeant → TransformMeant → Type 0
+AreSpan f g =
+    GoesFrom f.transform f.ends.start.instance f.ends.finish.instance
+    × GoesFrom g.transform f.ends.start.instance g.ends.finish.instance
 
 abbrev pub posed_as : Statement → Posed
 posed_as (statement.Typeside t) = a_typeside t
 posed_as (statement.Schema s) = a_schema (schema_meant s)
 posed_as (statement.Mapping n t F) = a_mapping n t F
 posed_as (statement.Identity n s) = an_identity n s.value
+posed_as (statement.Query n t Q) = a_query n t Q
 posed_as (statement.Presentation n s P) = a_presentation n s.value P
 posed_as (statement.Delta n F i) = a_delta n F.value i.value.tables
-posed_as (statement.Sigma n F i) = a_sigma n F.value i.value.presentation
+posed_as (statement.Sigma n F i) = a_made n F.value.target (sigma F.value i.value.presentation)
+posed_as (statement.Eval n Q i) = an_eval n Q.value i.value.tables
+posed_as (statement.Coeval n Q i) = a_made n Q.value.source (coeval_of Q.value i.value.tables)
+posed_as (statement.Coproduct n s parts) = a_made n s.value (coproduct_of (map (λ part. part.value.presentation) parts))
+posed_as (statement.Pushout f g) = pushed_out (transform_meant f) (transform_meant g)
+posed_as (statement.Transform e t) = a_transform (ends_meant e) t.images
 
--- a presentation is one over its schema; an instance that is pulled back is over the target of a mapping that preserves equality, and one that is
--- moved over the source
+-- A presentation is one over its schema; an instance that is pulled back or read backwards is over the target, and one that is moved or queried over the
+-- source; a mapping along which tables are pulled back preserves equality, and a query that is answered is sound. The operands of a coproduct are over
+-- its schema, the transforms of a pushout go from one instance, and a transform goes from the one end to the other; images that are broken don't keep
+-- an equation.
 abbrev pub IsPosed : Statement → Type 0
 IsPosed (statement.Typeside t) = Unit {0}
 IsPosed (statement.Schema s) = Unit {0}
 IsPosed (statement.Mapping n t F) = Unit {0}
 IsPosed (statement.Identity n s) = Unit {0}
+IsPosed (statement.Query n t Q) = Unit {0}
 IsPosed (statement.Presentation n s P) = IsPresentation s.value P
 IsPosed (statement.Delta n F i) = Preserves F.value × (i.value.schema ≡ F.value.target)
 IsPosed (statement.Sigma n F i) = i.value.schema ≡ F.value.source
+IsPosed (statement.Eval n Q i) = Sound Q.value × (i.value.schema ≡ Q.value.source)
+IsPosed (statement.Coeval n Q i) = i.value.schema ≡ Q.value.target
+IsPosed (statement.Coproduct n s parts) = All (λ part. part.value.schema ≡ s.value) parts
+IsPosed (statement.Pushout f g) = AreSpan (transform_meant f) (transform_meant g)
+IsPosed (statement.Transform e t) = IsTransformOf (ends_meant e) t.images t
 
 -- What is posed under a name is over what its names stand for: a schema over its typeside, under its printed name; all others over the schemas that
--- their printed names stand for. An identity preserves equality.
+-- their printed names stand for, and a transform between the instances for which the names of its ends stand. An identity preserves equality.
 abbrev pub IsGrounded : Environment → Name → Posed → Type 0
 IsGrounded env name (a_typeside T) = Unit {0}
 IsGrounded env name (a_schema S) = (meant_by env S.typeside ≡ Some (typeside S.schema.typeside)) × (S.name ≡ name)
 IsGrounded env name (a_mapping n t F) = IsPrinted env n F.source × IsPrinted env t F.target
 IsGrounded env name (an_identity n S) = Preserves (identity_of S) × IsPrinted env n S
+IsGrounded env name (a_query n t Q) = IsPrinted env n Q.source × IsPrinted env t Q.target
 IsGrounded env name (a_presentation n S P) = IsPrinted env n S
+IsGrounded env name (a_made n S P) = IsPrinted env n S
 IsGrounded env name (a_delta n F M) = IsPrinted env n F.source
-IsGrounded env name (a_sigma n F P) = IsPrinted env n F.target
+IsGrounded env name (an_eval n Q M) = IsPrinted env n Q.target
+IsGrounded env name (a_transform e images) = AreEnds env e
 
 -- the refusal tells why nothing is made of what is posed, at the declaration's place, or want of memory
 abbrev pub Withholds : ℕ → Place → Posed → ProgramRefusal → Type 0
@@ -74,3 +111,11 @@ abbrev pub RefusesProgram : ℕ → Program → ProgramRefusal → Type 0
 RefusesProgram depth program (program_refusal.Broken place reason) = Breaks depth program place reason
 RefusesProgram depth program (program_refusal.Read name cause) = ⊥
 RefusesProgram depth program program_refusal.Memory = Unit {0}
+
+-- What the answer of a call says that makes the listed model of a presentation over a schema, of rows up to a depth. The limit is tried first.
+pub record IsAnswerOf (S : SchemaData) (P : Presentation) (depth : ℕ) (answer : Result InstanceData MoveRefusal) : Type 0 where
+  pub model : IfOk answer (IsModelOf S P)
+  pub size : SaysSize answer (is_too_large P)
+  pub deep : answer ≡ Err Depth → NoneCloses S P depth
+  pub many : answer ≡ Err TooManyRows → SomeWide S P depth
+  pub clash : (c d : Con) → answer ≡ Err (Clashing c d) → IsInconsistentAt S P c d

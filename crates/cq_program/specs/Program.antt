@@ -1,37 +1,48 @@
 -- What a program means, and the first rule that it breaks.
-use Rattle.std.specs.Prelude.{◌≡◌, ◌⊎◌, true, false, ℕ, ◌<◌, ◌≤◌, ◌-◌, ◌^◌, List, [], ◌∷◌, ◌++◌, Option, Some, None, Ok, Err, All, length}
+use Rattle.std.specs.Prelude.{◌≡◌, ◌⊎◌, true, false, ℕ, ◌<◌, ◌≤◌, ◌-◌, ◌^◌, List, [], ◌∷◌, ◌++◌, Option, Some, None, Ok, Err, All, length, slice_get}
 use Rattle.std.specs.List.{filter_map}
 use Rattle.cq_base.specs.declared.name.Name.{Name}
 use Rattle.cq_base.specs.declared.place.Place.{Place}
 use Rattle.cq_syntax.specs.declared.program.Body.{Body}
-use Rattle.cq_syntax.specs.declared.program.Body.TheVariants.{Typeside, Schema, Mapping, Instance}
+use Rattle.cq_syntax.specs.declared.program.Body.TheVariants.{Typeside, Schema, Mapping, Query, Instance, Transform as Transformed}
 use Rattle.cq_syntax.specs.declared.program.SchemaExp.TheVariants as schema_exp
 use Rattle.cq_syntax.specs.declared.program.InstanceExp.TheVariants as instance_exp
 use Rattle.cq_syntax.specs.declared.program.MappingExp.TheVariants as mapping_exp
+use Rattle.cq_syntax.specs.declared.program.TransformExp.TheVariants as transform_exp
 use Rattle.cq_syntax.specs.declared.program.Decl.{Decl}
 use Rattle.cq_syntax.specs.declared.program.Program.{Program}
 use Rattle.cq_theory.specs.declared.presentation.Presentation.{Presentation}
+use Rattle.cq_theory.specs.declared.presentation.Equation.{Equation}
 use Rattle.cq_theory.specs.declared.constant.Con.{Con}
 use Rattle.cq_theory.specs.SchemaData.{SchemaData}
 use Rattle.cq_theory.specs.Schema.{IsSchema}
 use Rattle.cq_theory.specs.Presentation.{IsPresentation}
 use Rattle.cq_theory.specs.Closing.{Closes, IsInconsistent, IsInconsistentAt, IsWide}
+use Rattle.cq_theory.specs.Tables.{Tables, Initial}
 use Rattle.cq_theory.specs.ValueText.{value_text}
 use Rattle.cq_theory.specs.declared.value.Value.TheVariants.{Const}
 use Rattle.cq_model.specs.InstanceData.{InstanceData}
 use Rattle.cq_model.specs.Listed.{IsListed}
+use Rattle.cq_model.specs.declared.transform.Image.{Image}
+use Rattle.cq_model.specs.declared.transform.Transform.{Transform}
 use Rattle.cq_program.specs.declared.reason.Reason.{Reason}
-use Rattle.cq_program.specs.declared.reason.Reason.TheVariants.{NotPreserved, DutyDepth, DutyRows, Depth, TooManyRows, Inconsistent, Oversized}
+use Rattle.cq_program.specs.declared.reason.Reason.TheVariants.{NotPreserved, DutyDepth, DutyRows, Broken, Depth, TooManyRows, Inconsistent, Oversized, TooManyAnswers}
 use Rattle.cq_mapping.specs.MappingData.{MappingData}
 use Rattle.cq_mapping.specs.Mapping.{identity_of}
 use Rattle.cq_mapping.specs.declared.duties.Duty.{Duty}
-use Rattle.cq_mapping.specs.Duties.{Preserves, duties_of, one_generator, is_too_large}
-use Rattle.cq_mapping.specs.Images.{sigma}
+use Rattle.cq_mapping.specs.Duties.{Preserves, duties_of, one_generator}
 use Rattle.cq_mapping.specs.Moved.{delta_tables}
 use Rattle.cq_model.specs.Given.{given, is_oversized}
-use Rattle.cq_check.specs.Answers.{IsDerivedWithin, IsNotPreserved, IsTooDeepDuty, IsTooWideDuty}
-use Rattle.cq_program.specs.Parts.{typeside_count, schema_count, mapping_count, instance_count}
-use Rattle.cq_program.specs.Checks.{Meant, typeside, schema, mapping, instance, Environment, Posed, a_typeside, a_schema, a_mapping, an_identity, a_presentation, a_delta, a_sigma, posed_by}
+use Rattle.cq_query.specs.QueryData.{QueryData}
+use Rattle.cq_query.specs.Duties.{Sound, all_duties, frozen}
+use Rattle.cq_query.specs.Answers.{IsEval}
+use Rattle.cq_eval.specs.Refused.{NoneHasMany, IsFirstMany, IsTooLarge}
+use Rattle.cq_transform.specs.Refusals.{IsBrokenAt}
+use Rattle.cq_transform.specs.Transforms.{GoesFrom}
+use Rattle.cq_push.specs.Gluing.{is_oversized as is_too_large}
+use Rattle.cq_check.specs.Answers.{IsDerivedWithin, IsNotPreserved, IsTooDeepDuty, IsTooWideDuty, IsUnsoundAt, IsTooDeepAt, IsTooWideAt}
+use Rattle.cq_program.specs.Parts.{typeside_count, schema_count, mapping_count, query_count, instance_count, transform_count}
+use Rattle.cq_program.specs.Checks.{Meant, typeside, schema, mapping, query, instance, transform, Ends, Environment, Posed, a_typeside, a_schema, a_mapping, an_identity, a_query, a_presentation, a_made, a_delta, an_eval, a_transform, posed_by}
 
 -- the listed model of a presentation over a schema, both well sorted, which makes no two constants equal
 pub record IsModelOf (S : SchemaData) (P : Presentation) (i : InstanceData) : Type 0 where
@@ -42,17 +53,35 @@ pub record IsModelOf (S : SchemaData) (P : Presentation) (i : InstanceData) : Ty
   pub listed : IsListed i
   pub consistent : IsInconsistent S P → ⊥
 
--- What is posed is this: a theory itself, a mapping where each of its duties is derivable, a presentation by its listed model. The duties of an
--- identity are equations of its schema, and so derivable. Tables that are pulled back stand with their canonical presentation, within the limits on
--- tables; a presentation that is moved stands by its listed model, within the limit on terms.
+-- The tables of a query's answers, over a well-sorted target, within the limits on answers and on tables.
+pub record IsEvalWithin (Q : QueryData) (M N : Tables) : Type 0 where
+  pub target : IsSchema Q.target
+  pub eval : IsEval Q M N
+  pub few : NoneHasMany Q M
+  pub fits : is_oversized N ≡ false
+
+-- A transform of these images goes from the one end to the other, and the first is the term model of its presentation over a well-sorted schema.
+pub record IsTransformOf (e : Ends) (images : List Image) (t : Transform) : Type 0 where
+  pub images_are : t.images ≡ images
+  pub schema : IsSchema e.start.instance.schema
+  pub initial : Initial e.start.instance.schema e.start.instance.presentation e.start.instance.tables e.start.instance.assignment
+  pub goes : GoesFrom t e.start.instance e.finish.instance
+
+-- What is posed is this: a theory itself, a mapping or a query where each of its duties is derivable, a presentation by its listed model. The duties
+-- of an identity are equations of its schema, and so derivable. Tables that are pulled back or that are answers stand with their canonical
+-- presentation, within the limits on tables; a presentation that is made of others stands by its listed model, within the limit on presentations.
+-- Images stand by the one homomorphism that agrees with them.
 abbrev pub Stands : Posed → Meant → Type 0
 Stands (a_typeside T) m = m ≡ typeside T
 Stands (a_schema S) m = m ≡ schema S
 Stands (a_mapping n t F) m = (m ≡ mapping n t F) × Preserves F
 Stands (an_identity n S) m = m ≡ mapping n n (identity_of S)
+Stands (a_query n t Q) m = (m ≡ query n t Q) × Sound Q
 Stands (a_presentation n S P) m = (i : InstanceData) × (m ≡ instance n i) × IsModelOf S P i
+Stands (a_made n S P) m = (i : InstanceData) × (m ≡ instance n i) × IsModelOf S P i × (is_too_large P ≡ false)
 Stands (a_delta n F M) m = (m ≡ instance n (given F.source (delta_tables F M))) × (is_oversized (delta_tables F M) ≡ false)
-Stands (a_sigma n F P) m = (i : InstanceData) × (m ≡ instance n i) × IsModelOf F.target (sigma F P) i × (is_too_large F P ≡ false)
+Stands (an_eval n Q M) m = (N : Tables) × (m ≡ instance n (given Q.target N)) × IsEvalWithin Q M N
+Stands (a_transform e images) m = (t : Transform) × (m ≡ transform e t) × IsTransformOf e images t
 
 -- A presentation makes two constants equal: the least that equals a greater one and the least such greater one, whose texts the reason tells.
 pub record TellsClash (S : SchemaData) (P : Presentation) (reason : Reason) : Type 0 where
@@ -65,19 +94,43 @@ pub record TellsClash (S : SchemaData) (P : Presentation) (reason : Reason) : Ty
 abbrev pub TellsUnkept : MappingData → Reason → Type 0
 TellsUnkept F reason = (n : ℕ) × (reason ≡ NotPreserved n) × IsNotPreserved F n
 
--- The reason tells that the limit on terms is passed, or a clash within it.
-abbrev pub TellsMoved : MappingData → Presentation → Reason → Type 0
-TellsMoved F P reason = ((reason ≡ Oversized) × (is_too_large F P ≡ true)) ⊎ ((is_too_large F P ≡ false) × TellsClash F.target (sigma F P) reason)
+-- the same of a query
+abbrev pub TellsUnsound : QueryData → Reason → Type 0
+TellsUnsound Q reason = (n : ℕ) × (reason ≡ NotPreserved n) × IsUnsoundAt Q n
 
--- what is posed breaks the rule that each duty of a mapping is derivable, that no two constants are equal, or that tables and terms keep their limits
+-- The reason tells that the limit on presentations is passed, or a clash within it.
+abbrev pub TellsMade : SchemaData → Presentation → Reason → Type 0
+TellsMade S P reason = ((reason ≡ Oversized) × (is_too_large P ≡ true)) ⊎ ((is_too_large P ≡ false) × TellsClash S P reason)
+
+-- the reason tells the first entity that has over 1,000,000 answers
+pub record TellsMany (Q : QueryData) (M : Tables) (reason : Reason) : Type 0 where
+  pub entity : ℕ
+  pub name : Name
+  pub there : slice_get Q.target.entities entity ≡ Some name
+  pub told : reason ≡ TooManyAnswers name
+  pub first : IsFirstMany Q M entity
+
+-- The reason tells that an entity has too many answers, or that none has and the tables of answers pass their limit.
+abbrev pub TellsAnswers : QueryData → Tables → Reason → Type 0
+TellsAnswers Q M reason = TellsMany Q M reason ⊎ ((reason ≡ Oversized) × IsTooLarge Q M)
+
+-- the reason tells the first equation, by its number from 1, whose image doesn't hold
+abbrev pub TellsBroken : Ends → List Image → Reason → Type 0
+TellsBroken e images reason = (n : ℕ) × (reason ≡ Broken n) × IsBrokenAt e.start.instance e.finish.instance images n
+
+-- what is posed breaks the rule that each duty is derivable, that no two constants are equal, that tables and presentations keep their limits, or
+-- that equations hold
 abbrev pub Fails : Posed → Reason → Type 0
 Fails (a_typeside T) reason = ⊥
 Fails (a_schema S) reason = ⊥
 Fails (a_mapping n t F) reason = TellsUnkept F reason
 Fails (an_identity n S) reason = ⊥
+Fails (a_query n t Q) reason = TellsUnsound Q reason
 Fails (a_presentation n S P) reason = TellsClash S P reason
+Fails (a_made n S P) reason = TellsMade S P reason
 Fails (a_delta n F M) reason = (reason ≡ Oversized) × (is_oversized (delta_tables F M) ≡ true)
-Fails (a_sigma n F P) reason = TellsMoved F P reason
+Fails (an_eval n Q M) reason = TellsAnswers Q M reason
+Fails (a_transform e images) reason = TellsBroken e images reason
 
 -- the two limits of a duty and of a model: the depth, and the number of rows
 abbrev pub IsLimit : Reason → Type 0
@@ -93,6 +146,10 @@ IsLimit _ = ⊥
 abbrev pub ExceedsAtDuty : ℕ → MappingData → Reason → ℕ → Type 0
 ExceedsAtDuty depth F reason n = ((reason ≡ DutyDepth n) × IsTooDeepDuty F depth n) ⊎ ((reason ≡ DutyRows n) × IsTooWideDuty F depth n)
 
+abbrev pub ExceedsAtQueryDuty : ℕ → QueryData → Reason → ℕ → Type 0
+ExceedsAtQueryDuty depth Q reason n =
+    ((reason ≡ DutyDepth n) × IsTooDeepAt Q depth n) ⊎ ((reason ≡ DutyRows n) × IsTooWideAt Q depth n)
+
 -- Which limit keeps the model of a presentation from being made within a depth. The depth gives the leave where the presentation closes at no
 -- depth up to the given one; the limit on rows where at some depth up to it there are more classes than rows are allowed.
 abbrev pub ExceedsAtModel : ℕ → SchemaData → Presentation → Reason → Type 0
@@ -106,9 +163,12 @@ Exceeds depth (a_typeside T) reason = ⊥
 Exceeds depth (a_schema S) reason = ⊥
 Exceeds depth (a_mapping n t F) reason = (duty : ℕ) × ExceedsAtDuty depth F reason duty
 Exceeds depth (an_identity n S) reason = ⊥
+Exceeds depth (a_query n t Q) reason = (duty : ℕ) × ExceedsAtQueryDuty depth Q reason duty
 Exceeds depth (a_presentation n S P) reason = ExceedsAtModel depth S P reason
+Exceeds depth (a_made n S P) reason = (is_too_large P ≡ false) × ExceedsAtModel depth S P reason
 Exceeds depth (a_delta n F M) reason = ⊥
-Exceeds depth (a_sigma n F P) reason = (is_too_large F P ≡ false) × ExceedsAtModel depth F.target (sigma F P) reason
+Exceeds depth (an_eval n Q M) reason = ⊥
+Exceeds depth (a_transform e images) reason = ⊥
 
 -- the declaration meets its rules, and its name stands for m
 pub record Declares (env : Environment) (d : Decl) (m : Meant) : Type 0 where
@@ -137,7 +197,9 @@ abbrev pub listing_named : Name → Meant → Option Listing
 listing_named name (typeside T) = None
 listing_named name (schema S) = None
 listing_named name (mapping n t F) = None
+listing_named name (query n t Q) = None
 listing_named name (instance n i) = Some (record { name = name; schema = n; instance = i })
+listing_named name (transform e t) = None
 
 abbrev pub listing_of : Name × Meant → Option Listing
 listing_of entry = listing_named entry.0 entry.1
@@ -158,25 +220,33 @@ pub record Breaks (depth : ℕ) (program : Program) (place : Place) (reason : Re
   pub follow : Follow [] before env
   pub breach : Breach depth env broken place reason
 
--- A duty is derived within some depth up to the given one, and at no depth up to that one there are more classes than rows are allowed.
+-- An equation is derived within some depth up to the given one, and at no depth up to that one there are more classes than rows are allowed.
+abbrev pub IsDecidedOver : ℕ → SchemaData → Presentation → Equation → Type 0
+IsDecidedOver depth S P e = (j : ℕ) × (j ≤ depth) × IsDerivedWithin S P e j × ((i : ℕ) → i ≤ j → IsWide S P i → ⊥)
+
+-- the same of a duty of a mapping, and of one of a query, which goes with its entity
 abbrev pub IsDecided : ℕ → SchemaData → Duty → Type 0
-IsDecided depth S duty =
-    (j : ℕ) × (j ≤ depth) × IsDerivedWithin S (one_generator duty.schema_entity) duty.equation j
-    × ((i : ℕ) → i ≤ j → IsWide S (one_generator duty.schema_entity) i → ⊥)
+IsDecided depth S duty = IsDecidedOver depth S (one_generator duty.schema_entity) duty.equation
+
+abbrev pub IsQueryDutyDecided : ℕ → QueryData → ℕ × Equation → Type 0
+IsQueryDutyDecided depth Q duty = IsDecidedOver depth Q.source (frozen Q duty.0) duty.1
 
 -- a presentation closes at some depth up to the given one, and has at no depth up to it more classes than rows are allowed
 abbrev pub ClosesWithin : ℕ → SchemaData → Presentation → Type 0
 ClosesWithin depth S P = ((j : ℕ) × (j ≤ depth) × Closes S P j) × ((j : ℕ) → j ≤ depth → IsWide S P j → ⊥)
 
--- What is posed keeps the limits at a depth: each duty of a mapping is decided so, and a presentation, given or moved, closes so.
+-- What is posed keeps the limits at a depth: each duty of a mapping or a query is decided so, and a presentation, given or made, closes so.
 abbrev pub KeepsLimits : ℕ → Posed → Type 0
 KeepsLimits depth (a_typeside T) = Unit {0}
 KeepsLimits depth (a_schema S) = Unit {0}
 KeepsLimits depth (a_mapping n t F) = All (IsDecided depth F.target) (duties_of F)
 KeepsLimits depth (an_identity n S) = Unit {0}
+KeepsLimits depth (a_query n t Q) = All (IsQueryDutyDecided depth Q) (all_duties Q)
 KeepsLimits depth (a_presentation n S P) = ClosesWithin depth S P
+KeepsLimits depth (a_made n S P) = ClosesWithin depth S P
 KeepsLimits depth (a_delta n F M) = Unit {0}
-KeepsLimits depth (a_sigma n F P) = ClosesWithin depth F.target (sigma F P)
+KeepsLimits depth (an_eval n Q M) = Unit {0}
+KeepsLimits depth (a_transform e images) = Unit {0}
 
 -- the same of each declaration of a program, after those before it
 abbrev pub IsWithinLimits : ℕ → Program → Type 0
@@ -189,7 +259,9 @@ abbrev pub part_count : Body → ℕ
 part_count (Typeside lit) = typeside_count lit
 part_count (Schema (schema_exp.Literal lit)) = schema_count lit
 part_count (Mapping (mapping_exp.Literal lit)) = mapping_count lit
+part_count (Query lit) = query_count lit
 part_count (Instance (instance_exp.Literal lit)) = instance_count lit
+part_count (Transformed (transform_exp.Literal lit)) = transform_count lit
 part_count _ = 0
 
 -- declarations and parts can be counted by numbers of 32 bits

@@ -28,15 +28,25 @@ pub struct Named {
 /// The instances of a program in order, or the first rule that a declaration breaks, at its place.
 ///
 /// The declarations are taken in order. Each is checked in this order: its form is built (`NotBuilt`), its name is
-/// new (`NameTaken`), each name that it uses is declared (`NameUnknown`) and of the right kind (`WrongKind`), the two
-/// schemas of a mapping are over one typeside declaration (`WrongSchema`, at the second), its parts break no rule
-/// (`Duplicate` to `TooLarge`, at the first such part) and none is missing (`Missing`). Then the duties of a mapping
-/// literal are derived, in order: the first that isn't is not derivable (`NotPreserved`), or not decided within the
-/// depth (`DutyDepth`) or with 200,000 rows (`DutyRows`). The model of an instance has at most 200,000 rows at each
-/// depth up to the given one (`TooManyRows`), closes within it (`Depth`) and makes no two constants equal
-/// (`Inconsistent`, with the texts of the least such pair). `DutyDepth`, `DutyRows`, `Depth` and `TooManyRows` are
-/// limits and no rules: each is told only where the duty or the presentation gives leave for it. Want of memory may
-/// come at any time. No form that is built reads files.
+/// new (`NameTaken`), each name that it uses is declared (`NameUnknown`) and of the right kind (`WrongKind`), name by
+/// name; what the names stand for fits (`WrongSchema`): the two schemas of a mapping or a query are over one typeside
+/// declaration, and instances over the schemas that the form wants, told at the second of two ends, at the first
+/// operand of a coproduct that doesn't fit, and else at the instance; two transforms that are pushed out start in one
+/// instance declaration (`NotASpan`, at the second); its parts break no rule (`Duplicate` to `TooLarge`, at the first
+/// such part) and none is missing (`Missing`).
+///
+/// Then the duties of a mapping or a query literal are derived, in order: the first that isn't is not derivable
+/// (`NotPreserved`), or not decided within the depth (`DutyDepth`) or with 200,000 rows (`DutyRows`). The equations of
+/// the instance from which a transform goes hold in the one to which it goes (`Broken`, with the first that doesn't).
+/// A presentation that is made of others has at most 16,000,000 generators and no term of over 1,024 symbols
+/// (`Oversized`). The model of an instance has at most 200,000 rows at each depth up to the given one
+/// (`TooManyRows`), closes within it (`Depth`) and makes no two constants equal (`Inconsistent`, with the texts of the
+/// least such pair). A query has at most 1,000,000 answers for each entity (`TooManyAnswers`, with the first that has
+/// more), and tables that are pulled back or are answers have at most 16,000,000 rows and nulls and no value of over
+/// 1,024 symbols (`Oversized`).
+///
+/// `DutyDepth`, `DutyRows`, `Depth` and `TooManyRows` are limits and no rules: each is told only where the duty or the
+/// presentation gives leave for it. Want of memory may come at any time. No form that is built reads files.
 pub fn meaning<F: Folder>(
     alloc: Global,
     program: &Program,
@@ -140,5 +150,7 @@ fn push_instance(named: &mut Vec<Named>, entry: Entry) -> Result<(), AllocError>
         Meaning::Typeside(_) => Ok(()),
         Meaning::Schema(_) => Ok(()),
         Meaning::Mapping(_, _, _) => Ok(()),
+        Meaning::Query(_, _, _) => Ok(()),
+        Meaning::Transform(_) => Ok(()),
     }
 }

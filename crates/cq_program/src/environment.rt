@@ -2,11 +2,14 @@
 ghost use Rattle.std.specs.Prelude.{◌≡◌, ◌<◌, ◌-◌, ◌^◌, ◌++◌, ◌∷◌, [], Some, IfOk, length, is_some, option_map};
 ghost use Rattle.cq_program.specs.Checks.{meant_by, typeside, typeside_used, schema_used};
 ghost use Rattle.cq_program.specs.Environment.{Answers, entry_names, environment_of, meant, schema_meant};
+ghost use Rattle.cq_program.specs.declared.reason.ProgramRefusal.TheVariants.{Broken};
+ghost use Rattle.cq_program.specs.declared.reason.Reason.TheVariants.{NameUnknown, WrongKind};
 
 use crate::reason::{ProgramRefusal, Reason};
 use cq_base::{Name, Names};
 use cq_mapping::Mapping;
-use cq_model::Instance;
+use cq_model::{Instance, Transform};
+use cq_query::Query;
 use cq_syntax::Spot;
 use cq_theory::{Schema, Typeside};
 use std::alloc::{AllocError, Global};
@@ -21,14 +24,39 @@ pub(crate) struct NamedSchema {
     pub schema: Rc<Schema>,
 }
 
-/// What a declared name stands for. An instance goes with the name under which its schema is printed, and a mapping
-/// with those of its source and its target.
+/// An instance, with the name under which its schema is printed.
+#[derive(Drop)]
+pub(crate) struct NamedInstance {
+    pub schema: Name,
+    pub instance: Rc<Instance>,
+}
+
+/// The ends of a transform, with their declared names.
+#[derive(Drop)]
+pub(crate) struct NamedEnds {
+    pub source: Name,
+    pub target: Name,
+    pub start: NamedInstance,
+    pub finish: NamedInstance,
+}
+
+/// A transform, with its ends.
+#[derive(Drop)]
+pub(crate) struct NamedTransform {
+    pub ends: NamedEnds,
+    pub transform: Rc<Transform>,
+}
+
+/// What a declared name stands for. An instance goes with the name under which its schema is printed, a mapping and a
+/// query with those of their source and their target, and a transform with its ends.
 #[derive(Drop)]
 pub(crate) enum Meaning {
     Typeside(Rc<Typeside>),
     Schema(NamedSchema),
     Mapping(Name, Name, Rc<Mapping>),
+    Query(Name, Name, Rc<Query>),
     Instance(Name, Rc<Instance>),
+    Transform(NamedTransform),
 }
 
 /// A declared name.
@@ -73,17 +101,13 @@ impl Environment {
         ensures meant { IfOk result (λ found. meant_by (environment_of self.now.entries.items) used.now.name ≡ Some (typeside found.value)) }
     {
         match self.find(&used.name) {
-            None => Err(ProgramRefusal::Broken(used.place, Reason::NameUnknown)),
+            None => Err(unknown(used)),
             Some(Meaning::Typeside(typeside)) => Ok(typeside.clone()?),
-            Some(Meaning::Schema(_)) => Err(ProgramRefusal::Broken(used.place, Reason::WrongKind)),
-            Some(Meaning::Mapping(_, _, _)) => Err(ProgramRefusal::Broken(
-                used.place,
-                Reason::WrongKind,
-            )),
-            Some(Meaning::Instance(_, _)) => Err(ProgramRefusal::Broken(
-                used.place,
-                Reason::WrongKind,
-            )),
+            Some(Meaning::Schema(_)) => Err(wrong_kind(used)),
+            Some(Meaning::Mapping(_, _, _)) => Err(wrong_kind(used)),
+            Some(Meaning::Query(_, _, _)) => Err(wrong_kind(used)),
+            Some(Meaning::Instance(_, _)) => Err(wrong_kind(used)),
+            Some(Meaning::Transform(_)) => Err(wrong_kind(used)),
         }
     }
 
@@ -92,20 +116,13 @@ impl Environment {
         ensures { Answers schema_meant result (schema_used (environment_of self.now.entries.items) used.now) }
     {
         match self.find(&used.name) {
-            None => Err(ProgramRefusal::Broken(used.place, Reason::NameUnknown)),
-            Some(Meaning::Typeside(_)) => Err(ProgramRefusal::Broken(
-                used.place,
-                Reason::WrongKind,
-            )),
+            None => Err(unknown(used)),
+            Some(Meaning::Typeside(_)) => Err(wrong_kind(used)),
             Some(Meaning::Schema(named)) => Ok(copy_named(named)?),
-            Some(Meaning::Mapping(_, _, _)) => Err(ProgramRefusal::Broken(
-                used.place,
-                Reason::WrongKind,
-            )),
-            Some(Meaning::Instance(_, _)) => Err(ProgramRefusal::Broken(
-                used.place,
-                Reason::WrongKind,
-            )),
+            Some(Meaning::Mapping(_, _, _)) => Err(wrong_kind(used)),
+            Some(Meaning::Query(_, _, _)) => Err(wrong_kind(used)),
+            Some(Meaning::Instance(_, _)) => Err(wrong_kind(used)),
+            Some(Meaning::Transform(_)) => Err(wrong_kind(used)),
         }
     }
 
@@ -135,4 +152,18 @@ fn copy_named(named: &NamedSchema) -> Result<NamedSchema, AllocError>
         typeside: named.typeside.clone()?,
         schema: named.schema.clone()?,
     })
+}
+
+/// The refusal that a used name isn't declared.
+pub fn unknown(used: &Spot) -> ProgramRefusal
+    ensures { result ≡ Broken used.now.place NameUnknown }
+{
+    ProgramRefusal::Broken(used.place, Reason::NameUnknown)
+}
+
+/// The refusal that a used name stands for something of another kind.
+pub fn wrong_kind(used: &Spot) -> ProgramRefusal
+    ensures { result ≡ Broken used.now.place WrongKind }
+{
+    ProgramRefusal::Broken(used.place, Reason::WrongKind)
 }

@@ -1,14 +1,15 @@
 //! Whether declarations and parts can be counted by numbers of 32 bits.
 ghost use Rattle.std.specs.Prelude.{◌≡◌, ◌+◌, ◌-◌, ◌<◌, ◌≤◌, ◌^◌, ◌↔◌, All, IsTrue, length, sum_by};
 ghost use Rattle.std.specs.Option.{SomeIff};
-ghost use Rattle.cq_syntax.specs.declared.program.Body.TheVariants.{Mapping, Instance};
+ghost use Rattle.cq_syntax.specs.declared.program.Body.TheVariants.{Mapping, Instance, Transform};
 ghost use Rattle.cq_program.specs.Program.{HasFewParts, part_count};
 ghost use Rattle.cq_theory.specs.TypesideParts.{literals_count};
-ghost use Rattle.cq_program.specs.Parts.{name_of, typeside_count, schema_count, mapping_count, instance_count};
+ghost use Rattle.cq_program.specs.Parts.{name_of, clause_count, instance_count, key_count, mapping_count, query_count, schema_count, transform_count, typeside_count, variable_count};
 
 use cq_syntax::{
     Body, Decl, EdgeSyn, FunSyn, GroupSyn, InstanceExp, InstanceLit, MapBlock, MappingExp,
-    MappingLit, Program, SchemaExp, SchemaLit, Spot, TypesideLit,
+    MappingLit, Program, QueryBlock, QueryKey, QueryLit, SchemaExp, SchemaLit, Spot, TransformExp,
+    TypesideLit,
 };
 
 /// Whether a program has fewer than 2^32 - 1 declarations, and each of them fewer than 2^32 parts, as every program in
@@ -35,8 +36,8 @@ fn has_few(body: &Body) -> bool
         Body::Instance(expression) => has_few_in_instance(expression),
         Body::Colimit(_) => true,
         Body::Mapping(expression) => has_few_in_mapping(expression),
-        Body::Query(_) => true,
-        Body::Transform(_) => true,
+        Body::Query(literal) => has_few_in_query(literal),
+        Body::Transform(expression) => has_few_in_transform(expression),
     }
 }
 
@@ -100,6 +101,27 @@ fn has_few_in_blocks(literal: &MappingLit) -> bool
         return false;
     };
     room_after_blocks(room, literal.blocks.as_slice()).is_some()
+}
+
+fn has_few_in_query(literal: &QueryLit) -> bool
+    ensures { IsTrue result ↔ (query_count literal.now < 2 ^ 32) }
+{
+    let Some(room) = room_after(u32::MAX, literal.blocks.len()) else {
+        return false;
+    };
+    let Some(room) = room_after_variables(room, literal.blocks.as_slice()) else {
+        return false;
+    };
+    room_after_clauses(room, literal.blocks.as_slice()).is_some()
+}
+
+fn has_few_in_transform(expression: &TransformExp) -> bool
+    ensures { IsTrue result ↔ (part_count (Transform expression.now) < 2 ^ 32) }
+{
+    match expression {
+        TransformExp::Literal(literal) => room_after(u32::MAX, literal.images.len()).is_some(),
+        TransformExp::Identity(_) => true,
+    }
 }
 
 fn has_few_in_instance(expression: &InstanceExp) -> bool
@@ -197,4 +219,64 @@ fn room_after_functions(room: u32, groups: &[FunSyn]) -> Option<u32>
         }
     }
     Some(left)
+}
+
+fn room_after_variables(room: u32, blocks: &[QueryBlock]) -> Option<u32>
+    ensures { SomeIff result (sum_by variable_count blocks.now ≤ room) (room - sum_by variable_count blocks.now) }
+{
+    let mut left = room;
+    for block in blocks {
+        match room_after_groups(left, block.vars.as_slice()) {
+            Some(room) => left = room,
+            None => return None,
+        }
+    }
+    Some(left)
+}
+
+fn room_after_clauses(room: u32, blocks: &[QueryBlock]) -> Option<u32>
+    ensures { SomeIff result (sum_by clause_count blocks.now ≤ room) (room - sum_by clause_count blocks.now) }
+{
+    let mut left = room;
+    for block in blocks {
+        match room_after_query_block(left, block) {
+            Some(room) => left = room,
+            None => return None,
+        }
+    }
+    Some(left)
+}
+
+fn room_after_query_block(room: u32, block: &QueryBlock) -> Option<u32>
+    ensures { SomeIff result (clause_count block.now ≤ room) (room - clause_count block.now) }
+{
+    let Some(room) = room_after(room, block.tests.len()) else {
+        return None;
+    };
+    let Some(room) = room_after(room, block.attributes.len()) else {
+        return None;
+    };
+    room_after_query_keys(room, block.keys.as_slice())
+}
+
+fn room_after_query_keys(room: u32, keys: &[QueryKey]) -> Option<u32>
+    ensures { SomeIff result (sum_by key_count keys.now ≤ room) (room - sum_by key_count keys.now) }
+{
+    let mut left = room;
+    for key in keys {
+        match room_after_query_key(left, key) {
+            Some(room) => left = room,
+            None => return None,
+        }
+    }
+    Some(left)
+}
+
+fn room_after_query_key(room: u32, key: &QueryKey) -> Option<u32>
+    ensures { SomeIff result (key_count key.now ≤ room) (room - key_count key.now) }
+{
+    match room_after(room, key.assigns.len()) {
+        Some(room) => room_after(room, 1),
+        None => None,
+    }
 }

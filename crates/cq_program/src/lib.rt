@@ -4,15 +4,21 @@
 mod declarations;
 mod environment;
 mod few;
+mod gluing;
 pub mod laws;
 mod line;
+mod made;
 mod models;
 mod moves;
 mod parts;
 mod places;
 mod posing;
+mod queries;
+mod query_parts;
+mod query_places;
 mod raw;
 mod reason;
+mod transforms;
 mod used;
 
 pub use declarations::{Named, meaning};

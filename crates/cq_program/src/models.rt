@@ -1,17 +1,21 @@
 //! What declarations stand for that pass the checks of names and parts.
 ghost use Rattle.std.specs.Prelude.{◌≡◌, ◌≤◌, true, IfOk, IfErr};
 ghost use Rattle.cq_theory.specs.Presentation.{IsPresentation};
+ghost use Rattle.cq_theory.specs.Schema.{IsSchema};
 ghost use Rattle.cq_theory.specs.ValueText.{value_text as text_of, is_named_con};
 ghost use Rattle.cq_theory.specs.declared.value.Value.TheVariants.{Const};
 ghost use Rattle.cq_program.specs.Program.{Stands};
-ghost use Rattle.cq_program.specs.Environment.{meant};
+ghost use Rattle.cq_program.specs.Environment.{IsModelled, IsTermModel, meant};
 ghost use Rattle.cq_program.specs.Posing.{IsPosed, TellsConstants, Withholds, posed_as};
 ghost use Rattle.cq_program.specs.Checks.{a_mapping, an_identity, a_presentation, mapping, instance};
 
 use crate::environment::Meaning;
+use crate::gluing::{glued, summed};
 use crate::moves::{pulled, pushed};
 use crate::posing::Statement;
+use crate::queries::{answered, checked_query, read_backwards};
 use crate::reason::{ProgramRefusal, Reason};
+use crate::transforms::shared_transform;
 use cq_base::{Name, Place, Seq};
 use cq_check::{CheckRefusal, check_mapping};
 use cq_mapping::Mapping;
@@ -21,9 +25,9 @@ use cq_theory::{Con, Presentation, Schema, Typeside, Value};
 use std::alloc::{AllocError, Global};
 use std::rc::Rc;
 
-/// What the declaration at a place stands for: a theory itself, a mapping that preserves equality itself, a
-/// presentation, given or moved, by its listed model, and tables that are pulled back with their canonical
-/// presentation.
+/// What the declaration at a place stands for: a theory itself, a mapping or a query whose duties are derivable itself,
+/// a presentation, given or made of others, by its listed model, tables that are pulled back or that are answers with
+/// their canonical presentation, and a transform itself.
 pub fn meaning_of(
     alloc: Global,
     place: Place,
@@ -33,6 +37,7 @@ pub fn meaning_of(
     requires posed { IsPosed statement }
     requires depth { depth ≤ 64 }
     ensures stands { IfOk result (λ meaning. Stands (posed_as statement) (meant meaning)) }
+    ensures modelled { IfOk result (λ meaning. IsModelled (meant meaning)) }
     ensures withholds { IfErr result (Withholds depth place (posed_as statement)) }
 {
     match statement {
@@ -42,6 +47,9 @@ pub fn meaning_of(
             checked_mapping(alloc, place, source, target, mapping, depth)
         }
         Statement::Identity(name, schema) => Ok(identity(alloc, name, schema)?),
+        Statement::Query(source, target, query) => {
+            checked_query(alloc, place, source, target, query, depth)
+        }
         Statement::Presentation(name, schema, presentation) => {
             model_of(alloc, place, name, schema, presentation, depth)
         }
@@ -51,6 +59,15 @@ pub fn meaning_of(
         Statement::Sigma(name, mapping, instance) => {
             pushed(alloc, place, name, &mapping, &instance, depth)
         }
+        Statement::Eval(name, query, instance) => answered(alloc, place, name, &query, &instance),
+        Statement::Coeval(name, query, instance) => {
+            read_backwards(alloc, place, name, &query, &instance, depth)
+        }
+        Statement::Coproduct(name, schema, parts) => {
+            summed(alloc, place, name, schema, parts.as_slice(), depth)
+        }
+        Statement::Pushout(left, right) => glued(alloc, place, &left, &right, depth),
+        Statement::Transform(ends, transform) => Ok(shared_transform(alloc, ends, transform)?),
     }
 }
 
@@ -65,6 +82,7 @@ fn checked_mapping(
 ) -> Result<Meaning, ProgramRefusal>
     requires depth { depth ≤ 64 }
     ensures stands { IfOk result (λ meaning. Stands (a_mapping source target mapping) (meant meaning)) }
+    ensures modelled { IfOk result (λ meaning. IsModelled (meant meaning)) }
     ensures withholds { IfErr result (Withholds depth place (a_mapping source target mapping)) }
 {
     match check_mapping(alloc, &mapping, depth) {
@@ -84,7 +102,8 @@ fn checked_mapping(
 
 /// The identity of a schema.
 fn identity(alloc: Global, name: Name, schema: Rc<Schema>) -> Result<Meaning, AllocError>
-    ensures { IfOk result (λ meaning. Stands (an_identity name schema.value) (meant meaning)) }
+    ensures stands { IfOk result (λ meaning. Stands (an_identity name schema.value) (meant meaning)) }
+    ensures modelled { IfOk result (λ meaning. IsModelled (meant meaning)) }
 {
     let copy = name.clone()?;
     let mapping = Mapping::identity(alloc, schema)?;
@@ -103,6 +122,7 @@ fn model_of(
     requires presentation { IsPresentation schema.value presentation }
     requires depth { depth ≤ 64 }
     ensures stands { IfOk result (λ meaning. Stands (a_presentation name schema.value presentation) (meant meaning)) }
+    ensures modelled { IfOk result (λ meaning. IsModelled (meant meaning)) }
     ensures withholds { IfErr result (Withholds depth place (a_presentation name schema.value presentation)) }
 {
     schema.is_well_sorted();
@@ -180,9 +200,26 @@ fn shared_mapping(
     Ok(Meaning::Mapping(source, target, shared))
 }
 
+/// An instance that is the term model of its presentation stands for itself.
 pub fn shared_instance(alloc: Global, name: Name, model: Instance) -> Result<Meaning, AllocError>
-    ensures { IfOk result (λ meaning. meant meaning ≡ instance name model) }
+    requires { IsTermModel model }
+    ensures stands { IfOk result (λ meaning. meant meaning ≡ instance name model) }
+    ensures modelled { IfOk result (λ meaning. IsModelled (meant meaning)) }
 {
     let shared = Rc::new(alloc, model)?;
     Ok(Meaning::Instance(name, shared))
+}
+
+/// The typeside of an instance.
+pub fn typeside_of(instance: &Instance) -> &Typeside
+    ensures { result.now ≡ instance.now.schema.typeside }
+{
+    &instance.schema().typeside
+}
+
+/// The schema of an instance is well sorted. The call does nothing.
+pub fn is_over_schema(instance: &Instance)
+    ensures { IsSchema instance.now.schema }
+{
+    instance.schema().is_well_sorted();
 }

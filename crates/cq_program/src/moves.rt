@@ -1,20 +1,22 @@
 //! Instances that are moved along mappings: what is posed of them, and what they stand for.
 ghost use Rattle.std.specs.Prelude.{ℕ, ◌≡◌, ◌≤◌, IfOk, IfErr};
 ghost use Rattle.cq_mapping.specs.Duties.{Preserves};
-ghost use Rattle.cq_program.specs.Checks.{a_delta, a_sigma, delta_posed, sigma_posed};
-ghost use Rattle.cq_program.specs.Environment.{Answers, AreSettled, environment_of, meant};
+ghost use Rattle.cq_mapping.specs.Images.{sigma as moved};
+ghost use Rattle.cq_program.specs.Checks.{a_delta, a_made, delta_posed, sigma_posed};
+ghost use Rattle.cq_program.specs.Environment.{Answers, AreSettled, IsModelled, environment_of, meant};
 ghost use Rattle.cq_program.specs.Posing.{IsGrounded, IsPosed, Withholds, posed_as};
 ghost use Rattle.cq_program.specs.Program.{Stands};
 ghost use Rattle.cq_base.specs.declared.name.Name.{Name as TheName};
 
 use crate::environment::{Environment, Meaning};
-use crate::models::{clash, shared_instance};
+use crate::made::made;
+use crate::models::shared_instance;
 use crate::posing::Statement;
 use crate::reason::{ProgramRefusal, Reason};
 use crate::used::{instance_of, mapping_of};
 use cq_base::{Name, Place};
 use cq_mapping::Mapping;
-use cq_model::{Instance, MoveRefusal};
+use cq_model::Instance;
 use cq_move::{delta, sigma};
 use cq_syntax::Spot;
 use cq_theory::SizeRefusal;
@@ -61,6 +63,7 @@ pub fn pulled(
     requires preserves { Preserves mapping.now }
     requires over { instance.now.schema ≡ mapping.now.target }
     ensures stands { IfOk result (λ meaning. Stands (a_delta name mapping.now instance.now.tables) (meant meaning)) }
+    ensures modelled { IfOk result (λ meaning. IsModelled (meant meaning)) }
     ensures withholds { (depth : ℕ) → IfErr result (Withholds depth place (a_delta name mapping.now instance.now.tables)) }
 {
     match delta(alloc, mapping, instance) {
@@ -81,19 +84,12 @@ pub fn pushed(
 ) -> Result<Meaning, ProgramRefusal>
     requires over { instance.now.schema ≡ mapping.now.source }
     requires depth { depth ≤ 64 }
-    ensures stands { IfOk result (λ meaning. Stands (a_sigma name mapping.now instance.now.presentation) (meant meaning)) }
-    ensures withholds { IfErr result (Withholds depth place (a_sigma name mapping.now instance.now.presentation)) }
+    ensures stands { IfOk result (λ meaning. Stands (a_made name mapping.now.target (moved mapping.now instance.now.presentation)) (meant meaning)) }
+    ensures modelled { IfOk result (λ meaning. IsModelled (meant meaning)) }
+    ensures withholds { IfErr result (Withholds depth place (a_made name mapping.now.target (moved mapping.now instance.now.presentation))) }
 {
     mapping.is_well_sorted();
     instance.is_instance();
-    match sigma(alloc, mapping, instance, depth) {
-        Ok(made) => Ok(shared_instance(alloc, name, made)?),
-        Err(MoveRefusal::Depth) => Err(ProgramRefusal::Broken(place, Reason::Depth)),
-        Err(MoveRefusal::TooManyRows) => Err(ProgramRefusal::Broken(place, Reason::TooManyRows)),
-        Err(MoveRefusal::Inconsistent(least, greater)) => {
-            Err(clash(alloc, place, &mapping.target.typeside, least, greater))
-        }
-        Err(MoveRefusal::TooLarge) => Err(ProgramRefusal::Broken(place, Reason::Oversized)),
-        Err(MoveRefusal::Memory) => Err(ProgramRefusal::Memory),
-    }
+    let answer = sigma(alloc, mapping, instance, depth);
+    made(alloc, place, name, &mapping.target.typeside, answer)
 }

@@ -77,7 +77,7 @@ fn push_optional(places: &mut Vec<Place>, spot: &Option<Spot>) -> Result<(), All
     Ok(())
 }
 
-fn push_groups(places: &mut Vec<Place>, groups: &[GroupSyn]) -> Result<(), AllocError>
+pub fn push_groups(places: &mut Vec<Place>, groups: &[GroupSyn]) -> Result<(), AllocError>
     ensures { OnOk result (places.new.items ≡ places.old.items ++ flat_map group_places groups.now) }
 {
     for group in groups {
@@ -122,7 +122,7 @@ fn push_observations(places: &mut Vec<Place>, equations: &[ObsSyn]) -> Result<()
     Ok(())
 }
 
-fn push_equations(places: &mut Vec<Place>, equations: &[EqSyn]) -> Result<(), AllocError>
+pub fn push_equations(places: &mut Vec<Place>, equations: &[EqSyn]) -> Result<(), AllocError>
     ensures { OnOk result (places.new.items ≡ places.old.items ++ map equation_place equations.now) }
 {
     for equation in equations {

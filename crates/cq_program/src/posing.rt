@@ -1,6 +1,7 @@
 //! The checks of names and parts, and what a declaration poses that passes them.
 ghost use Rattle.std.specs.Prelude.{◌≡◌, ◌<◌, ◌^◌, IfOk, length};
 ghost use Rattle.cq_base.specs.declared.name.Name.{Name as TheName};
+ghost use Rattle.cq_syntax.specs.declared.program.Body.TheVariants.{Instance as Instanced};
 ghost use Rattle.cq_theory.specs.Presentation.{IsPresentation};
 ghost use Rattle.cq_program.specs.Program.{part_count};
 ghost use Rattle.cq_program.specs.Parts.{typeside_count, schema_count, mapping_count, instance_count};
@@ -8,34 +9,46 @@ ghost use Rattle.cq_program.specs.Checks.{arrow_breach, body_posed, identity_pos
 ghost use Rattle.cq_program.specs.Environment.{schema_meant, Answers, AreSettled, Tells, environment_of};
 ghost use Rattle.cq_program.specs.Posing.{IsGrounded, IsPosed, posed_as};
 
-use crate::environment::{Environment, NamedSchema};
+use crate::environment::{Environment, NamedEnds, NamedSchema, NamedTransform};
+use crate::gluing::{pose_coproduct, pose_pushout};
 use crate::moves::{pose_delta, pose_sigma};
 use crate::parts::{instance_parts, mapping_parts, schema_parts, typeside_parts};
 use crate::places::{instance_places, mapping_places, schema_places, typeside_places};
+use crate::queries::{pose_coeval, pose_eval, pose_query};
 use crate::reason::{ProgramRefusal, Reason};
-use cq_base::{Name, Place};
+use crate::transforms::pose_identical;
+use cq_base::{Name, Place, Seq};
 use cq_mapping::Mapping;
-use cq_model::Instance;
+use cq_model::{Instance, Transform};
+use cq_query::Query;
 use cq_syntax::{
     Body, Decl, InstanceExp, InstanceLit, MappingExp, MappingLit, SchemaExp, SchemaLit, Spot,
-    TypesideLit,
+    TransformExp, TypesideLit,
 };
 use cq_theory::{ArrowRefusal, Presentation, Schema, TheoryRefusal, Typeside};
 use std::alloc::{AllocError, Global};
 use std::rc::Rc;
 
-/// What a declaration poses: a theory; a mapping between schemas of printed names, whose duties are to be derived;
-/// the identity of the schema of a printed name; a presentation over such a schema, whose model is to be made; or an
-/// instance that is to be pulled back along a mapping from such a schema, or moved along one to such a schema.
+/// What a declaration poses: a theory; a mapping or a query between schemas of printed names, whose duties are to be
+/// derived; the identity of the schema of a printed name; a presentation over such a schema, whose model is to be made;
+/// an instance that is to be pulled back along a mapping from such a schema, or moved along one to such a schema; an
+/// instance to which a query is to be answered, or that is to be read backwards through one; instances of which a
+/// coproduct or a pushout is to be made; or a transform.
 #[derive(Drop)]
 pub(crate) enum Statement {
     Typeside(Typeside),
     Schema(NamedSchema),
     Mapping(Name, Name, Mapping),
     Identity(Name, Rc<Schema>),
+    Query(Name, Name, Query),
     Presentation(Name, Rc<Schema>, Presentation),
     Delta(Name, Rc<Mapping>, Rc<Instance>),
     Sigma(Name, Rc<Mapping>, Rc<Instance>),
+    Eval(Name, Rc<Query>, Rc<Instance>),
+    Coeval(Name, Rc<Query>, Rc<Instance>),
+    Coproduct(Name, Rc<Schema>, Seq<Rc<Instance>>),
+    Pushout(NamedTransform, NamedTransform),
+    Transform(NamedEnds, Transform),
 }
 
 /// What a declaration poses, or the first rule of names and parts that it breaks.
@@ -63,16 +76,30 @@ fn is_built(body: &Body) -> bool
         Body::Typeside(_) => true,
         Body::Schema(SchemaExp::Literal(_)) => true,
         Body::Schema(SchemaExp::GetSchema(_)) => false,
-        Body::Instance(expression) => matches!(
-            expression,
-            InstanceExp::Literal(_) | InstanceExp::Delta(_, _) | InstanceExp::Sigma(_, _)
-        ),
+        Body::Instance(expression) => is_built_instance(expression),
         Body::Colimit(_) => false,
         Body::Mapping(MappingExp::Literal(_)) => true,
         Body::Mapping(MappingExp::Identity(_)) => true,
         Body::Mapping(MappingExp::GetMapping(_, _)) => false,
-        Body::Query(_) => false,
-        Body::Transform(_) => false,
+        Body::Query(_) => true,
+        Body::Transform(TransformExp::Literal(_)) => false,
+        Body::Transform(TransformExp::Identity(_)) => true,
+    }
+}
+
+fn is_built_instance(expression: &InstanceExp) -> bool
+    ensures { result ≡ is_built (Instanced expression.now) }
+{
+    match expression {
+        InstanceExp::Literal(_) => true,
+        InstanceExp::Delta(_, _) => true,
+        InstanceExp::Sigma(_, _) => true,
+        InstanceExp::Eval(_, _) => true,
+        InstanceExp::Coeval(_, _) => true,
+        InstanceExp::Coproduct(_, _) => true,
+        InstanceExp::Pushout(_, _) => true,
+        InstanceExp::ImportCsv(_, _, _) => false,
+        InstanceExp::ImportCsv2(_, _, _) => false,
     }
 }
 
@@ -94,10 +121,49 @@ fn pose_body(
         Body::Schema(SchemaExp::Literal(literal)) => pose_schema(alloc, env, place, name, literal),
         Body::Mapping(MappingExp::Literal(literal)) => pose_mapping(alloc, env, place, literal),
         Body::Mapping(MappingExp::Identity(used)) => pose_identity(env, used),
-        Body::Instance(InstanceExp::Literal(literal)) => pose_instance(alloc, env, place, literal),
-        Body::Instance(InstanceExp::Delta(along, used)) => pose_delta(env, along, used),
-        Body::Instance(InstanceExp::Sigma(along, used)) => pose_sigma(env, along, used),
-        _ => Err(ProgramRefusal::Broken(place, Reason::NotBuilt)),
+        Body::Query(literal) => pose_query(alloc, env, place, literal),
+        Body::Instance(expression) => pose_instance(alloc, env, place, expression),
+        Body::Transform(TransformExp::Literal(_)) => {
+            Err(ProgramRefusal::Broken(place, Reason::NotBuilt))
+        }
+        Body::Transform(TransformExp::Identity(used)) => pose_identical(alloc, env, used),
+        Body::Schema(SchemaExp::GetSchema(_)) => {
+            Err(ProgramRefusal::Broken(place, Reason::NotBuilt))
+        }
+        Body::Mapping(MappingExp::GetMapping(_, _)) => {
+            Err(ProgramRefusal::Broken(place, Reason::NotBuilt))
+        }
+        Body::Colimit(_) => Err(ProgramRefusal::Broken(place, Reason::NotBuilt)),
+    }
+}
+
+fn pose_instance(
+    alloc: Global,
+    env: &Environment,
+    place: Place,
+    expression: &InstanceExp,
+) -> Result<Statement, ProgramRefusal>
+    requires few { part_count (Instanced expression.now) < 2 ^ 32 }
+    requires settled { AreSettled (environment_of env.now.entries.items) }
+    ensures posed { (name : TheName) → Answers posed_as result (body_posed (environment_of env.now.entries.items) place name (Instanced expression.now)) }
+    ensures well_sorted { IfOk result IsPosed }
+    ensures grounded { (name : TheName) → IfOk result (λ statement. IsGrounded (environment_of env.now.entries.items) name (posed_as statement)) }
+{
+    match expression {
+        InstanceExp::Literal(literal) => pose_literal(alloc, env, place, literal),
+        InstanceExp::Delta(along, used) => pose_delta(env, along, used),
+        InstanceExp::Sigma(along, used) => pose_sigma(env, along, used),
+        InstanceExp::Eval(along, used) => pose_eval(env, along, used),
+        InstanceExp::Coeval(along, used) => pose_coeval(env, along, used),
+        InstanceExp::Coproduct(operands, used) => pose_coproduct(
+            alloc,
+            env,
+            operands.as_slice(),
+            used,
+        ),
+        InstanceExp::Pushout(first, second) => pose_pushout(env, first, second),
+        InstanceExp::ImportCsv(_, _, _) => Err(ProgramRefusal::Broken(place, Reason::NotBuilt)),
+        InstanceExp::ImportCsv2(_, _, _) => Err(ProgramRefusal::Broken(place, Reason::NotBuilt)),
     }
 }
 
@@ -190,7 +256,7 @@ fn pose_identity(env: &Environment, used: &Spot) -> Result<Statement, ProgramRef
     Ok(Statement::Identity(over.name, over.schema))
 }
 
-fn pose_instance(
+fn pose_literal(
     alloc: Global,
     env: &Environment,
     place: Place,
@@ -325,7 +391,7 @@ fn part_refusal(place: Place, places: &[Place], refusal: TheoryRefusal) -> Progr
 }
 
 /// The rule that a part of a mapping breaks, at the part's place, or the missing part, at the declaration's place.
-fn arrow_refusal(place: Place, places: &[Place], refusal: ArrowRefusal) -> ProgramRefusal
+pub fn arrow_refusal(place: Place, places: &[Place], refusal: ArrowRefusal) -> ProgramRefusal
     ensures { Tells result (arrow_breach place places.now refusal) }
 {
     match refusal {
@@ -358,7 +424,7 @@ fn arrow_refusal(place: Place, places: &[Place], refusal: ArrowRefusal) -> Progr
     }
 }
 
-fn place_of(place: Place, places: &[Place], part: u32) -> Place
+pub fn place_of(place: Place, places: &[Place], part: u32) -> Place
     ensures { result ≡ place_of place places.now part }
 {
     match places.get(part as usize) {

@@ -1,13 +1,16 @@
-//! The mappings and the instances for which used names stand.
+//! The mappings, queries, instances and transforms for which used names stand.
 ghost use Rattle.std.specs.Prelude.{◌≡◌, IfOk};
-ghost use Rattle.cq_program.specs.Checks.{mapping_used, instance_used};
-ghost use Rattle.cq_program.specs.Environment.{Answers, environment_of, instance_meant, mapping_meant};
+ghost use Rattle.cq_program.specs.Checks.{mapping_used, query_used, instance_used, transform_used};
+ghost use Rattle.cq_program.specs.Environment.{Answers, ends_meant, environment_of, instance_meant, mapping_meant, query_meant, transform_meant};
 
-use crate::environment::{Environment, Meaning};
-use crate::reason::{ProgramRefusal, Reason};
+use crate::environment::{
+    Environment, Meaning, NamedEnds, NamedInstance, NamedTransform, unknown, wrong_kind,
+};
+use crate::reason::ProgramRefusal;
 use cq_base::Name;
 use cq_mapping::Mapping;
 use cq_model::Instance;
+use cq_query::Query;
 use cq_syntax::Spot;
 use std::alloc::AllocError;
 use std::rc::Rc;
@@ -20,11 +23,12 @@ pub(crate) struct NamedMapping {
     pub mapping: Rc<Mapping>,
 }
 
-/// An instance, with the name under which its schema is printed.
+/// A query, with the names under which its source and its target are printed.
 #[derive(Drop)]
-pub(crate) struct NamedInstance {
-    pub schema: Name,
-    pub instance: Rc<Instance>,
+pub(crate) struct NamedQuery {
+    pub source: Name,
+    pub target: Name,
+    pub query: Rc<Query>,
 }
 
 /// The mapping for which a used name stands.
@@ -32,13 +36,30 @@ pub fn mapping_of(env: &Environment, used: &Spot) -> Result<NamedMapping, Progra
     ensures { Answers mapping_meant result (mapping_used (environment_of env.now.entries.items) used.now) }
 {
     match env.find(&used.name) {
-        None => Err(ProgramRefusal::Broken(used.place, Reason::NameUnknown)),
-        Some(Meaning::Typeside(_)) => Err(ProgramRefusal::Broken(used.place, Reason::WrongKind)),
-        Some(Meaning::Schema(_)) => Err(ProgramRefusal::Broken(used.place, Reason::WrongKind)),
+        None => Err(unknown(used)),
+        Some(Meaning::Typeside(_)) => Err(wrong_kind(used)),
+        Some(Meaning::Schema(_)) => Err(wrong_kind(used)),
         Some(Meaning::Mapping(source, target, mapping)) => {
             Ok(named_mapping(source, target, mapping)?)
         }
-        Some(Meaning::Instance(_, _)) => Err(ProgramRefusal::Broken(used.place, Reason::WrongKind)),
+        Some(Meaning::Query(_, _, _)) => Err(wrong_kind(used)),
+        Some(Meaning::Instance(_, _)) => Err(wrong_kind(used)),
+        Some(Meaning::Transform(_)) => Err(wrong_kind(used)),
+    }
+}
+
+/// The query for which a used name stands.
+pub fn query_of(env: &Environment, used: &Spot) -> Result<NamedQuery, ProgramRefusal>
+    ensures { Answers query_meant result (query_used (environment_of env.now.entries.items) used.now) }
+{
+    match env.find(&used.name) {
+        None => Err(unknown(used)),
+        Some(Meaning::Typeside(_)) => Err(wrong_kind(used)),
+        Some(Meaning::Schema(_)) => Err(wrong_kind(used)),
+        Some(Meaning::Mapping(_, _, _)) => Err(wrong_kind(used)),
+        Some(Meaning::Query(source, target, query)) => Ok(named_query(source, target, query)?),
+        Some(Meaning::Instance(_, _)) => Err(wrong_kind(used)),
+        Some(Meaning::Transform(_)) => Err(wrong_kind(used)),
     }
 }
 
@@ -47,14 +68,28 @@ pub fn instance_of(env: &Environment, used: &Spot) -> Result<NamedInstance, Prog
     ensures { Answers instance_meant result (instance_used (environment_of env.now.entries.items) used.now) }
 {
     match env.find(&used.name) {
-        None => Err(ProgramRefusal::Broken(used.place, Reason::NameUnknown)),
-        Some(Meaning::Typeside(_)) => Err(ProgramRefusal::Broken(used.place, Reason::WrongKind)),
-        Some(Meaning::Schema(_)) => Err(ProgramRefusal::Broken(used.place, Reason::WrongKind)),
-        Some(Meaning::Mapping(_, _, _)) => Err(ProgramRefusal::Broken(
-            used.place,
-            Reason::WrongKind,
-        )),
+        None => Err(unknown(used)),
+        Some(Meaning::Typeside(_)) => Err(wrong_kind(used)),
+        Some(Meaning::Schema(_)) => Err(wrong_kind(used)),
+        Some(Meaning::Mapping(_, _, _)) => Err(wrong_kind(used)),
+        Some(Meaning::Query(_, _, _)) => Err(wrong_kind(used)),
         Some(Meaning::Instance(schema, instance)) => Ok(named_instance(schema, instance)?),
+        Some(Meaning::Transform(_)) => Err(wrong_kind(used)),
+    }
+}
+
+/// The transform for which a used name stands.
+pub fn transform_of(env: &Environment, used: &Spot) -> Result<NamedTransform, ProgramRefusal>
+    ensures { Answers transform_meant result (transform_used (environment_of env.now.entries.items) used.now) }
+{
+    match env.find(&used.name) {
+        None => Err(unknown(used)),
+        Some(Meaning::Typeside(_)) => Err(wrong_kind(used)),
+        Some(Meaning::Schema(_)) => Err(wrong_kind(used)),
+        Some(Meaning::Mapping(_, _, _)) => Err(wrong_kind(used)),
+        Some(Meaning::Query(_, _, _)) => Err(wrong_kind(used)),
+        Some(Meaning::Instance(_, _)) => Err(wrong_kind(used)),
+        Some(Meaning::Transform(named)) => Ok(copy_transform(named)?),
     }
 }
 
@@ -72,11 +107,48 @@ fn named_mapping(
     })
 }
 
+fn named_query(source: &Name, target: &Name, query: &Rc<Query>) -> Result<NamedQuery, AllocError>
+    ensures { IfOk result (λ named. query_meant named ≡ record { source = source.now; target = target.now; query = query.now.value }) }
+{
+    Ok(NamedQuery {
+        source: source.clone()?,
+        target: target.clone()?,
+        query: query.clone()?,
+    })
+}
+
 fn named_instance(schema: &Name, instance: &Rc<Instance>) -> Result<NamedInstance, AllocError>
     ensures { IfOk result (λ named. instance_meant named ≡ record { schema = schema.now; instance = instance.now.value }) }
 {
     Ok(NamedInstance {
         schema: schema.clone()?,
         instance: instance.clone()?,
+    })
+}
+
+/// Another handle on an instance.
+pub fn copy_instance(named: &NamedInstance) -> Result<NamedInstance, AllocError>
+    ensures { IfOk result (λ copy. instance_meant copy ≡ instance_meant named.now) }
+{
+    named_instance(&named.schema, &named.instance)
+}
+
+fn copy_ends(ends: &NamedEnds) -> Result<NamedEnds, AllocError>
+    ensures { IfOk result (λ copy. ends_meant copy ≡ ends_meant ends.now) }
+{
+    Ok(NamedEnds {
+        source: ends.source.clone()?,
+        target: ends.target.clone()?,
+        start: copy_instance(&ends.start)?,
+        finish: copy_instance(&ends.finish)?,
+    })
+}
+
+fn copy_transform(named: &NamedTransform) -> Result<NamedTransform, AllocError>
+    ensures { IfOk result (λ copy. transform_meant copy ≡ transform_meant named.now) }
+{
+    Ok(NamedTransform {
+        ends: copy_ends(&named.ends)?,
+        transform: named.transform.clone()?,
     })
 }

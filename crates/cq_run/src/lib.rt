@@ -17,6 +17,8 @@ pub use top::run;
 #[cfg(test)]
 mod exporting;
 #[cfg(test)]
+mod glued;
+#[cfg(test)]
 mod limits;
 #[cfg(test)]
 mod mappings;

@@ -226,7 +226,7 @@ lines */ z : D -> n}instance I = literal : S { generators c : D a : E b : D }",
     },
     Case {
         words: RUN,
-        text: "typeside T = literal { } transform T = identity T",
+        text: "typeside T = literal { } schema S = getSchema T",
         status: Status::Refused,
         written: "refused 1:26 90 NotBuilt\n",
     },

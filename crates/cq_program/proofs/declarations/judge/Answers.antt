@@ -12,4 +12,4 @@ returns-clause-breaks c =
 pub returns-clause-settled : goal.returns-clause-settled
 returns-clause-settled c =
     settled_result meant (environment_of c.args.env.now.entries.items) c.args.decl.now.name (posed_as c.in_ok-statement.statement) c.meaning_of.result
-    c.in_ok-statement.ensures.grounded c.meaning_of.ensures.stands
+    c.in_ok-statement.ensures.grounded c.meaning_of.ensures.stands c.meaning_of.ensures.modelled

@@ -1,8 +1,13 @@
-use Rattle.std.proofs.Common.{◌≡◌, sym, ap, subst, ◌∙◌}
+use Rattle.std.proofs.Common.{◌≡◌, map, sym, ap, subst, ◌∙◌}
+use Rattle.cq_query.specs.QueryData.{QueryData}
+use Rattle.cq_query.specs.Duties.{Sound}
+use Rattle.cq_query.specs.Coeval.{coeval_of}
+use Rattle.cq_push.specs.Gluing.{coproduct_of}
 use Rattle.std.specs.Prelude.{IfOk, IfErr}
 use Rattle.cq_mapping.specs.MappingData.{MappingData}
 use Rattle.cq_mapping.specs.Duties.{Preserves}
-use Rattle.cq_program.specs.Checks.{Posed, a_delta, a_sigma}
+use Rattle.cq_mapping.specs.Images.{sigma}
+use Rattle.cq_program.specs.Checks.{Posed, a_delta, a_made, an_eval}
 use Rattle.cq_program.specs.Environment.{meant}
 use Rattle.cq_program.specs.Posing.{IsPosed, Withholds, posed_as}
 use Rattle.cq_program.specs.Program.{Stands}
@@ -27,6 +32,49 @@ returns-in-Delta-clause-withholds c =
 
 pub returns-in-Sigma-clause-stands : goal.returns-in-Sigma-clause-stands
 returns-in-Sigma-clause-stands c =
-    let posed : a_sigma c.in-Sigma.name c.deref-in-Sigma.result.now c.deref-in-Sigma-2.result.now.presentation ≡ posed_as c.args.statement =
-    (λ j. a_sigma c.in-Sigma.name (c.deref-in-Sigma.ensures j) ((c.deref-in-Sigma-2.ensures j).presentation)) ∙ sym (ap posed_as c.in-Sigma.is) in
+    let posed : a_made c.in-Sigma.name c.deref-in-Sigma.result.now.target (sigma c.deref-in-Sigma.result.now c.deref-in-Sigma-2.result.now.presentation) ≡ posed_as c.args.statement =
+    (λ j. a_made c.in-Sigma.name ((c.deref-in-Sigma.ensures j).target) (sigma (c.deref-in-Sigma.ensures j) ((c.deref-in-Sigma-2.ensures j).presentation))) ∙ sym (ap posed_as c.in-Sigma.is) in
     subst (λ (p : Posed). IfOk c.pushed.result (λ meaning. Stands p (meant meaning))) posed c.pushed.ensures.stands
+
+pub returns-in-Sigma-clause-withholds : goal.returns-in-Sigma-clause-withholds
+returns-in-Sigma-clause-withholds c =
+    let posed : a_made c.in-Sigma.name c.deref-in-Sigma.result.now.target (sigma c.deref-in-Sigma.result.now c.deref-in-Sigma-2.result.now.presentation) ≡ posed_as c.args.statement =
+    (λ j. a_made c.in-Sigma.name ((c.deref-in-Sigma.ensures j).target) (sigma (c.deref-in-Sigma.ensures j) ((c.deref-in-Sigma-2.ensures j).presentation))) ∙ sym (ap posed_as c.in-Sigma.is) in
+    subst (λ (p : Posed). IfErr c.pushed.result (Withholds c.args.depth c.args.place p)) posed c.pushed.ensures.withholds
+
+pub answered-requires-clause-sound : goal.answered-requires-clause-sound
+answered-requires-clause-sound c =
+    let posed = subst IsPosed c.in-Eval.is c.requires.posed in
+    subst (λ (Q : QueryData). Sound Q) (sym c.deref-in-Eval.ensures) posed.0
+
+pub returns-in-Eval-clause-withholds : goal.returns-in-Eval-clause-withholds
+returns-in-Eval-clause-withholds c =
+    let posed : an_eval c.in-Eval.name c.deref-in-Eval.result.now c.deref-in-Eval-2.result.now.tables ≡ posed_as c.args.statement =
+    (λ j. an_eval c.in-Eval.name (c.deref-in-Eval.ensures j) ((c.deref-in-Eval-2.ensures j).tables)) ∙ sym (ap posed_as c.in-Eval.is) in
+    subst (λ (p : Posed). IfErr c.answered.result (Withholds c.args.depth c.args.place p)) posed (c.answered.ensures.withholds c.args.depth)
+
+pub returns-in-Coeval-clause-stands : goal.returns-in-Coeval-clause-stands
+returns-in-Coeval-clause-stands c =
+    let posed : a_made c.in-Coeval.name c.deref-in-Coeval.result.now.source (coeval_of c.deref-in-Coeval.result.now c.deref-in-Coeval-2.result.now.tables) ≡ posed_as c.args.statement =
+    (λ j. a_made c.in-Coeval.name ((c.deref-in-Coeval.ensures j).source) (coeval_of (c.deref-in-Coeval.ensures j) ((c.deref-in-Coeval-2.ensures j).tables))) ∙ sym (ap posed_as c.in-Coeval.is) in
+    subst (λ (p : Posed). IfOk c.read_backwards.result (λ meaning. Stands p (meant meaning))) posed c.read_backwards.ensures.stands
+
+pub returns-in-Coeval-clause-withholds : goal.returns-in-Coeval-clause-withholds
+returns-in-Coeval-clause-withholds c =
+    let posed : a_made c.in-Coeval.name c.deref-in-Coeval.result.now.source (coeval_of c.deref-in-Coeval.result.now c.deref-in-Coeval-2.result.now.tables) ≡ posed_as c.args.statement =
+    (λ j. a_made c.in-Coeval.name ((c.deref-in-Coeval.ensures j).source) (coeval_of (c.deref-in-Coeval.ensures j) ((c.deref-in-Coeval-2.ensures j).tables))) ∙ sym (ap posed_as c.in-Coeval.is) in
+    subst (λ (p : Posed). IfErr c.read_backwards.result (Withholds c.args.depth c.args.place p)) posed c.read_backwards.ensures.withholds
+
+pub returns-in-Coproduct-clause-stands : goal.returns-in-Coproduct-clause-stands
+returns-in-Coproduct-clause-stands c =
+    let posed : a_made c.in-Coproduct.name c.in-Coproduct.schema.value (coproduct_of (map (λ part. part.value.presentation) c.as_slice.result.now)) ≡ posed_as c.args.statement =
+    (λ j. a_made c.in-Coproduct.name c.in-Coproduct.schema.value (coproduct_of (map (λ part. part.value.presentation) (c.as_slice.ensures j)))) ∙ sym (ap posed_as c.in-Coproduct.is) in
+    subst (λ (p : Posed). IfOk c.summed.result (λ meaning. Stands p (meant meaning))) posed c.summed.ensures.stands
+
+pub returns-in-Pushout-clause-stands : goal.returns-in-Pushout-clause-stands
+returns-in-Pushout-clause-stands c =
+    subst (λ (p : Posed). IfOk c.glued.result (λ meaning. Stands p (meant meaning))) (sym (ap posed_as c.in-Pushout.is)) c.glued.ensures.stands
+
+pub returns-in-Pushout-clause-withholds : goal.returns-in-Pushout-clause-withholds
+returns-in-Pushout-clause-withholds c =
+    subst (λ (p : Posed). IfErr c.glued.result (Withholds c.args.depth c.args.place p)) (sym (ap posed_as c.in-Pushout.is)) c.glued.ensures.withholds

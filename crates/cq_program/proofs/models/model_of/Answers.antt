@@ -6,6 +6,7 @@ use Rattle.cq_theory.specs.TypesideData.{TypesideData}
 use Rattle.cq_theory.specs.ValueText.{value_text, is_named_con}
 use Rattle.cq_theory.specs.declared.value.Value.TheVariants.{Const}
 use Rattle.cq_program.specs.Posing.{TellsConstants}
+use Rattle.cq_program.proofs.Answered.{is_term_model}
 use Rattle.cq_program.proofs.Constants.{constants_within, withholds_clash}
 use Rattle.cq_program.proofs.models.model_of.Goals as goal
 
@@ -45,3 +46,6 @@ returns-in-Err-Inconsistent-clause-withholds c =
     c.deref-in-Err-Inconsistent-2.ensures ∙ ap (λ (S : SchemaData). S.typeside) (c.behind-over.view_is ∙ c.deref-in-Err-Inconsistent.ensures ∙ c.in_ok-over.ensures.cases) in
     withholds_clash c.args.depth c.args.place c.args.name c.args.schema.value c.args.presentation c.in-Err-Inconsistent.least c.in-Err-Inconsistent.greater c.clash.result clash
     (subst (λ (T : TypesideData). TellsConstants c.args.place (value_text T (Const c.in-Err-Inconsistent.least)) (value_text T (Const c.in-Err-Inconsistent.greater)) c.clash.result) typeside c.clash.ensures)
+
+pub shared_instance-requires : goal.shared_instance-requires
+shared_instance-requires c = is_term_model c.in-Ok.model c.in-Ok.ensures.listed

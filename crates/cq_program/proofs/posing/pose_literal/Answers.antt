@@ -1,6 +1,6 @@
 use Rattle.cq_program.specs.Environment.{environment_of, schema_meant}
 use Rattle.cq_program.proofs.Settled.{schema_printed}
-use Rattle.cq_program.proofs.posing.pose_instance.Goals as goal
+use Rattle.cq_program.proofs.posing.pose_literal.Goals as goal
 
 pub returns-clause-grounded : goal.returns-clause-grounded
 returns-clause-grounded c = λ name.
