@@ -1,7 +1,8 @@
 //! Names.
 ghost use Rattle.std.specs.Prelude.{◌≡◌, ◌<◌, ◌≤◌, ◌↔◌, IfOk, length, nat_eq, []};
 ghost use Rattle.std.specs.Hash as fed;
-ghost use Rattle.std.specs.Cmp.Lexicographic.{pointwise, nat_list_eq_equiv, slice_cmp, nat_list_cmp_total, texts_ties, texts_po};
+ghost use Rattle.std.specs.Cmp.Lexicographic.{pointwise, nat_list_eq_equiv, slice_cmp, nat_list_cmp_total, texts_ties};
+ghost use Rattle.std.specs.Cmp.Lexicographic.{texts_po};
 ghost use Rattle.std.specs.Ordering.{nat_cmp};
 ghost use Rattle.std.specs.Prelude.{Some};
 ghost use Rattle.std.proofs.Common.{refl};
@@ -32,7 +33,8 @@ impl Model for Name {
 
     ghost view = { λ name. elim name.text [ None ↦ [] | Some text ↦ string_bytes text.value ] };
 
-    ghost invariant = { λ name. length (elim name.text as (λ _. List ℕ) [ None ↦ [] | Some text ↦ string_bytes text.value ]) ≤ 255 };
+    ghost invariant = { λ name. length (elim name.text as
+        (λ _. List ℕ) [ None ↦ [] | Some text ↦ string_bytes text.value ]) ≤ 255 };
 }
 
 /// Why a text could not be made a name.

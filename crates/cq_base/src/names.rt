@@ -1,5 +1,6 @@
 //! Tables of names, numbered in the order in which they were added.
-ghost use Rattle.std.specs.Prelude.{◌≡◌, ◌+◌, ◌-◌, ◌<◌, ◌^◌, ◌↔◌, ◌++◌, ◌∷◌, [], length, ℕ, IfOk, OnOk, OnErr, Some, None, slice_get};
+ghost use Rattle.std.specs.Prelude.{◌≡◌, ◌+◌, ◌-◌, ◌<◌, ◌^◌, ◌↔◌, ◌++◌, ◌∷◌, [], length, ℕ, IfOk, OnOk, OnErr, Some};
+ghost use Rattle.std.specs.Prelude.{None, slice_get};
 ghost use Rattle.cq_base.specs.Names.{number_of};
 
 use crate::name::Name;
@@ -48,7 +49,8 @@ impl Names {
         requires { length self.old < 2 ^ 32 - 1 }
         ensures number { IfOk result (λ number. number ≡ length self.old) }
         ensures added { OnOk result (self.new ≡ self.old ++ name ∷ []) }
-        ensures taken { (number : ℕ) → (result ≡ Err (NamesRefusal.Taken number)) ↔ (number_of self.old name ≡ Some number) }
+        ensures taken { (number : ℕ) → (result ≡ Err (NamesRefusal.Taken number)) ↔
+            (number_of self.old name ≡ Some number) }
         ensures unchanged { OnErr result (self.new ≡ self.old) }
     {
         if let Some(number) = self.names.get_index_of(&name) {

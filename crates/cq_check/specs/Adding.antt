@@ -63,17 +63,20 @@ module _ (m : Content) (rows : List ℕ) where
   pub record IsEquated (old new : NodeListData) (t u : TypeTerm) : Type 0 where
     pub grows : Grows old new
     pub earlier : HasEarlierArguments old.nodes → HasEarlierArguments new.nodes
-    pub named : (S : Schema) (G : Generators) (type : ℕ) → type_of S G t ≡ Some type → type_of S G u ≡ Some type → AreNamedFrom S G (length old.nodes) new.nodes
+    pub named : (S : Schema) (G : Generators) (type : ℕ) → type_of S G t ≡ Some type → type_of S G u ≡ Some type
+        → AreNamedFrom S G (length old.nodes) new.nodes
     pub sides : (i a b : ℕ) → length old.equations ≤ i → slice_get new.equations i ≡ Some (a, b) → AreSidesOf new.nodes t u a b
     pub has : HasIfTraced new t u
 
 -- the equations between type terms of a presentation
 abbrev pub HasGiven : Presentation → Content → List ℕ → NodeListData → ℕ → Type 0
-HasGiven P m entries list count = (n : ℕ) (t u : TypeTerm) → n < count → slice_get P.equations n ≡ Some (TypEquation t u) → HasIfTraced m entries list t u
+HasGiven P m entries list count = (n : ℕ) (t u : TypeTerm) → n < count → slice_get P.equations n ≡ Some (TypEquation t u)
+    → HasIfTraced m entries list t u
 
 -- the observation equations of a row's entity at this row
 abbrev pub HasAtRow : Schema → Content → NodeListData → ℕ → ℕ → Type 0
-HasAtRow S m list row count = (n : ℕ) (e : ObsEq) → n < count → slice_get S.obs_eqs n ≡ Some e → e.entity ≡ row_entity m row → HasIfTraced m (row ∷ []) list e.left e.right
+HasAtRow S m list row count = (n : ℕ) (e : ObsEq) → n < count → slice_get S.obs_eqs n ≡ Some e → e.entity ≡ row_entity m row
+    → HasIfTraced m (row ∷ []) list e.left e.right
 
 -- those at each of the first rows
 abbrev pub HasAtRows : Schema → Content → NodeListData → ℕ → Type 0

@@ -17,8 +17,8 @@ abbrev pub AreOneRow : Content → List ℕ → EntTerm → EntTerm → Type 0
 AreOneRow m rows t u = (r : ℕ) × (row_of_term m rows t ≡ Some r) × (row_of_term m rows u ≡ Some r)
 
 module _ (S : Schema) (P : Presentation) (m : Content) (rows : List ℕ) where
-  -- the tables are over the schema, terms of one row are derivably equal, each row is that of some term, and the equations between entity terms
-  -- hold where no cell on the way is empty
+  -- the tables are over the schema, terms of one row are derivably equal, each row is that of some term, and the equations between entity
+  -- terms hold where no cell on the way is empty
   pub record IsFrame : Type 0 where
     pub whole : IsWhole m
     pub keys : keys_of m ≡ map ends_of S.keys
@@ -30,7 +30,8 @@ module _ (S : Schema) (P : Presentation) (m : Content) (rows : List ℕ) where
 
   -- each term within the bound leads to a row
   abbrev pub AllTracedWithin : Option ℕ → Type 0
-  AllTracedWithin bound = (t : EntTerm) (e : ℕ) → entity_of S P.generators t ≡ Some e → IsWithin bound (Ent t) → IsSome (row_of_term m rows t)
+  AllTracedWithin bound = (t : EntTerm) (e : ℕ) → entity_of S P.generators t ≡ Some e → IsWithin bound (Ent t)
+      → IsSome (row_of_term m rows t)
 
   -- no derivation within a bound up to which all terms lead to rows concludes that t equals u
   abbrev pub IsApart : Term → Term → Type 0

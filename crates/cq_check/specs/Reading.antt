@@ -9,7 +9,8 @@ use Rattle.cq_theory.specs.declared.term.TypeTerm.{TypeTerm}
 use Rattle.cq_theory.specs.Sorts.{Generators, entity_at, type_at, entity_of, type_of}
 
 module _ (m : Content) (rows : List ℕ) (count : ℕ) where
-  -- `rows` has a live row of its entity for each generator that has one, and each row and each generator of a type has a node among the first ones
+  -- `rows` has a live row of its entity for each generator that has one, and each row and each generator of a type has a node among the
+  -- first ones
   pub record AreReadable (S : Schema) (G : Generators) : Type 0 where
     pub whole : IsWhole m
     pub keys : keys_of m ≡ map ends_of S.keys

@@ -40,4 +40,5 @@ module _ (S : Schema) (P : Presentation) (m : Content) (entries : List ℕ) wher
 
 -- whatever the presentation of which the rows were made
 abbrev pub KeepsSound : Schema → Content → NodeListData → NodeListData → Type 0
-KeepsSound S m old new = (P : Presentation) (entries : List ℕ) → IsFrame S P m entries → AreSound S P m entries old → AreSound S P m entries new
+KeepsSound S m old new = (P : Presentation) (entries : List ℕ) → IsFrame S P m entries → AreSound S P m entries old
+    → AreSound S P m entries new

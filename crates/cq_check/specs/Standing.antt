@@ -31,11 +31,14 @@ mutual
   pub data Stands (m : Content) (rows : List ℕ) (nodes : List Node) : TypeTerm → ℕ → Type 0 where
     generator : {t : TypeTerm} {p : ℕ} (n : ℕ) → t ≡ term.Gen n → p ≡ made_of m + n → Stands m rows nodes t p
     constant : {t : TypeTerm} {p : ℕ} (c : Con) → t ≡ term.Const c → slice_get nodes p ≡ Some (node.Const c) → Stands m rows nodes t p
-    cell : {t : TypeTerm} {p : ℕ} (a r : ℕ) (u : EntTerm) → t ≡ term.Att a u → row_of_term m rows u ≡ Some r → slice_get nodes p ≡ Some (node.Fun a (r ∷ [])) → Stands m rows nodes t p
-    function : {t : TypeTerm} {p : ℕ} (f : ℕ) (ts : List TypeTerm) (ps : List ℕ) → t ≡ term.Fun f ts → slice_get nodes p ≡ Some (node.Fun f ps)
+    cell : {t : TypeTerm} {p : ℕ} (a r : ℕ) (u : EntTerm) → t ≡ term.Att a u → row_of_term m rows u ≡ Some r
+        → slice_get nodes p ≡ Some (node.Fun a (r ∷ [])) → Stands m rows nodes t p
+    function : {t : TypeTerm} {p : ℕ} (f : ℕ) (ts : List TypeTerm) (ps : List ℕ) → t ≡ term.Fun f ts
+        → slice_get nodes p ≡ Some (node.Fun f ps)
         → EachStands m rows nodes ts ps → Stands m rows nodes t p
 
   -- each of ts has its fellow of ps
   pub data EachStands (m : Content) (rows : List ℕ) (nodes : List Node) : List TypeTerm → List ℕ → Type 0 where
     none : EachStands m rows nodes [] []
-    more : {t : TypeTerm} {ts : List TypeTerm} {p : ℕ} {ps : List ℕ} → Stands m rows nodes t p → EachStands m rows nodes ts ps → EachStands m rows nodes (t ∷ ts) (p ∷ ps)
+    more : {t : TypeTerm} {ts : List TypeTerm} {p : ℕ} {ps : List ℕ} → Stands m rows nodes t p → EachStands m rows nodes ts ps
+        → EachStands m rows nodes (t ∷ ts) (p ∷ ps)

@@ -109,7 +109,8 @@ pub fn are_equal(
     requires presentation { IsPresentation schema.now presentation.now }
     requires frame { IsFrame schema.now presentation.now tables.now entries.now }
     requires sorted { IsWellSorted schema.now presentation.now equation.now }
-    ensures { IfOk result (λ same. MatchBool same (Derives schema.now presentation.now (left_of equation.now) (right_of equation.now))
+    ensures { IfOk result (λ same. MatchBool same (Derives schema.now presentation.now (left_of equation.now)
+        (right_of equation.now))
         (IsApart schema.now presentation.now tables.now entries.now (left_of equation.now) (right_of equation.now))) }
 {
     schema.is_well_sorted();

@@ -40,7 +40,9 @@ fn verdict_at(
     requires presentation { IsPresentation schema.now presentation.now }
     requires sorted { IsWellSorted schema.now presentation.now equation.now }
     requires depth { depth ≤ 64 }
-    ensures answer { IfOk result (λ verdict. MatchOption verdict (IsTooDeep schema.now presentation.now equation.now depth) (IsAnswer schema.now presentation.now equation.now)) }
+    ensures answer { IfOk result (λ verdict. MatchOption verdict
+        (IsTooDeep schema.now presentation.now equation.now depth)
+        (IsAnswer schema.now presentation.now equation.now)) }
     ensures many { result ≡ Err rows.TooManyRows → SomeWide schema.now presentation.now depth }
 {
     let partial = saturate(alloc, schema, presentation, depth)?;

@@ -26,8 +26,10 @@ pub fn push_given(
     requires frame { IsFrame schema.now presentation.now tables.now entries.now }
     requires count { made_of tables.now + length presentation.now.generators ≤ length list.old.nodes }
     ensures grows { OnOk result (Grows list.old list.new) }
-    ensures sound { OnOk result (AreSound schema.now presentation.now tables.now entries.now list.old → AreSound schema.now presentation.now tables.now entries.now list.new) }
-    ensures has { OnOk result (HasGiven presentation.now tables.now entries.now list.new (length presentation.now.equations)) }
+    ensures sound { OnOk result (AreSound schema.now presentation.now tables.now entries.now list.old
+        → AreSound schema.now presentation.now tables.now entries.now list.new) }
+    ensures has { OnOk result (HasGiven presentation.now tables.now entries.now list.new
+        (length presentation.now.equations)) }
 {
     for equation in presentation.equations.as_slice() {
         let Equation::Typ(left, right) = equation else {

@@ -41,7 +41,11 @@ impl NodeList {
 
     /// Adds leaves.
     pub fn push_leaves(&mut self, count: u64) -> Result<(), AllocError>
-        ensures { OnOk result (self.new ≡ record { nodes = self.old.nodes ++ replicate count Leaf; equations = self.old.equations }) }
+        ensures { OnOk result (self.new ≡ record {
+          nodes = self.old.nodes
+              ++ replicate count Leaf;
+          equations = self.old.equations;
+        }) }
     {
         for _place in 0..count {
             self.nodes.push(Node::Leaf)?;
@@ -51,7 +55,11 @@ impl NodeList {
 
     /// Adds an equation between two nodes.
     fn equate(&mut self, left: u64, right: u64) -> Result<(), AllocError>
-        ensures { OnOk result (self.new ≡ record { nodes = self.old.nodes; equations = self.old.equations ++ (left, right) ∷ [] }) }
+        ensures { OnOk result (self.new ≡ record {
+          nodes = self.old.nodes;
+          equations = self.old.equations
+              ++ (left, right) ∷ [];
+        }) }
     {
         self.equations.push((left, right))?;
         Ok(())

@@ -3,7 +3,8 @@ ghost use Rattle.std.specs.Prelude.{ℕ, List, ◌≡◌, ◌++◌, ◌<◌, ◌
 ghost use Rattle.csv.specs.Records.{fields_of, partial_of};
 ghost use Rattle.cq_theory.specs.ValueText.{application_text, function_name, value_text};
 ghost use Rattle.cq_text.specs.Transcript.{IsNamedEntry, name_or_empty};
-ghost use Rattle.cq_csv.specs.Files.{algebra_records, entry_record, entry_records, mark as mark_of, null_record, null_records};
+ghost use Rattle.cq_csv.specs.Files.{algebra_records, entry_record, entry_records, mark as mark_of, null_record};
+ghost use Rattle.cq_csv.specs.Files.{null_records};
 ghost use Rattle.cq_csv.specs.Records.{AddsFields, HasWritten, file_text};
 
 use crate::fields::{push_name_field, push_null_field, push_value_field};
@@ -43,7 +44,9 @@ fn write_nulls(
     instance: &Instance,
     writer: &mut Writer<Vec<u8>>,
 ) -> Result<(), AllocError>
-    ensures { (before : List (List (List ℕ))) → HasWritten writer.old before → OnOk result (HasWritten writer.new (before ++ null_records instance.now.schema.typeside instance.now.tables.algebra.nulls)) }
+    ensures { (before : List (List (List ℕ))) → HasWritten writer.old before
+        → OnOk result (HasWritten writer.new (before
+        ++ null_records instance.now.schema.typeside instance.now.tables.algebra.nulls)) }
 {
     let sorts = instance.algebra().nulls.as_slice();
     write_null_records(alloc, &instance.schema().typeside, sorts, writer)?;
@@ -57,7 +60,8 @@ fn write_null_records(
     writer: &mut Writer<Vec<u8>>,
 ) -> Result<(), AllocError>
     requires { All (λ sort. sort < length typeside.now.types) sorts.now }
-    ensures { (before : List (List (List ℕ))) → HasWritten writer.old before → OnOk result (HasWritten writer.new (before ++ null_records typeside.now sorts.now)) }
+    ensures { (before : List (List (List ℕ))) → HasWritten writer.old before
+        → OnOk result (HasWritten writer.new (before ++ null_records typeside.now sorts.now)) }
 {
     let mut text = Vec::new(alloc);
     let mut fields = ByteRecord::new(alloc);
@@ -105,7 +109,9 @@ fn write_entries(
     instance: &Instance,
     writer: &mut Writer<Vec<u8>>,
 ) -> Result<(), AllocError>
-    ensures { (before : List (List (List ℕ))) → HasWritten writer.old before → OnOk result (HasWritten writer.new (before ++ entry_records instance.now.schema.typeside instance.now.tables.algebra.entries)) }
+    ensures { (before : List (List (List ℕ))) → HasWritten writer.old before
+        → OnOk result (HasWritten writer.new (before
+        ++ entry_records instance.now.schema.typeside instance.now.tables.algebra.entries)) }
 {
     let entries = instance.algebra().entries.as_slice();
     write_entry_records(alloc, &instance.schema().typeside, entries, writer)?;
@@ -119,7 +125,8 @@ fn write_entry_records(
     writer: &mut Writer<Vec<u8>>,
 ) -> Result<(), AllocError>
     requires { All (IsNamedEntry typeside.now) entries.now }
-    ensures { (before : List (List (List ℕ))) → HasWritten writer.old before → OnOk result (HasWritten writer.new (before ++ entry_records typeside.now entries.now)) }
+    ensures { (before : List (List (List ℕ))) → HasWritten writer.old before
+        → OnOk result (HasWritten writer.new (before ++ entry_records typeside.now entries.now)) }
 {
     let mut text = Vec::new(alloc);
     let mut fields = ByteRecord::new(alloc);
@@ -155,7 +162,9 @@ fn push_application_field(
 ) -> Result<(), AllocError>
     requires named { IsNamedEntry typeside.now entry.now }
     requires whole { partial_of fields.old ≡ [] }
-    ensures { OnOk result (AddsFields fields.old fields.new (application_text (function_name (slice_get typeside.now.functions entry.now.function)) (map (value_text typeside.now) entry.now.args) ∷ [])) }
+    ensures { OnOk result (AddsFields fields.old fields.new
+        (application_text (function_name (slice_get typeside.now.functions entry.now.function))
+        (map (value_text typeside.now) entry.now.args) ∷ [])) }
 {
     text.clear();
     push_application(typeside, entry.function, entry.args.as_slice(), text)?;

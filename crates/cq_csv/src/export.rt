@@ -28,7 +28,8 @@ pub fn files(
     name: &Name,
     instance: &Instance,
 ) -> Result<Vec<(String, Vec<u8>)>, AllocError>
-    ensures { IfOk result (λ files. map (λ file. (string_bytes file.0, file.1.items)) files.items ≡ files_of name.now instance.now) }
+    ensures { IfOk result (λ files. map (λ file. (string_bytes file.0, file.1.items)) files.items
+        ≡ files_of name.now instance.now) }
 {
     let mut files = entity_files(alloc, name, instance)?;
     let last = file_name(alloc, name, "entries-2")?;
@@ -43,7 +44,8 @@ fn entity_files(
     name: &Name,
     instance: &Instance,
 ) -> Result<Vec<(String, Vec<u8>)>, AllocError>
-    ensures { IfOk result (λ files. map (λ file. (string_bytes file.0, file.1.items)) files.items ≡ map (entity_file name.now instance.now) (below (length instance.now.schema.entities))) }
+    ensures { IfOk result (λ files. map (λ file. (string_bytes file.0, file.1.items)) files.items ≡ map
+        (entity_file name.now instance.now) (below (length instance.now.schema.entities))) }
 {
     let attributes = attributes_by_entity(alloc, instance)?;
     let keys = keys_by_entity(alloc, instance)?;
@@ -66,7 +68,8 @@ fn entity_name(
     entity: u32,
 ) -> Result<String, AllocError>
     requires { entity < length instance.now.schema.entities }
-    ensures { IfOk result (λ file. string_bytes file ≡ name_in name.now (name_or_empty (slice_get instance.now.schema.entities entity))) }
+    ensures { IfOk result (λ file. string_bytes file ≡ name_in name.now
+        (name_or_empty (slice_get instance.now.schema.entities entity))) }
 {
     let entities = instance.schema().entities.as_slice();
     let file = file_name(alloc, name, entities[entity as usize].as_str())?;

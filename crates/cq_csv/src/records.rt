@@ -24,7 +24,8 @@ pub fn start(alloc: Global) -> Writer<Vec<u8>>
 
 /// Writes one more record.
 pub fn write(writer: &mut Writer<Vec<u8>>, fields: &ByteRecord) -> Result<(), AllocError>
-    ensures { (records : List (List (List ℕ))) → HasWritten writer.old records → OnOk result (HasWritten writer.new (records ++ fields_of fields.now ∷ [])) }
+    ensures { (records : List (List (List ℕ))) → HasWritten writer.old records
+        → OnOk result (HasWritten writer.new (records ++ fields_of fields.now ∷ [])) }
 {
     match writer.write_byte_record(fields) {
         Ok(()) => Ok(()),
@@ -34,7 +35,8 @@ pub fn write(writer: &mut Writer<Vec<u8>>, fields: &ByteRecord) -> Result<(), Al
 
 /// The text of the records that were written.
 pub fn finish(writer: Writer<Vec<u8>>) -> Result<Vec<u8>, AllocError>
-    ensures { IfOk result (λ text. (records : List (List (List ℕ))) → HasWritten writer records → text.items ≡ file_text records) }
+    ensures { IfOk result (λ text. (records : List (List (List ℕ))) → HasWritten writer records
+        → text.items ≡ file_text records) }
 {
     match writer.into_inner() {
         Ok(text) => Ok(text),

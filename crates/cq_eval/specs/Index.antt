@@ -1,5 +1,6 @@
 -- Lists of rows from which the rows for a new variable are taken.
-use Rattle.std.specs.Prelude.{ℕ, Bool, true, false, List, [], ◌∷◌, ◌++◌, ◌≡◌, ◌<◌, ◌≤◌, ◌%◌, ◌⊎◌, Option, Some, All, map, filter, length, slice_get, slice_index, slice_index_or}
+use Rattle.std.specs.Prelude.{ℕ, Bool, true, false, List, [], ◌∷◌, ◌++◌, ◌≡◌, ◌<◌, ◌≤◌, ◌%◌, ◌⊎◌, Option, Some, All, map, filter, length}
+use Rattle.std.specs.Prelude.{slice_get, slice_index, slice_index_or}
 use Rattle.cq_theory.specs.declared.presentation.Equation.{Equation}
 use Rattle.cq_theory.specs.declared.presentation.Equation.TheVariants.{Ent, Typ}
 use Rattle.cq_theory.specs.declared.term.EntTerm.{EntTerm}
@@ -39,7 +40,8 @@ cell_list M choice other index = slice_index_or index.lists (digest_of (value_of
 
 -- the rows of the lists at which the cells have the number of the other side, or at which the path leads where the other side does
 abbrev pub indexed_rows : Tables → List ℕ → Equation → TestIndex → List ℕ
-indexed_rows M choice (Typ t u) index = slice_index_or index.lists (digest_of (value_of M (map AtRow choice) (other_side index.turned (Typ t u))) % length index.lists) []
+indexed_rows M choice (Typ t u) index = slice_index_or index.lists
+    (digest_of (value_of M (map AtRow choice) (other_side index.turned (Typ t u))) % length index.lists) []
 indexed_rows M choice (Ent t u) index = slice_index_or index.lists (row_of M (map AtRow choice) (other_entity index.turned (Ent t u))) []
 
 -- there is a list for the other side's row
@@ -75,7 +77,8 @@ pub record IsPathIndex (M : Tables) (counts : List ℕ) (e : Equation) (index : 
   pub variable : term.generator ≡ index.variable
   pub within : index.variable < length counts
   pub before : reach_of_entity other ≤ index.variable
-  pub lists : index.lists ≡ map (positions (map (λ row. row_from M row term.path) (below (slice_index counts index.variable)))) (below (length index.lists))
+  pub lists : index.lists ≡ map (positions (map (λ row. row_from M row term.path) (below (slice_index counts index.variable))))
+      (below (length index.lists))
 
 abbrev pub IsIndex : Tables → List ℕ → Equation → TestIndex → Type 0
 IsIndex M counts e index = IsCellIndex M counts e index ⊎ IsPathIndex M counts e index
@@ -83,7 +86,8 @@ IsIndex M counts e index = IsCellIndex M counts e index ⊎ IsPathIndex M counts
 -- each index is one of its where equation
 abbrev pub AreIndexes : Tables → List ℕ → List Equation → List (Option TestIndex) → Type 0
 AreIndexes M counts tests indexes =
-    (n : ℕ) (e : Equation) (index : TestIndex) → slice_get tests n ≡ Some e → slice_get indexes n ≡ Some (Some index) → IsIndex M counts e index
+    (n : ℕ) (e : Equation) (index : TestIndex) → slice_get tests n ≡ Some e → slice_get indexes n ≡ Some (Some index)
+    → IsIndex M counts e index
 
 -- the rows are among those for the next variable, in order, and have all at which the where equations hold that it completes
 pub record IsCover (M : Tables) (tests : List Equation) (counts bound : List ℕ) (count : ℕ) (rows : List ℕ) : Type 0 where

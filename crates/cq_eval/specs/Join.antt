@@ -43,4 +43,5 @@ module _ (M : Tables) (tests : List Equation) (counts : List ℕ) where
 -- at any rows for the variables of a block, the sides of its where equations are terms over them
 abbrev pub IsTested : Schema → Tables → Block → Type 0
 IsTested S M block =
-    (rows : List ℕ) → IsTuple rows (map (λ v. count_of M v.1) block.vars) → (n : ℕ) (e : Equation) → slice_get block.tests n ≡ Some e → IsTestAt S M rows e
+    (rows : List ℕ) → IsTuple rows (map (λ v. count_of M v.1) block.vars) → (n : ℕ) (e : Equation) → slice_get block.tests n ≡ Some e
+    → IsTestAt S M rows e

@@ -28,7 +28,8 @@ pub fn answers(
 ) -> Result<Vec<Vec<u32>>, EvalRefusal>
     requires over { instance.now.schema ≡ query.now.source }
     requires within { entity < length query.now.target.entities }
-    ensures answers { IfOk result (λ made. AreAnswers query.now instance.now.tables entity (map (λ rows. rows.items) made.items)) }
+    ensures answers { IfOk result (λ made. AreAnswers query.now instance.now.tables entity
+        (map (λ rows. rows.items) made.items)) }
     ensures few { IfOk result (λ made. vec_len made ≤ 1000000) }
     ensures refused { IfErr result (TellsMany query.now instance.now.tables entity) }
 {
@@ -107,9 +108,12 @@ fn block_answers(
 ) -> Result<Vec<Rows>, EvalRefusal>
     requires entities { All (λ v. v.1 < length instance.now.schema.entities) block.now.vars }
     requires tested { IsTested instance.now.schema instance.now.tables block.now }
-    ensures answers { IfOk result (λ found. found.items ≡ answers_with instance.now.tables block.now.tests (map (λ v. count_of instance.now.tables v.1) block.now.vars)) }
+    ensures answers { IfOk result (λ found. found.items ≡ answers_with instance.now.tables block.now.tests
+        (map (λ v. count_of instance.now.tables v.1) block.now.vars)) }
     ensures few { IfOk result (λ found. length found.items ≤ 1000000) }
-    ensures refused { IfErr result (TellsOver entity (length (answers_with instance.now.tables block.now.tests (map (λ v. count_of instance.now.tables v.1) block.now.vars)))) }
+    ensures refused { IfErr result (TellsOver entity
+        (length (answers_with instance.now.tables block.now.tests
+        (map (λ v. count_of instance.now.tables v.1) block.now.vars)))) }
 {
     let counts = variable_counts(alloc, instance, block.vars.as_slice())?;
     if has_none(counts.as_slice()) {

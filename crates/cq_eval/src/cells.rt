@@ -1,5 +1,6 @@
 //! The columns of attributes.
-ghost use Rattle.std.specs.Prelude.{ℕ, List, ◌≡◌, ◌∷◌, ◌++◌, [], false, IfOk, IfErr, OnOk, Some, length, map, nat_lt, slice_get};
+ghost use Rattle.std.specs.Prelude.{ℕ, List, ◌≡◌, ◌∷◌, ◌++◌, [], false, IfOk, IfErr, OnOk, Some, length, map, nat_lt};
+ghost use Rattle.std.specs.Prelude.{slice_get};
 ghost use Rattle.std.specs.List.{enumerate_from, list_any};
 ghost use Rattle.cq_theory.specs.Canonical.{below};
 ghost use Rattle.cq_theory.specs.Tables.{AtRow, value_of};
@@ -43,9 +44,12 @@ fn push_value(
     column: &mut Vec<Value>,
 ) -> Result<(), EvalRefusal>
     requires { (type : ℕ) × IsTypeTermOf instance.now.schema instance.now.tables (map AtRow rows.now) term.now type }
-    ensures value { OnOk result (column.new.items ≡ column.old.items ++ value_of instance.now.tables (map AtRow rows.now) term.now ∷ []) }
-    ensures fits { OnOk result (nat_lt 1024 (symbols_of (value_of instance.now.tables (map AtRow rows.now) term.now)) ≡ false) }
-    ensures refused { IfErr result (TellsLarge (nat_lt 1024 (symbols_of (value_of instance.now.tables (map AtRow rows.now) term.now)))) }
+    ensures value { OnOk result (column.new.items ≡ column.old.items
+        ++ value_of instance.now.tables (map AtRow rows.now) term.now ∷ []) }
+    ensures fits { OnOk result (nat_lt 1024 (symbols_of
+        (value_of instance.now.tables (map AtRow rows.now) term.now)) ≡ false) }
+    ensures refused { IfErr result (TellsLarge (nat_lt 1024
+        (symbols_of (value_of instance.now.tables (map AtRow rows.now) term.now)))) }
 {
     let value = value_at(alloc, instance, term, rows)?;
     if is_long(&value) {
@@ -64,10 +68,13 @@ fn cell_column(
     term: &TypeTerm,
     source: &Answers,
 ) -> Result<Seq<Value>, EvalRefusal>
-    requires { (type : ℕ) × ((place : ℕ) (rows : List ℕ) → slice_get source.now place ≡ Some rows → IsTypeTermOf instance.now.schema instance.now.tables (map AtRow rows) term.now type) }
-    ensures values { IfOk result (λ column. column ≡ map (λ rows. value_of instance.now.tables (map AtRow rows) term.now) source.now) }
+    requires { (type : ℕ) × ((place : ℕ) (rows : List ℕ) → slice_get source.now place ≡ Some rows
+        → IsTypeTermOf instance.now.schema instance.now.tables (map AtRow rows) term.now type) }
+    ensures values { IfOk result (λ column. column ≡ map
+        (λ rows. value_of instance.now.tables (map AtRow rows) term.now) source.now) }
     ensures fits { IfOk result (λ column. list_any (λ v. nat_lt 1024 (symbols_of v)) column ≡ false) }
-    ensures refused { IfErr result (TellsLarge (list_any (λ v. nat_lt 1024 (symbols_of v)) (map (λ rows. value_of instance.now.tables (map AtRow rows) term.now) source.now))) }
+    ensures refused { IfErr result (TellsLarge (list_any (λ v. nat_lt 1024 (symbols_of v))
+        (map (λ rows. value_of instance.now.tables (map AtRow rows) term.now) source.now))) }
 {
     let Ok(mut column) = Vec::with_capacity(alloc, source.len()) else {
         return Err(EvalRefusal::Memory);
@@ -88,10 +95,14 @@ fn push_cells(
     source: &Answers,
     columns: &mut Vec<Seq<Value>>,
 ) -> Result<(), EvalRefusal>
-    requires { (type : ℕ) × ((place : ℕ) (rows : List ℕ) → slice_get source.now place ≡ Some rows → IsTypeTermOf instance.now.schema instance.now.tables (map AtRow rows) term.now type) }
-    ensures column { OnOk result (columns.new.items ≡ columns.old.items ++ map (λ rows. value_of instance.now.tables (map AtRow rows) term.now) source.now ∷ []) }
-    ensures fits { OnOk result (list_any (λ v. nat_lt 1024 (symbols_of v)) (map (λ rows. value_of instance.now.tables (map AtRow rows) term.now) source.now) ≡ false) }
-    ensures refused { IfErr result (TellsLarge (list_any (λ v. nat_lt 1024 (symbols_of v)) (map (λ rows. value_of instance.now.tables (map AtRow rows) term.now) source.now))) }
+    requires { (type : ℕ) × ((place : ℕ) (rows : List ℕ) → slice_get source.now place ≡ Some rows
+        → IsTypeTermOf instance.now.schema instance.now.tables (map AtRow rows) term.now type) }
+    ensures column { OnOk result (columns.new.items ≡ columns.old.items
+        ++ map (λ rows. value_of instance.now.tables (map AtRow rows) term.now) source.now ∷ []) }
+    ensures fits { OnOk result (list_any (λ v. nat_lt 1024 (symbols_of v))
+        (map (λ rows. value_of instance.now.tables (map AtRow rows) term.now) source.now) ≡ false) }
+    ensures refused { IfErr result (TellsLarge (list_any (λ v. nat_lt 1024 (symbols_of v))
+        (map (λ rows. value_of instance.now.tables (map AtRow rows) term.now) source.now))) }
 {
     match cell_column(alloc, instance, term, source) {
         Ok(column) => match columns.push(column) {
@@ -110,8 +121,10 @@ pub(crate) fn cell_columns(
     answers: &[Answers],
 ) -> Result<Seq<Seq<Value>>, EvalRefusal>
     requires over { instance.now.schema ≡ query.now.source }
-    requires answers { answers.now ≡ map (answers_of query.now instance.now.tables) (below (length query.now.target.entities)) }
-    ensures columns { IfOk result (λ columns. columns ≡ map (made_cells query.now instance.now.tables) (enumerate_from 0 query.now.target.attributes)) }
+    requires answers { answers.now ≡ map (answers_of query.now instance.now.tables)
+        (below (length query.now.target.entities)) }
+    ensures columns { IfOk result (λ columns. columns ≡ map (made_cells query.now instance.now.tables)
+        (enumerate_from 0 query.now.target.attributes)) }
     ensures fits { IfOk result (λ _. has_long_cell (made_tables query.now instance.now.tables) ≡ false) }
     ensures refused { IfErr result (TellsLarge (has_long_cell (made_tables query.now instance.now.tables))) }
 {

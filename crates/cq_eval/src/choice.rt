@@ -24,7 +24,8 @@ impl Model for Choice {
     ghost view = { λ choice. map (λ s. row_in (meaning s)) choice.standings.items };
 
     // Each variable stands for a row.
-    ghost invariant = { λ choice. map meaning choice.standings.items ≡ map AtRow (map (λ s. row_in (meaning s)) choice.standings.items) };
+    ghost invariant = { λ choice. map meaning choice.standings.items ≡ map AtRow
+        (map (λ s. row_in (meaning s)) choice.standings.items) };
 }
 
 /// The row for which a variable stands.

@@ -92,7 +92,8 @@ fn made_sheet(
     answers: &[Answers],
 ) -> Result<Sheet, EvalRefusal>
     requires over { instance.now.schema ≡ query.now.source }
-    requires answers { answers.now ≡ map (answers_of query.now instance.now.tables) (below (length query.now.target.entities)) }
+    requires answers { answers.now ≡ map (answers_of query.now instance.now.tables)
+        (below (length query.now.target.entities)) }
     requires few { All (λ answers. length answers ≤ 1000000) answers.now }
     ensures sheet { IfOk result (λ sheet. sheet ≡ (made_tables query.now instance.now.tables).sheet) }
     ensures fits { IfOk result (λ _. is_oversized (made_tables query.now instance.now.tables) ≡ false) }

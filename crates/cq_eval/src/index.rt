@@ -1,5 +1,6 @@
 //! Lists of rows by their cells, and by where paths lead from them, for where equations that join a new variable.
-ghost use Rattle.std.specs.Prelude.{ℕ, List, ◌≡◌, ◌+◌, ◌==◌, ◌<◌, ◌≤◌, ◌%◌, ◌^◌, [], false, IfOk, IfSome, Some, length, map, slice_get, slice_index, slice_index_or};
+ghost use Rattle.std.specs.Prelude.{ℕ, List, ◌≡◌, ◌+◌, ◌==◌, ◌<◌, ◌≤◌, ◌%◌, ◌^◌, [], false, IfOk, IfSome, Some, length};
+ghost use Rattle.std.specs.Prelude.{map, slice_get, slice_index, slice_index_or};
 ghost use Rattle.std.specs.List.{list_any};
 ghost use Rattle.cq_theory.specs.declared.presentation.Equation.{Equation};
 ghost use Rattle.cq_theory.specs.Canonical.{below};
@@ -33,7 +34,8 @@ pub(crate) struct TestIndex {
 fn lists_of(alloc: Global, column: &[Value], count: u32) -> Result<Seq<Seq<u32>>, AllocError>
     requires some { 0 < count }
     requires numbers { length column.now ≡ count }
-    ensures { IfOk result (λ lists. lists ≡ map (positions (map (λ value. digest_of value % count) column.now)) (below count)) }
+    ensures { IfOk result (λ lists. lists ≡ map (positions (map (λ value. digest_of value % count) column.now))
+        (below count)) }
 {
     let numbers = digests(alloc, column, count)?;
     grouped(alloc, count as usize, numbers.as_slice())
@@ -59,7 +61,8 @@ fn index_of(
     other: &TypeTerm,
     turned: bool,
 ) -> Result<Option<TestIndex>, AllocError>
-    ensures { IfOk result (λ made. IfSome made (IsCellIndex instance.now.tables counts.now (sides turned side.now other.now))) }
+    ensures { IfOk result (λ made. IfSome made (IsCellIndex instance.now.tables counts.now
+        (sides turned side.now other.now))) }
 {
     let TypeTerm::Att(attribute, term) = side else {
         return Ok(None);
@@ -91,8 +94,10 @@ fn ends(
     path: &[u32],
     count: u32,
 ) -> Result<Vec<u32>, AllocError>
-    requires { (row : ℕ) → row < count → (target : ℕ) × IsOnWay instance.now.schema instance.now.tables path.now row target }
-    ensures ends { IfOk result (λ ends. ends.items ≡ map (λ row. row_from instance.now.tables row path.now) (below count)) }
+    requires { (row : ℕ) → row < count → (target : ℕ)
+        × IsOnWay instance.now.schema instance.now.tables path.now row target }
+    ensures ends { IfOk result (λ ends. ends.items ≡ map (λ row. row_from instance.now.tables row path.now)
+        (below count)) }
     ensures few { IfOk result (λ ends. length ends.items ≤ 2 ^ 32) }
 {
     let mut ends = Vec::with_capacity(alloc, count as usize)?;
@@ -124,8 +129,10 @@ fn path_index_of(
     other: &EntTerm,
     turned: bool,
 ) -> Result<Option<TestIndex>, AllocError>
-    requires { side.now.generator < length counts.now → (row : ℕ) → row < slice_index counts.now side.now.generator → (target : ℕ) × IsOnWay instance.now.schema instance.now.tables side.now.path row target }
-    ensures { IfOk result (λ made. IfSome made (IsPathIndex instance.now.tables counts.now (entity_sides turned side.now other.now))) }
+    requires { side.now.generator < length counts.now → (row : ℕ) → row < slice_index counts.now side.now.generator
+        → (target : ℕ) × IsOnWay instance.now.schema instance.now.tables side.now.path row target }
+    ensures { IfOk result (λ made. IfSome made (IsPathIndex instance.now.tables counts.now
+        (entity_sides turned side.now other.now))) }
 {
     let variable = side.generator as usize;
     if variable >= counts.len() || reach_of_entity(other) > variable {
@@ -146,7 +153,8 @@ fn index_for(
     counts: &[u32],
     test: &Equation,
 ) -> Result<Option<TestIndex>, AllocError>
-    requires typed { (rows : List ℕ) → IsTuple rows counts.now → IsTestAt instance.now.schema instance.now.tables rows test.now }
+    requires typed { (rows : List ℕ) → IsTuple rows counts.now
+        → IsTestAt instance.now.schema instance.now.tables rows test.now }
     requires some { list_any (λ count. count == 0) counts.now ≡ false }
     ensures { IfOk result (λ made. IfSome made (IsIndex instance.now.tables counts.now test.now)) }
 {
@@ -171,7 +179,8 @@ pub(crate) fn indexes(
     counts: &[u32],
     tests: &[Equation],
 ) -> Result<Seq<Option<TestIndex>>, AllocError>
-    requires typed { (rows : List ℕ) → IsTuple rows counts.now → (n : ℕ) (e : Equation) → slice_get tests.now n ≡ Some e → IsTestAt instance.now.schema instance.now.tables rows e }
+    requires typed { (rows : List ℕ) → IsTuple rows counts.now → (n : ℕ) (e : Equation) → slice_get tests.now n ≡ Some e
+        → IsTestAt instance.now.schema instance.now.tables rows e }
     requires some { list_any (λ count. count == 0) counts.now ≡ false }
     ensures length { IfOk result (λ made. length made ≡ length tests.now) }
     ensures indexes { IfOk result (λ made. AreIndexes instance.now.tables counts.now tests.now made) }

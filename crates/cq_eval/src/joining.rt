@@ -1,5 +1,6 @@
 //! The search for answers, one variable at a time.
-ghost use Rattle.std.specs.Prelude.{ℕ, ◌≡◌, ◌+◌, ◌<◌, ◌≤◌, ◌==◌, ◌++◌, ◌∷◌, [], false, IfOk, IfSome, OnOk, IfErr, length, map, take, drop, slice_get, slice_index, option_copied};
+ghost use Rattle.std.specs.Prelude.{ℕ, ◌≡◌, ◌+◌, ◌<◌, ◌≤◌, ◌==◌, ◌++◌, ◌∷◌, [], false, IfOk, IfSome, OnOk, IfErr};
+ghost use Rattle.std.specs.Prelude.{length, map, take, drop, slice_get, slice_index, option_copied};
 ghost use Rattle.std.specs.List.{list_any};
 ghost use Rattle.cq_theory.specs.Tables.{AtRow};
 ghost use Rattle.cq_model.specs.Terms.{IsTypeTermOf};
@@ -45,7 +46,8 @@ fn cell_rows<'b>(
     index: &'b TestIndex,
 ) -> Result<Option<&'b [u32]>, AllocError>
     requires { (type : ℕ) × IsTypeTermOf instance.now.schema instance.now.tables (map AtRow choice.now) other.now type }
-    ensures { IfOk result (λ found. IfSome found (λ rows. rows.now ≡ cell_list instance.now.tables choice.now other.now index.now)) }
+    ensures { IfOk result (λ found. IfSome found (λ rows. rows.now ≡ cell_list instance.now.tables choice.now other.now
+        index.now)) }
 {
     let value = instance.value_over(alloc, choice.standings(), other)?;
     let lists = index.lists.as_slice();
@@ -65,7 +67,9 @@ fn indexed<'b>(
     index: &'b TestIndex,
 ) -> Result<Option<&'b [u32]>, AllocError>
     requires test { IsTestAt instance.now.schema instance.now.tables choice.now test.now }
-    ensures { IfOk result (λ found. IfSome found (λ rows. (rows.now ≡ indexed_rows instance.now.tables choice.now test.now index.now) × HasList instance.now.tables choice.now test.now index.now)) }
+    ensures { IfOk result (λ found. IfSome found (λ rows.
+        (rows.now ≡ indexed_rows instance.now.tables choice.now test.now index.now)
+        × HasList instance.now.tables choice.now test.now index.now)) }
 {
     let standings = choice.standings();
     let lists = index.lists.as_slice();
@@ -93,9 +97,11 @@ fn indexed<'b>(
 impl Join<'_> {
     /// Whether the where equations hold that are tested when so many variables are bound.
     fn passes(&self, alloc: Global, choice: &Choice, bound: usize) -> Result<bool, AllocError>
-        requires join { IsJoin self.now.instance.now.schema self.now.instance.now.tables self.now.tests.now self.now.stages self.now.counts }
+        requires join { IsJoin self.now.instance.now.schema self.now.instance.now.tables self.now.tests.now
+            self.now.stages self.now.counts }
         requires choice { IsTuple choice.now self.now.counts }
-        ensures { IfOk result (λ passes. passes ≡ test_passes_at self.now.instance.now.tables self.now.tests.now self.now.counts bound choice.now) }
+        ensures { IfOk result (λ passes. passes ≡ test_passes_at self.now.instance.now.tables self.now.tests.now
+            self.now.counts bound choice.now) }
     {
         for (place, test) in self.tests.iter().enumerate() {
             let stage = self.stages.as_slice()[place];
@@ -138,12 +144,16 @@ impl Join<'_> {
         place: usize,
         fewest: Option<&'b [u32]>,
     ) -> Result<Option<&'b [u32]>, AllocError>
-        requires join { IsJoin self.now.instance.now.schema self.now.instance.now.tables self.now.tests.now self.now.stages self.now.counts }
+        requires join { IsJoin self.now.instance.now.schema self.now.instance.now.tables self.now.tests.now
+            self.now.stages self.now.counts }
         requires indexed { AreIndexes self.now.instance.now.tables self.now.counts self.now.tests.now self.now.indexes }
         requires choice { IsTuple choice.now self.now.counts }
         requires place { place < length self.now.tests.now }
-        requires fewest { IfSome fewest (λ rows. IsCover self.now.instance.now.tables self.now.tests.now self.now.counts (take bound choice.now) (slice_index self.now.counts bound) rows.now) }
-        ensures { IfOk result (λ found. IfSome found (λ rows. IsCover self.now.instance.now.tables self.now.tests.now self.now.counts (take bound choice.now) (slice_index self.now.counts bound) rows.now)) }
+        requires fewest { IfSome fewest (λ rows. IsCover self.now.instance.now.tables self.now.tests.now self.now.counts
+            (take bound choice.now) (slice_index self.now.counts bound) rows.now) }
+        ensures { IfOk result (λ found. IfSome found
+            (λ rows. IsCover self.now.instance.now.tables self.now.tests.now self.now.counts (take bound choice.now)
+            (slice_index self.now.counts bound) rows.now)) }
     {
         let Some(Some(index)) = self.index_at(place) else {
             return Ok(fewest);
@@ -174,10 +184,13 @@ impl Join<'_> {
         choice: &Choice,
         bound: usize,
     ) -> Result<Option<&[u32]>, AllocError>
-        requires join { IsJoin self.now.instance.now.schema self.now.instance.now.tables self.now.tests.now self.now.stages self.now.counts }
+        requires join { IsJoin self.now.instance.now.schema self.now.instance.now.tables self.now.tests.now
+            self.now.stages self.now.counts }
         requires indexed { AreIndexes self.now.instance.now.tables self.now.counts self.now.tests.now self.now.indexes }
         requires choice { IsTuple choice.now self.now.counts }
-        ensures { IfOk result (λ found. IfSome found (λ rows. IsCover self.now.instance.now.tables self.now.tests.now self.now.counts (take bound choice.now) (slice_index self.now.counts bound) rows.now)) }
+        ensures { IfOk result (λ found. IfSome found
+            (λ rows. IsCover self.now.instance.now.tables self.now.tests.now self.now.counts (take bound choice.now)
+            (slice_index self.now.counts bound) rows.now)) }
     {
         let mut fewest = None;
         for place in 0..self.tests.len() {
@@ -195,16 +208,21 @@ impl Join<'_> {
         bound: usize,
         found: &mut Vec<Rows>,
     ) -> Result<(), EvalRefusal>
-        requires join { IsJoin self.now.instance.now.schema self.now.instance.now.tables self.now.tests.now self.now.stages self.now.counts }
+        requires join { IsJoin self.now.instance.now.schema self.now.instance.now.tables self.now.tests.now
+            self.now.stages self.now.counts }
         requires indexed { AreIndexes self.now.instance.now.tables self.now.counts self.now.tests.now self.now.indexes }
         requires choice { IsTuple choice.old self.now.counts }
         requires bound { bound ≤ length self.now.counts }
         requires few { length found.old.items ≤ 1000000 }
-        ensures found { OnOk result (found.new.items ≡ found.old.items ++ found_from self.now.instance.now.tables self.now.tests.now self.now.counts (drop bound self.now.counts) (take bound choice.old)) }
+        ensures found { OnOk result (found.new.items ≡ found.old.items
+            ++ found_from self.now.instance.now.tables self.now.tests.now self.now.counts (drop bound self.now.counts)
+            (take bound choice.old)) }
         ensures few { OnOk result (length found.new.items ≤ 1000000) }
         ensures choice { IsTuple choice.new self.now.counts }
         ensures kept { take bound choice.new ≡ take bound choice.old }
-        ensures refused { IfErr result (TellsOver self.now.entity (length found.old.items + length (found_from self.now.instance.now.tables self.now.tests.now self.now.counts (drop bound self.now.counts) (take bound choice.old)))) }
+        ensures refused { IfErr result (TellsOver self.now.entity
+            (length found.old.items + length (found_from self.now.instance.now.tables self.now.tests.now self.now.counts
+            (drop bound self.now.counts) (take bound choice.old)))) }
     {
         if bound >= self.counts.len() {
             return self.keep(alloc, choice, found);
@@ -230,17 +248,23 @@ impl Join<'_> {
         rows: &[u32],
         found: &mut Vec<Rows>,
     ) -> Result<(), EvalRefusal>
-        requires join { IsJoin self.now.instance.now.schema self.now.instance.now.tables self.now.tests.now self.now.stages self.now.counts }
+        requires join { IsJoin self.now.instance.now.schema self.now.instance.now.tables self.now.tests.now
+            self.now.stages self.now.counts }
         requires indexed { AreIndexes self.now.instance.now.tables self.now.counts self.now.tests.now self.now.indexes }
         requires choice { IsTuple choice.old self.now.counts }
         requires bound { bound < length self.now.counts }
-        requires cover { IsCover self.now.instance.now.tables self.now.tests.now self.now.counts (take bound choice.old) (slice_index self.now.counts bound) rows.now }
+        requires cover { IsCover self.now.instance.now.tables self.now.tests.now self.now.counts (take bound choice.old)
+            (slice_index self.now.counts bound) rows.now }
         requires few { length found.old.items ≤ 1000000 }
-        ensures found { OnOk result (found.new.items ≡ found.old.items ++ found_from self.now.instance.now.tables self.now.tests.now self.now.counts (drop bound self.now.counts) (take bound choice.old)) }
+        ensures found { OnOk result (found.new.items ≡ found.old.items
+            ++ found_from self.now.instance.now.tables self.now.tests.now self.now.counts (drop bound self.now.counts)
+            (take bound choice.old)) }
         ensures few { OnOk result (length found.new.items ≤ 1000000) }
         ensures choice { IsTuple choice.new self.now.counts }
         ensures kept { take bound choice.new ≡ take bound choice.old }
-        ensures refused { IfErr result (TellsOver self.now.entity (length found.old.items + length (found_from self.now.instance.now.tables self.now.tests.now self.now.counts (drop bound self.now.counts) (take bound choice.old)))) }
+        ensures refused { IfErr result (TellsOver self.now.entity
+            (length found.old.items + length (found_from self.now.instance.now.tables self.now.tests.now self.now.counts
+            (drop bound self.now.counts) (take bound choice.old)))) }
     {
         for row in rows {
             if let Err(refusal) = self.extend_by(alloc, choice, bound, *row, found) {
@@ -260,17 +284,22 @@ impl Join<'_> {
         row: u32,
         found: &mut Vec<Rows>,
     ) -> Result<(), EvalRefusal>
-        requires join { IsJoin self.now.instance.now.schema self.now.instance.now.tables self.now.tests.now self.now.stages self.now.counts }
+        requires join { IsJoin self.now.instance.now.schema self.now.instance.now.tables self.now.tests.now
+            self.now.stages self.now.counts }
         requires indexed { AreIndexes self.now.instance.now.tables self.now.counts self.now.tests.now self.now.indexes }
         requires choice { IsTuple choice.old self.now.counts }
         requires bound { bound < length self.now.counts }
         requires row { row < slice_index self.now.counts bound }
         requires few { length found.old.items ≤ 1000000 }
-        ensures found { OnOk result (found.new.items ≡ found.old.items ++ found_by self.now.instance.now.tables self.now.tests.now self.now.counts (drop (bound + 1) self.now.counts) (take bound choice.old ++ row ∷ [])) }
+        ensures found { OnOk result (found.new.items ≡ found.old.items
+            ++ found_by self.now.instance.now.tables self.now.tests.now self.now.counts
+            (drop (bound + 1) self.now.counts) (take bound choice.old ++ row ∷ [])) }
         ensures few { OnOk result (length found.new.items ≤ 1000000) }
         ensures choice { IsTuple choice.new self.now.counts }
         ensures kept { take bound choice.new ≡ take bound choice.old }
-        ensures refused { IfErr result (TellsOver self.now.entity (length found.old.items + length (found_by self.now.instance.now.tables self.now.tests.now self.now.counts (drop (bound + 1) self.now.counts) (take bound choice.old ++ row ∷ [])))) }
+        ensures refused { IfErr result (TellsOver self.now.entity
+            (length found.old.items + length (found_by self.now.instance.now.tables self.now.tests.now self.now.counts
+            (drop (bound + 1) self.now.counts) (take bound choice.old ++ row ∷ [])))) }
     {
         // A length fits, and so does the number behind one that is less.
         let _width = self.counts.len();
@@ -283,12 +312,15 @@ impl Join<'_> {
 
     /// All answers, in lexicographic order.
     pub(crate) fn answers(&self, alloc: Global) -> Result<Vec<Rows>, EvalRefusal>
-        requires join { IsJoin self.now.instance.now.schema self.now.instance.now.tables self.now.tests.now self.now.stages self.now.counts }
+        requires join { IsJoin self.now.instance.now.schema self.now.instance.now.tables self.now.tests.now
+            self.now.stages self.now.counts }
         requires indexed { AreIndexes self.now.instance.now.tables self.now.counts self.now.tests.now self.now.indexes }
         requires rows { list_any (λ count. count == 0) self.now.counts ≡ false }
-        ensures answers { IfOk result (λ found. found.items ≡ answers_with self.now.instance.now.tables self.now.tests.now self.now.counts) }
+        ensures answers { IfOk result (λ found. found.items ≡ answers_with self.now.instance.now.tables
+            self.now.tests.now self.now.counts) }
         ensures few { IfOk result (λ found. length found.items ≤ 1000000) }
-        ensures refused { IfErr result (TellsOver self.now.entity (length (answers_with self.now.instance.now.tables self.now.tests.now self.now.counts))) }
+        ensures refused { IfErr result (TellsOver self.now.entity
+            (length (answers_with self.now.instance.now.tables self.now.tests.now self.now.counts))) }
     {
         let mut choice = Choice::first(alloc, self.counts.as_slice())?;
         let mut found = Vec::new(alloc);

@@ -25,7 +25,8 @@ fn named_rows(
     choice: &Choice,
     terms: &[EntTerm],
 ) -> Result<Rows, AllocError>
-    requires { (n : ℕ) (t : EntTerm) → slice_get terms.now n ≡ Some t → (entity : ℕ) × IsEntTermOf instance.now.schema instance.now.tables (map AtRow choice.now) t entity }
+    requires { (n : ℕ) (t : EntTerm) → slice_get terms.now n ≡ Some t → (entity : ℕ)
+        × IsEntTermOf instance.now.schema instance.now.tables (map AtRow choice.now) t entity }
     ensures { IfOk result (λ rows. rows ≡ map (row_of instance.now.tables (map AtRow choice.now)) terms.now) }
 {
     let standings = choice.standings();
@@ -44,9 +45,11 @@ fn place_at(
     rows: &[u32],
     target: &Answers,
 ) -> Result<u32, AllocError>
-    requires typed { (n : ℕ) (t : EntTerm) → slice_get terms.now n ≡ Some t → (entity : ℕ) × IsEntTermOf instance.now.schema instance.now.tables (map AtRow rows.now) t entity }
+    requires typed { (n : ℕ) (t : EntTerm) → slice_get terms.now n ≡ Some t → (entity : ℕ)
+        × IsEntTermOf instance.now.schema instance.now.tables (map AtRow rows.now) t entity }
     requires few { length target.now ≤ 1000000 }
-    ensures { IfOk result (λ place. place ≡ place_in target.now (map (row_of instance.now.tables (map AtRow rows.now)) terms.now)) }
+    ensures { IfOk result (λ place. place ≡ place_in target.now
+        (map (row_of instance.now.tables (map AtRow rows.now)) terms.now)) }
 {
     let choice = Choice::of(alloc, rows)?;
     let named = named_rows(alloc, instance, &choice, terms)?;
@@ -61,10 +64,12 @@ fn key_column(
     source: &Answers,
     target: &Answers,
 ) -> Result<Seq<u32>, AllocError>
-    requires typed { (place : ℕ) (rows : List ℕ) → slice_get source.now place ≡ Some rows → (n : ℕ) (t : EntTerm) → slice_get terms.now n ≡ Some t
+    requires typed { (place : ℕ) (rows : List ℕ) → slice_get source.now place ≡ Some rows → (n : ℕ) (t : EntTerm)
+        → slice_get terms.now n ≡ Some t
         → (entity : ℕ) × IsEntTermOf instance.now.schema instance.now.tables (map AtRow rows) t entity }
     requires few { length target.now ≤ 1000000 }
-    ensures { IfOk result (λ column. column ≡ map (λ rows. place_in target.now (map (row_of instance.now.tables (map AtRow rows)) terms.now)) source.now) }
+    ensures { IfOk result (λ column. column ≡ map (λ rows. place_in target.now
+        (map (row_of instance.now.tables (map AtRow rows)) terms.now)) source.now) }
 {
     let mut column = Vec::with_capacity(alloc, source.len())?;
     for place in 0..source.len() {
@@ -91,9 +96,11 @@ pub(crate) fn key_columns(
     answers: &[Answers],
 ) -> Result<Seq<Seq<u32>>, AllocError>
     requires over { instance.now.schema ≡ query.now.source }
-    requires answers { answers.now ≡ map (answers_of query.now instance.now.tables) (below (length query.now.target.entities)) }
+    requires answers { answers.now ≡ map (answers_of query.now instance.now.tables)
+        (below (length query.now.target.entities)) }
     requires few { All (λ answers. length answers ≤ 1000000) answers.now }
-    ensures { IfOk result (λ columns. columns ≡ map (made_keys query.now instance.now.tables) (enumerate_from 0 query.now.target.keys)) }
+    ensures { IfOk result (λ columns. columns ≡ map (made_keys query.now instance.now.tables)
+        (enumerate_from 0 query.now.target.keys)) }
 {
     query.is_well_sorted();
     let keys = query.target.keys.as_slice();

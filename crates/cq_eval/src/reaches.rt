@@ -1,6 +1,7 @@
 //! How many variables a where equation needs.
 ghost use Rattle.std.specs.Prelude.{◌≡◌, IfOk, map};
-ghost use Rattle.cq_eval.specs.Testing.{reach_of_entity as entity_reach, reach_of as type_reach, reach as equation_reach, stage};
+ghost use Rattle.cq_eval.specs.Testing.{reach_of_entity as entity_reach, reach_of as type_reach};
+ghost use Rattle.cq_eval.specs.Testing.{reach as equation_reach, stage};
 
 use cq_base::Seq;
 use cq_theory::{EntTerm, Equation, TypeTerm};

@@ -86,9 +86,11 @@ pub(crate) fn all_answers(
     instance: &Instance,
 ) -> Result<Vec<Answers>, EvalRefusal>
     requires over { instance.now.schema ≡ query.now.source }
-    ensures answers { IfOk result (λ made. made.items ≡ map (answers_of query.now instance.now.tables) (below (length query.now.target.entities))) }
+    ensures answers { IfOk result (λ made. made.items ≡ map (answers_of query.now instance.now.tables)
+        (below (length query.now.target.entities))) }
     ensures few { IfOk result (λ made. All (λ answers. length answers ≤ 1000000) made.items) }
-    ensures refused { IfErr result (TellsFirst (length query.now.target.entities) (λ entity. length (answers_of query.now instance.now.tables entity))) }
+    ensures refused { IfErr result (TellsFirst (length query.now.target.entities)
+        (λ entity. length (answers_of query.now instance.now.tables entity))) }
 {
     query.target.is_well_sorted();
     let count = query.target.entities.len();

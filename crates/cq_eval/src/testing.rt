@@ -78,7 +78,8 @@ pub(crate) fn passes_test(
     bound: usize,
 ) -> Result<bool, AllocError>
     requires { IsTestAt instance.now.schema instance.now.tables choice.now test.now }
-    ensures { IfOk result (λ passes. passes ≡ (not (stage == bound) || holds_at instance.now.tables choice.now test.now)) }
+    ensures { IfOk result (λ passes. passes ≡ (not (stage == bound)
+        || holds_at instance.now.tables choice.now test.now)) }
 {
     if stage != bound {
         return Ok(true);

@@ -40,8 +40,10 @@ HandsTo files before now (Err put.Memory) = StopsEarly files before now
 -- Each exporter took all the files of its format and is in the second list, or failed and is in the third, in their order.
 pub data Hands (files : Files) : List Account → List Account → List Account → Type 0 where
   nobody : Hands files [] [] []
-  took : (before now : Account) (rest done moved : List Account) → Takes (files_in files before.format) before now → Hands files rest done moved → Hands files (before ∷ rest) (now ∷ done) moved
-  failed : (before now : Account) (rest done moved : List Account) → Fails (files_in files before.format) before now → Hands files rest done moved → Hands files (before ∷ rest) done (now ∷ moved)
+  took : (before now : Account) (rest done moved : List Account) → Takes (files_in files before.format) before now
+      → Hands files rest done moved → Hands files (before ∷ rest) (now ∷ done) moved
+  failed : (before now : Account) (rest done moved : List Account) → Fails (files_in files before.format) before now
+      → Hands files rest done moved → Hands files (before ∷ rest) done (now ∷ moved)
 
 -- all exporters took their files
 pub record AllTake (files : Files) (asked new_exporters old_spoiled new_spoiled : List Account) : Type 0 where

@@ -1,6 +1,7 @@
 //! Handing files to exporters in turn.
 
-ghost use Rattle.std.specs.Prelude.{◌≡◌, ◌++◌, ◌∷◌, [], ◌≤◌, ◌+◌, map, vec_len, vec_capacity, OnOk, OnErr, IsErrOf, false};
+ghost use Rattle.std.specs.Prelude.{◌≡◌, ◌++◌, ◌∷◌, [], ◌≤◌, ◌+◌, map, vec_len, vec_capacity, OnOk, OnErr, IsErrOf};
+ghost use Rattle.std.specs.Prelude.{false};
 ghost use Rattle.cq_export.specs.Files.{files_in};
 ghost use Rattle.cq_export.specs.Handing.{HandsOver, HandsTo};
 ghost use Rattle.cq_export.specs.Held.{files_held};
@@ -30,7 +31,8 @@ pub fn hand_over(
     files: &FileLists,
 ) -> Handed
     requires { vec_len spoiled.old + vec_len exporters.old ≤ vec_capacity spoiled.old }
-    ensures { HandsOver (files_held files.now) (map account exporters.old.items) (map account exporters.new.items) (map account spoiled.old.items) (map account spoiled.new.items) result }
+    ensures { HandsOver (files_held files.now) (map account exporters.old.items) (map account exporters.new.items)
+        (map account spoiled.old.items) (map account spoiled.new.items) result }
 {
     let spoiled_before = spoiled.len();
     let mut at = 0;
@@ -51,7 +53,8 @@ pub fn hand_over(
 
 /// Hands one exporter the files of its format.
 fn hand_files(exporter: &mut Box<dyn Exporter>, files: &FileLists) -> Result<(), PutRefusal>
-    ensures { HandsTo (files_in (files_held files.now) (account exporter.old).format) (account exporter.old) (account exporter.new) result }
+    ensures { HandsTo (files_in (files_held files.now) (account exporter.old).format) (account exporter.old)
+        (account exporter.new) result }
 {
     let format = format_of(exporter);
     hand_to(exporter, files.of(format))
@@ -78,7 +81,8 @@ fn put_to(exporter: &mut Box<dyn Exporter>, file: &(String, Vec<u8>)) -> Result<
     ensures ok { OnOk result ((account exporter.new).held ≡ (account exporter.old).held ++ file_of file.now ∷ []) }
     ensures err { OnErr result ((account exporter.new).held ≡ (account exporter.old).held) }
     ensures later { (account exporter.old).faults ≤ (account exporter.new).faults }
-    ensures failed { IsErrOf result PutRefusal.Failed → Rose (account exporter.old).faults (account exporter.new).faults }
+    ensures failed { IsErrOf result PutRefusal.Failed
+        → Rose (account exporter.old).faults (account exporter.new).faults }
     ensures steady { (account exporter.new).steady ≡ (account exporter.old).steady }
     ensures fails { IsErrOf result PutRefusal.Failed → (account exporter.old).steady ≡ false }
 {

@@ -1,5 +1,6 @@
 -- The state of a closure that is being made.
-use Rattle.std.specs.Prelude.{◌≡◌, ◌≢◌, ℕ, zero, suc, ◌+◌, ◌<◌, ◌↔◌, ◌⊎◌, List, [], length, Option, Some, None, Contains, slice_get, slice_index, slice_index_or, if◌then◌else◌, ◌==◌}
+use Rattle.std.specs.Prelude.{◌≡◌, ◌≢◌, ℕ, zero, suc, ◌+◌, ◌<◌, ◌↔◌, ◌⊎◌, List, [], length, Option, Some, None, Contains, slice_get}
+use Rattle.std.specs.Prelude.{slice_index, slice_index_or, if◌then◌else◌, ◌==◌}
 use Rattle.cq_flat.specs.declared.node.Node.{Node}
 use Rattle.cq_flat.specs.declared.node.Node.TheVariants.{Fun}
 use Rattle.cq_flat.specs.Congruence.{Congruent}
@@ -10,7 +11,8 @@ use Rattle.cq_flat.specs.Partition.{Has}
 pub record AreExact (nodes : List Node) (equations : List (ℕ × ℕ)) (classes : List ℕ) : Type 0 where
   pub count : length classes ≡ length nodes
   pub within : (a : ℕ) → a < length nodes → slice_index classes a < length nodes
-  pub exact : (a b : ℕ) → a < length nodes → b < length nodes → (slice_index classes a ≡ slice_index classes b) ↔ Congruent nodes equations a b
+  pub exact : (a b : ℕ) → a < length nodes → b < length nodes
+      → (slice_index classes a ≡ slice_index classes b) ↔ Congruent nodes equations a b
 
 -- two of the first n nodes are in one class, or come into one when the pairs that wait are joined
 pub data Joined (n : ℕ) (class : ℕ → ℕ) (pending : List (ℕ × ℕ)) : ℕ → ℕ → Type 0 where
@@ -45,7 +47,8 @@ module _ (nodes : List Node) where
       pub pairs : (a b : ℕ) → Contains pending (a, b) → Congruent nodes equations a b
 
   -- some nodes are put into the table at their keys; what is found there waits
-  pub record Enters (class : ℕ → ℕ) (entered : ℕ → Type 0) (table table' : List (List ℕ × ℕ)) (pending pending' : List (ℕ × ℕ)) : Type 0 where
+  pub record Enters (class : ℕ → ℕ) (entered : ℕ → Type 0) (table table' : List (List ℕ × ℕ)) (pending pending' : List (ℕ × ℕ))
+      : Type 0 where
     pub sound : (equations : List (ℕ × ℕ)) → IsSound equations class table pending → IsSound equations class table' pending'
     pub kept : (a b : ℕ) → Contains pending (a, b) → Contains pending' (a, b)
     pub tabled : (a : ℕ) → entered a ⊎ IsTabled class table pending a → IsTabled class table' pending' a

@@ -1,5 +1,6 @@
 -- The constants of classes.
-use Rattle.std.specs.Prelude.{◌≡◌, ℕ, ◌<◌, ◌⊎◌, Bool, true, List, length, Option, Some, None, MatchOption, slice_get, slice_index, slice_index_or, if◌then◌else◌, ◌&&◌}
+use Rattle.std.specs.Prelude.{◌≡◌, ℕ, ◌<◌, ◌⊎◌, Bool, true, List, length, Option, Some, None, MatchOption, slice_get, slice_index}
+use Rattle.std.specs.Prelude.{slice_index_or, if◌then◌else◌, ◌&&◌}
 use Rattle.std.specs.Ordering.{is_gt, ordering_then}
 use Rattle.cq_theory.specs.declared.constant.Con.{Con}
 use Rattle.cq_theory.specs.Constant.{con_cmp, IsLesser, IsAtMost}
@@ -14,7 +15,8 @@ module _ (nodes : List Node) (classes : List ℕ) where
   -- the least constant of the class among the first n nodes, if there is one
   pub record IsLeastOf (n class : ℕ) (o : Option Con) : Type 0 where
     pub held : (c : Con) → o ≡ Some c → IsConstantOf class c
-    pub least : (node : ℕ) (c : Con) → node < n → slice_get nodes node ≡ Some (Const c) → slice_index classes node ≡ class → (d : Con) × (o ≡ Some d) × IsAtMost d c
+    pub least : (node : ℕ) (c : Con) → node < n → slice_get nodes node ≡ Some (Const c) → slice_index classes node ≡ class → (d : Con)
+        × (o ≡ Some d) × IsAtMost d c
 
   pub record AreLeast (n : ℕ) (all : List (Option Con)) : Type 0 where
     pub count : length all ≡ length nodes

@@ -28,5 +28,6 @@ pub record IsClosing (nodes : List Node) (equations : List (ℕ × ℕ)) (s : Cl
 pub record Merges (nodes : List Node) (old new : Closing) (from to : ℕ) : Type 0 where
   pub classes : new.classes.items ≡ map (joined from to) old.classes.items
   pub partition : IsPartition new.classes.items new.members
-  pub uses : new.uses ≡ slice_set (slice_set old.uses from []) to (slice_index_or (slice_set old.uses from []) to [] ++ slice_index_or old.uses from [])
+  pub uses : new.uses ≡ slice_set (slice_set old.uses from []) to
+      (slice_index_or (slice_set old.uses from []) to [] ++ slice_index_or old.uses from [])
   pub entered : Enters nodes (class_in new) (Has (slice_index_or old.uses from [])) old.table new.table old.pending.items new.pending.items

@@ -1,5 +1,6 @@
 //! Classes of nodes, which are joined.
-ghost use Rattle.std.specs.Prelude.{◌≡◌, ◌≢◌, ◌<◌, ℕ, [], ◌++◌, length, map, IfOk, OnOk, slice_index, slice_index_or, slice_set};
+ghost use Rattle.std.specs.Prelude.{◌≡◌, ◌≢◌, ◌<◌, ℕ, [], ◌++◌, length, map, IfOk, OnOk, slice_index, slice_index_or};
+ghost use Rattle.std.specs.Prelude.{slice_set};
 ghost use Rattle.std.specs.List.{range_with_len};
 ghost use Rattle.cq_flat.specs.Partition.{Has, IsPartition, joined};
 
@@ -46,7 +47,8 @@ fn relabel(classes: &mut Vec<u64>, moved: &[u64], to: u64)
     requires { (x : ℕ) → Has moved.now x → x < length classes.old.items }
     ensures count { length classes.new.items ≡ length classes.old.items }
     ensures moved { (x : ℕ) → Has moved.now x → slice_index classes.new.items x ≡ to }
-    ensures others { (x : ℕ) → (Has moved.now x → ⊥) → slice_index classes.new.items x ≡ slice_index classes.old.items x }
+    ensures others { (x : ℕ) → (Has moved.now x → ⊥)
+        → slice_index classes.new.items x ≡ slice_index classes.old.items x }
 {
     for node in moved {
         classes[*node as usize] = to;

@@ -68,7 +68,8 @@ impl Closing {
         requires left { left < length nodes.now }
         requires right { right < length nodes.now }
         requires differ { left ≢ right }
-        ensures { OnOk result (Merges nodes.now self.old self.new left right ⊎ Merges nodes.now self.old self.new right left) }
+        ensures { OnOk result (Merges nodes.now self.old self.new left right
+            ⊎ Merges nodes.now self.old self.new right left) }
     {
         if self.members.get(left).len() < self.members.get(right).len() {
             self.join(alloc, nodes, left, right)?;

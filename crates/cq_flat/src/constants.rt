@@ -1,5 +1,6 @@
 //! The constants of classes.
-ghost use Rattle.std.specs.Prelude.{◌≡◌, ◌<◌, ℕ, length, All, IfOk, OnOk, Some, None, slice_index, slice_index_or, slice_set};
+ghost use Rattle.std.specs.Prelude.{◌≡◌, ◌<◌, ℕ, length, All, IfOk, OnOk, Some, None, slice_index, slice_index_or};
+ghost use Rattle.std.specs.Prelude.{slice_set};
 ghost use Rattle.std.specs.Ordering.{is_gt, ordering_then};
 ghost use Rattle.cq_theory.specs.Constant.{con_cmp};
 ghost use Rattle.cq_flat.specs.Constants.{AreLeast, IsExcess, lesser, is_replaced, lesser_clash};
@@ -30,7 +31,8 @@ pub fn least_constants(
 
 fn lower(least: &mut Vec<Option<Con>>, class: u64, constant: &Con) -> Result<(), AllocError>
     requires { class < length least.old.items }
-    ensures { OnOk result (least.new.items ≡ slice_set least.old.items class (Some (lesser (slice_index_or least.old.items class None) constant.now))) }
+    ensures { OnOk result (least.new.items ≡ slice_set least.old.items class
+        (Some (lesser (slice_index_or least.old.items class None) constant.now))) }
 {
     let lesser = lesser_of(&least[class as usize], constant)?;
     least[class as usize] = Some(lesser);

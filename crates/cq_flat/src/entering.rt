@@ -68,7 +68,8 @@ pub fn enter(
     requires arguments { HasEarlierArguments nodes.now }
     requires count { length classes.now ≡ length nodes.now }
     requires node { node < length nodes.now }
-    ensures { OnOk result (Enters nodes.now (slice_index classes.now) (λ a. a ≡ node) table.old table.new pending.old.items pending.new.items) }
+    ensures { OnOk result (Enters nodes.now (slice_index classes.now)
+        (λ a. a ≡ node) table.old table.new pending.old.items pending.new.items) }
 {
     let Some(key) = key(alloc, classes, &nodes[node as usize])? else {
         return Ok(());
@@ -91,7 +92,8 @@ pub fn enter_all(
     requires arguments { HasEarlierArguments nodes.now }
     requires count { length classes.now ≡ length nodes.now }
     requires entered { (a : ℕ) → Has entered.now a → a < length nodes.now }
-    ensures { OnOk result (Enters nodes.now (slice_index classes.now) (Has entered.now) table.old table.new pending.old.items pending.new.items) }
+    ensures { OnOk result (Enters nodes.now (slice_index classes.now) (Has entered.now) table.old table.new
+        pending.old.items pending.new.items) }
 {
     for node in entered {
         enter(alloc, nodes, classes, table, pending, *node)?;

@@ -48,7 +48,11 @@ fn entry(
     requires plain { All IsPlain values.now }
     requires node { node < length values.now }
     requires args { All (λ arg. arg < length values.now) args.now }
-    ensures { IfOk result (λ entry. entry ≡ record { function = function; args = map (value_at values.now) args.now; value = value_at values.now node }) }
+    ensures { IfOk result (λ entry. entry ≡ record {
+      function = function;
+      args = map (value_at values.now) args.now;
+      value = value_at values.now node;
+    }) }
 {
     let mut list = Vec::with_capacity(alloc, args.len())?;
     for arg in args {

@@ -30,7 +30,12 @@ impl Model for Flat {
 
     ghost coded = { Prim.hlevel (codes, value.the_row.coded) };
 
-    ghost view = { λ flat. record { values = flat.values; nulls = flat.nulls; entries = flat.entries; clash = flat.clash } };
+    ghost view = { λ flat. record {
+      values = flat.values;
+      nulls = flat.nulls;
+      entries = flat.entries;
+      clash = flat.clash;
+    } };
 }
 
 impl Flat {

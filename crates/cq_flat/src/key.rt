@@ -119,7 +119,8 @@ impl Table {
     /// Puts a node at a key, and gives the node that was there.
     pub fn put(&mut self, key: Key, node: u64) -> Result<Option<u64>, AllocError>
         ensures earlier { IfOk result (λ earlier. earlier ≡ found self.old key) }
-        ensures put { OnOk result ((q : List ℕ) → found self.new q ≡ (if same_key key q then Some node else found self.old q)) }
+        ensures put { OnOk result ((q : List ℕ) → found self.new q
+            ≡ (if same_key key q then Some node else found self.old q)) }
     {
         Ok(self.nodes.insert(key, node)?)
     }

@@ -40,7 +40,8 @@ fn label_of(
     node: u64,
 ) -> Result<u64, AllocError>
     requires { class < length labels.old.items }
-    ensures { IfOk result (λ label. GivesLabel labels.old.items labels.new.items nulls.old.items nulls.new.items class node label) }
+    ensures { IfOk result (λ label. GivesLabel labels.old.items labels.new.items nulls.old.items nulls.new.items class
+        node label) }
 {
     if let Some(label) = labels[class as usize] {
         return Ok(label);

@@ -1,5 +1,6 @@
 //! A list of numbers for each of some numbers.
-ghost use Rattle.std.specs.Prelude.{◌≡◌, ◌<◌, ℕ, [], ◌∷◌, ◌++◌, length, IfOk, OnOk, replicate, slice_index_or, slice_set};
+ghost use Rattle.std.specs.Prelude.{◌≡◌, ◌<◌, ℕ, [], ◌∷◌, ◌++◌, length, IfOk, OnOk, replicate, slice_index_or};
+ghost use Rattle.std.specs.Prelude.{slice_set};
 
 use smallvec::SmallVec;
 use std::alloc::{AllocError, Global};

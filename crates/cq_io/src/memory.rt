@@ -1,6 +1,7 @@
 //! A folder, a sink and exporters in memory, for tests. Each is told which of its calls fail.
 
-ghost use Rattle.std.specs.Prelude.{◌≡◌, ◌++◌, ◌∷◌, [], ◌≤◌, ℕ, List, map, IfOk, OnOk, OnErr, IfErr, Some, vec_len, vec_capacity};
+ghost use Rattle.std.specs.Prelude.{◌≡◌, ◌++◌, ◌∷◌, [], ◌≤◌, ℕ, List, map, IfOk, OnOk, OnErr, IfErr, Some, vec_len};
+ghost use Rattle.std.specs.Prelude.{vec_capacity};
 ghost use Rattle.cq_io.specs.Content.{file_of, find_file};
 ghost use Rattle.cq_io.specs.Failing.{is_empty, spare_room};
 ghost use Rattle.std.specs.Option.{option_copied};
@@ -168,7 +169,8 @@ pub struct MemExporter {
 impl MemExporter {
     /// An exporter that took no file yet.
     pub fn new(alloc: Global, format: Format, failing: Vec<u64>) -> Result<MemExporter, AllocError>
-        ensures { IfOk result (λ exporter. ⟦<MemExporter as Exporter>⟧.account exporter ≡ record { format = format; held = []; steady = is_empty failing.items; faults = 0 }) }
+        ensures { IfOk result (λ exporter. ⟦<MemExporter as Exporter>⟧.account exporter
+            ≡ record { format = format; held = []; steady = is_empty failing.items; faults = 0 }) }
     {
         Ok(MemExporter {
             alloc,
@@ -182,7 +184,12 @@ impl MemExporter {
 }
 
 impl Exporter for MemExporter {
-    ghost account = { λ s. record { format = s.format; held = map file_of s.kept.items; steady = is_empty s.failing.items; faults = s.faults } };
+    ghost account = { λ s. record {
+      format = s.format;
+      held = map file_of s.kept.items;
+      steady = is_empty s.failing.items;
+      faults = s.faults;
+    } };
 
     fn format(&self) -> Format {
         self.format

@@ -1,6 +1,7 @@
 //! The real folder, sink and exporter: the working directory, standard output, and folders of files.
 
-ghost use Rattle.std.specs.Prelude.{◌≡◌, ◌≤◌, ◌<◌, ◌++◌, [], ℕ, List, None, map, codes, string_bytes, IfOk, IsErrOf, vec_len, Bool, false};
+ghost use Rattle.std.specs.Prelude.{◌≡◌, ◌≤◌, ◌<◌, ◌++◌, [], ℕ, List, None, map, codes, string_bytes, IfOk, IsErrOf};
+ghost use Rattle.std.specs.Prelude.{vec_len, Bool, false};
 ghost use Rattle.std.specs.declared.option.Option.{Option};
 ghost use Rattle.cq_io.specs.Counts.{Rose};
 ghost use Rattle.cq_io.specs.Content.{file_of, path_of};
@@ -150,7 +151,8 @@ impl<R: Files + Drop> DirExporter<R> {
         format: Format,
         dir: &str,
     ) -> Result<DirExporter<R>, AllocError>
-        ensures { IfOk result (λ exporter. ⟦<DirExporter<R> as Exporter>⟧.account exporter ≡ record { format = format; held = []; steady = false; faults = 0 }) }
+        ensures { IfOk result (λ exporter. ⟦<DirExporter<R> as Exporter>⟧.account exporter
+            ≡ record { format = format; held = []; steady = false; faults = 0 }) }
     {
         Ok(DirExporter {
             rt,
@@ -164,7 +166,12 @@ impl<R: Files + Drop> DirExporter<R> {
 }
 
 impl<R: Files + Drop> Exporter for DirExporter<R> {
-    ghost account = { λ s. record { format = s.format; held = map file_of s.kept.items; steady = false; faults = s.faults } };
+    ghost account = { λ s. record {
+      format = s.format;
+      held = map file_of s.kept.items;
+      steady = false;
+      faults = s.faults;
+    } };
 
     fn format(&self) -> Format {
         self.format

@@ -1,5 +1,6 @@
 -- What stands at the front of bytes, computed: the form of the lexical rules that the code's steps are tied to.
-use Rattle.std.specs.Prelude.{◌≡◌, ◌≤◌, ◌-◌, ℕ, List, [], ◌∷◌, ◌++◌, length, take, drop, Bool, true, false, Option, Some, None, nat_eq, nat_lt, if◌then◌else◌, ◌&&◌, Result, Ok, Err}
+use Rattle.std.specs.Prelude.{◌≡◌, ◌≤◌, ◌-◌, ℕ, List, [], ◌∷◌, ◌++◌, length, take, drop, Bool, true, false, Option, Some, None, nat_eq}
+use Rattle.std.specs.Prelude.{nat_lt, if◌then◌else◌, ◌&&◌, Result, Ok, Err}
 use Rattle.std.specs.List.{prefix_len}
 use Rattle.std.specs.Str.{is_utf8}
 use Rattle.cq_base.specs.declared.name.Name.{Name}
@@ -82,7 +83,8 @@ abbrev pub at_text : Content → List ℕ → Found
 at_text Open at = Fails OpenText at
 at_text (Wrong bad) at = Fails BadByte bad
 at_text (Closed content rest) at =
-    if is_utf8 content then (if nat_lt 255 (length content) then Fails LongName at else Next (kinds.Text content) rest) else Fails BadByte at
+    if is_utf8 content then (if nat_lt 255 (length content) then Fails LongName at else Next (kinds.Text content) rest)
+    else Fails BadByte at
 
 abbrev pub at_block : Option (List ℕ) → List ℕ → Found
 at_block None at = Fails OpenComment at
@@ -92,7 +94,8 @@ at_block (Some rest) at = Gap rest
 abbrev pub at_slash : List ℕ → List ℕ → Found
 at_slash [] at = Fails BadByte at
 at_slash (c ∷ cs) at =
-    if nat_eq c 47 then Gap (drop (prefix_len stays_on_line cs) cs) else (if nat_eq c 42 then at_block (behind_block cs) at else Fails BadByte at)
+    if nat_eq c 47 then Gap (drop (prefix_len stays_on_line cs) cs)
+    else (if nat_eq c 42 then at_block (behind_block cs) at else Fails BadByte at)
 
 -- behind a minus
 abbrev pub at_minus : List ℕ → List ℕ → Found

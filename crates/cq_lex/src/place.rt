@@ -40,7 +40,8 @@ pub(crate) fn advance(place: Place, bytes: &[u8], rest: &[u8]) -> Place
     requires line { place.line + length bytes.now < 2 ^ 31 }
     requires col { place.col + length bytes.now < 2 ^ 31 }
     requires inside { length rest.now ≤ length bytes.now }
-    ensures { (before : List ℕ) → place ≡ place_behind before → result ≡ place_behind (before ++ found.passed bytes.now rest.now) }
+    ensures { (before : List ℕ) → place ≡ place_behind before
+        → result ≡ place_behind (before ++ found.passed bytes.now rest.now) }
 {
     let mut here = place;
     for byte in &bytes[..bytes.len() - rest.len()] {

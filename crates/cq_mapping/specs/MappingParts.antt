@@ -1,5 +1,6 @@
 -- The first fault of the parts of a mapping, and the mapping that they give.
-use Rattle.std.specs.Prelude.{ℕ, Bool, true, false, not, List, [], ◌∷◌, ◌==◌, ◌&&◌, ◌||◌, if◌then◌else◌, map, length, slice_get, slice_index, Option, Some, None, is_none, nat_lt, option_map, option_and_then}
+use Rattle.std.specs.Prelude.{ℕ, Bool, true, false, not, List, [], ◌∷◌, ◌==◌, ◌&&◌, ◌||◌, if◌then◌else◌, map, length, slice_get}
+use Rattle.std.specs.Prelude.{slice_index, Option, Some, None, is_none, nat_lt, option_map, option_and_then}
 use Rattle.cq_base.specs.declared.name.Name.{Name}
 use Rattle.cq_base.specs.Names.{number_of}
 use Rattle.cq_theory.specs.declared.lookup.Symbol.{Symbol}
@@ -9,7 +10,8 @@ use Rattle.cq_theory.specs.declared.lookup.TermRefusal.TheVariants as term_refus
 use Rattle.cq_theory.specs.declared.lookup.TheoryRefusal.{TheoryRefusal}
 use Rattle.cq_theory.specs.declared.lookup.TheoryRefusal.TheVariants as theory_refusal
 use Rattle.cq_theory.specs.declared.lookup.ArrowRefusal.{ArrowRefusal}
-use Rattle.cq_theory.specs.declared.lookup.ArrowRefusal.TheVariants.{Duplicate, Unknown, WrongCount, WrongSort, Reserved, TooLarge, Missing, Memory}
+use Rattle.cq_theory.specs.declared.lookup.ArrowRefusal.TheVariants.{Duplicate, Unknown, WrongCount, WrongSort, Reserved, TooLarge, Missing}
+use Rattle.cq_theory.specs.declared.lookup.ArrowRefusal.TheVariants.{Memory}
 use Rattle.cq_theory.specs.declared.parts.MappingParts.{MappingParts}
 use Rattle.cq_theory.specs.declared.parts.ArrowPart.{ArrowPart}
 use Rattle.cq_theory.specs.declared.parts.ArrowImage.{ArrowImage}
@@ -23,7 +25,8 @@ use Rattle.cq_theory.specs.declared.term.TypeTerm.{TypeTerm}
 use Rattle.cq_theory.specs.declared.term.TypeTerm.TheVariants.{Const, Att}
 use Rattle.cq_theory.specs.Schema.{edge_names}
 use Rattle.cq_theory.specs.Resolve as resolve
-use Rattle.cq_theory.specs.Resolve.{or_else, sort_named, symbol_of, entity_in, has_unknown, has_wrong_count, has_reserved, raw_sort, same_sort, are_of_one_sort, in_part}
+use Rattle.cq_theory.specs.Resolve.{or_else, sort_named, symbol_of, entity_in, has_unknown, has_wrong_count, has_reserved, raw_sort}
+use Rattle.cq_theory.specs.Resolve.{same_sort, are_of_one_sort, in_part}
 use Rattle.cq_theory.specs.Resolved.{resolved, type_term_in}
 use Rattle.cq_theory.specs.Declaring.{first_part_fault, duplicate_or, number_or_zero}
 use Rattle.cq_theory.specs.Paths.{is_among, has_unknown_name, path_keys}
@@ -69,7 +72,8 @@ given_arrows arrows = map (λ arrow. arrow.name) arrows
 
 -- the image of the entity of a name, in parts for these entities
 abbrev pub made_entity : Schema → List Name → List (Name × Name) → Name → ℕ
-made_entity T given parts name = number_or_zero (option_and_then (λ part. entity_in (sort_named T part.1)) (option_and_then (slice_get parts) (number_of given name)))
+made_entity T given parts name = number_or_zero (option_and_then (λ part. entity_in (sort_named T part.1))
+    (option_and_then (slice_get parts) (number_of given name)))
 
 abbrev pub made_entities : Schema → Schema → List (Name × Name) → List ℕ
 made_entities S T parts = map (made_entity T (given_entities parts) parts) S.entities
@@ -159,15 +163,18 @@ made_key T given arrows edge = path_in T (arrow_named given arrows edge.name)
 abbrev pub made_attribute : Schema → List ℕ → List Name → List ArrowPart → Edge → TypeTerm
 made_attribute T entities given arrows edge = term_in T (slice_index entities edge.from) (arrow_named given arrows edge.name)
 
--- Where the entities of the source have these images: the image can stand for the foreign key or the attribute, which begins at the block's entity.
+-- Where the entities of the source have these images: the image can stand for the foreign key or the attribute, which begins at the block's
+-- entity.
 module _ (T : Schema) (entities : List ℕ) where
   abbrev pub is_right_key : Option Edge → Option ℕ → ArrowImage → Bool
   is_right_key None block given = false
-  is_right_key (Some edge) block given = is_at edge.from block && is_image_of_key T given (slice_index entities edge.from) (slice_index entities edge.to)
+  is_right_key (Some edge) block given = is_at edge.from block
+      && is_image_of_key T given (slice_index entities edge.from) (slice_index entities edge.to)
 
   abbrev pub is_right_attribute : List Name → Option Edge → Option ℕ → ArrowImage → Bool
   is_right_attribute variables None block given = false
-  is_right_attribute variables (Some edge) block given = is_at edge.from block && is_image_of_attribute T variables given (slice_index entities edge.from) edge.to
+  is_right_attribute variables (Some edge) block given = is_at edge.from block
+      && is_image_of_attribute T variables given (slice_index entities edge.from) edge.to
 
 module _ (S T : Schema) (entities : List ℕ) where
   abbrev pub is_right : List Name → Option Symbol → Option ℕ → ArrowImage → Bool
@@ -178,9 +185,11 @@ module _ (S T : Schema) (entities : List ℕ) where
   -- the least rule that an image of a foreign key or an attribute breaks, with these variables
   abbrev pub arrow_fault_over : List Name → ArrowPart → Option TermRefusal
   arrow_fault_over variables part =
-      if is_none (sort_named S part.block) || is_none (symbol_of S part.name) || has_unknown_image T variables part.image then Some term_refusal.Unknown
+      if is_none (sort_named S part.block) || is_none (symbol_of S part.name) || has_unknown_image T variables part.image
+      then Some term_refusal.Unknown
       else (if has_wrong_count_image T part.image then Some term_refusal.WrongCount
-      else (if not (is_right variables (symbol_of S part.name) (entity_in (sort_named S part.block)) part.image) then Some term_refusal.WrongSort
+      else (if not (is_right variables (symbol_of S part.name) (entity_in (sort_named S part.block)) part.image)
+      then Some term_refusal.WrongSort
       else (if has_reserved_image T part.image then Some term_refusal.Reserved
       else (if is_too_large_image T part.image then Some term_refusal.TooLarge
       else None))))
@@ -211,7 +220,8 @@ module _ (S T : Schema) (entities : List ℕ) where
     attributes = map (made_attribute T entities (given_arrows arrows) arrows) S.attributes;
   }
 
--- The first fault: the parts of entities, then an entity without an image, then the other parts, and then a foreign key or an attribute without an image.
+-- The first fault: the parts of entities, then an entity without an image, then the other parts, and then a foreign key or an attribute
+-- without an image.
 abbrev pub mapping_fault : Schema → Schema → MappingParts → Option ArrowRefusal
 mapping_fault S T parts =
     or_else (option_map of_mapping (entity_parts_fault S T parts.entities))

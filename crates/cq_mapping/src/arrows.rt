@@ -1,8 +1,12 @@
 //! The images of foreign keys and attributes.
-ghost use Rattle.std.specs.Prelude.{◌≡◌, ◌-◌, ◌+◌, ◌<◌, ◌^◌, ◌⊎◌, ◌++◌, ◌∷◌, [], IfOk, IfErr, Some, None, length, map, option_map};
+ghost use Rattle.std.specs.Prelude.{◌≡◌, ◌-◌, ◌+◌, ◌<◌, ◌^◌, ◌⊎◌, ◌++◌, ◌∷◌, [], IfOk, IfErr, Some, None, length, map};
+ghost use Rattle.std.specs.Prelude.{option_map};
 ghost use Rattle.cq_theory.specs.Resolve.{or_else, in_part};
 ghost use Rattle.cq_theory.specs.Schema.{edge_names};
-ghost use Rattle.cq_mapping.specs.MappingParts.{first_missing, variables_of, arrow_fault as fault_of_arrow, arrow_part_fault, arrows_fault, given_arrows, path_term, made_path as path_made, made_term as term_made, made_key, made_attribute, arrows_and_rest_fault};
+ghost use Rattle.cq_mapping.specs.MappingParts.{first_missing, variables_of, arrow_fault as fault_of_arrow};
+ghost use Rattle.cq_mapping.specs.MappingParts.{arrow_part_fault, arrows_fault, given_arrows, path_term};
+ghost use Rattle.cq_mapping.specs.MappingParts.{made_path as path_made, made_term as term_made, made_key};
+ghost use Rattle.cq_mapping.specs.MappingParts.{made_attribute, arrows_and_rest_fault};
 
 use crate::blocks::{check_edges, of_mapping};
 use crate::rules::{arrow_fault_over, image_of};
@@ -36,7 +40,8 @@ fn check_arrow(
     part: &ArrowPart,
 ) -> Result<(), TheoryRefusal>
     ensures ok { IfOk result (λ _. fault_of_arrow source.now target.now entities.now part.now ≡ None) }
-    ensures refused { IfErr result (λ refusal. (refusal ≡ TheoryRefusal.Memory) ⊎ (option_map (in_part number) (fault_of_arrow source.now target.now entities.now part.now) ≡ Some refusal)) }
+    ensures refused { IfErr result (λ refusal. (refusal ≡ TheoryRefusal.Memory)
+        ⊎ (option_map (in_part number) (fault_of_arrow source.now target.now entities.now part.now) ≡ Some refusal)) }
 {
     let variables = variable_table(alloc, &part.image)?;
     match arrow_fault_over(source, target, entities, &variables, part) {
@@ -56,8 +61,10 @@ fn add_arrow(
     part: &ArrowPart,
 ) -> Result<(), TheoryRefusal>
     requires { length table.old < 2 ^ 32 - 1 }
-    ensures ok { IfOk result (λ _. (arrow_part_fault source.now target.now entities.now table.old number part.now ≡ None) × (table.new ≡ table.old ++ part.now.name ∷ [])) }
-    ensures refused { IfErr result (λ refusal. (refusal ≡ TheoryRefusal.Memory) ⊎ (arrow_part_fault source.now target.now entities.now table.old number part.now ≡ Some refusal)) }
+    ensures ok { IfOk result (λ _. (arrow_part_fault source.now target.now entities.now table.old number part.now
+        ≡ None) × (table.new ≡ table.old ++ part.now.name ∷ [])) }
+    ensures refused { IfErr result (λ refusal. (refusal ≡ TheoryRefusal.Memory)
+        ⊎ (arrow_part_fault source.now target.now entities.now table.old number part.now ≡ Some refusal)) }
 {
     declare(table, number, &part.name)?;
     match check_arrow(alloc, source, target, entities, number, part) {
@@ -78,7 +85,8 @@ fn add_arrows(
     requires { first + length parts.now < 2 ^ 32 }
     ensures accepted { IfOk result (λ _. arrows_fault source.now target.now entities.now first parts.now ≡ None) }
     ensures made { IfOk result (λ table. table ≡ given_arrows parts.now) }
-    ensures refused { IfErr result (λ refusal. (refusal ≡ TheoryRefusal.Memory) ⊎ (arrows_fault source.now target.now entities.now first parts.now ≡ Some refusal)) }
+    ensures refused { IfErr result (λ refusal. (refusal ≡ TheoryRefusal.Memory)
+        ⊎ (arrows_fault source.now target.now entities.now first parts.now ≡ Some refusal)) }
 {
     let mut table = Names::new(alloc);
     let mut number = first;
@@ -229,7 +237,8 @@ fn build_attributes(
     given: &Names,
     parts: &[ArrowPart],
 ) -> Result<Vec<TypeTerm>, AllocError>
-    ensures { IfOk result (λ attributes. attributes.items ≡ map (made_attribute target.now entities.now given.now parts.now) source.now.attributes) }
+    ensures { IfOk result (λ attributes. attributes.items ≡ map
+        (made_attribute target.now entities.now given.now parts.now) source.now.attributes) }
 {
     let mut attributes = Vec::new(alloc);
     for edge in source.attributes.as_slice() {
@@ -248,9 +257,13 @@ pub(crate) fn make_arrows(
     parts: &[ArrowPart],
 ) -> Result<(Vec<Seq<u32>>, Vec<TypeTerm>), ArrowRefusal>
     requires { first + length parts.now < 2 ^ 32 }
-    ensures accepted { IfOk result (λ _. arrows_and_rest_fault source.now target.now entities.now first parts.now ≡ None) }
-    ensures made { IfOk result (λ made. (made.0.items ≡ map (made_key target.now (given_arrows parts.now) parts.now) source.now.keys) × (made.1.items ≡ map (made_attribute target.now entities.now (given_arrows parts.now) parts.now) source.now.attributes)) }
-    ensures refused { IfErr result (λ refusal. (refusal ≡ ArrowRefusal.Memory) ⊎ (arrows_and_rest_fault source.now target.now entities.now first parts.now ≡ Some refusal)) }
+    ensures accepted { IfOk result (λ _. arrows_and_rest_fault source.now target.now entities.now first
+        parts.now ≡ None) }
+    ensures made { IfOk result (λ made. (made.0.items ≡ map (made_key target.now (given_arrows parts.now) parts.now)
+        source.now.keys) × (made.1.items ≡ map (made_attribute target.now entities.now (given_arrows parts.now)
+        parts.now) source.now.attributes)) }
+    ensures refused { IfErr result (λ refusal. (refusal ≡ ArrowRefusal.Memory)
+        ⊎ (arrows_and_rest_fault source.now target.now entities.now first parts.now ≡ Some refusal)) }
 {
     match add_arrows(alloc, source, target, entities, first, parts) {
         Ok(given) => finish_arrows(alloc, source, target, entities, &given, parts),
@@ -266,9 +279,13 @@ fn finish_arrows(
     given: &Names,
     parts: &[ArrowPart],
 ) -> Result<(Vec<Seq<u32>>, Vec<TypeTerm>), ArrowRefusal>
-    ensures accepted { IfOk result (λ _. or_else (first_missing given.now (edge_names source.now.keys)) (first_missing given.now (edge_names source.now.attributes)) ≡ None) }
-    ensures made { IfOk result (λ made. (made.0.items ≡ map (made_key target.now given.now parts.now) source.now.keys) × (made.1.items ≡ map (made_attribute target.now entities.now given.now parts.now) source.now.attributes)) }
-    ensures refused { IfErr result (λ refusal. (refusal ≡ ArrowRefusal.Memory) ⊎ (or_else (first_missing given.now (edge_names source.now.keys)) (first_missing given.now (edge_names source.now.attributes)) ≡ Some refusal)) }
+    ensures accepted { IfOk result (λ _. or_else (first_missing given.now (edge_names source.now.keys))
+        (first_missing given.now (edge_names source.now.attributes)) ≡ None) }
+    ensures made { IfOk result (λ made. (made.0.items ≡ map (made_key target.now given.now parts.now) source.now.keys)
+        × (made.1.items ≡ map (made_attribute target.now entities.now given.now parts.now) source.now.attributes)) }
+    ensures refused { IfErr result (λ refusal. (refusal ≡ ArrowRefusal.Memory)
+        ⊎ (or_else (first_missing given.now (edge_names source.now.keys))
+        (first_missing given.now (edge_names source.now.attributes)) ≡ Some refusal)) }
 {
     check_edges(given, source.keys.as_slice())?;
     check_edges(given, source.attributes.as_slice())?;
@@ -286,7 +303,8 @@ fn build_arrows(
     given: &Names,
     parts: &[ArrowPart],
 ) -> Result<(Vec<Seq<u32>>, Vec<TypeTerm>), AllocError>
-    ensures { IfOk result (λ made. (made.0.items ≡ map (made_key target.now given.now parts.now) source.now.keys) × (made.1.items ≡ map (made_attribute target.now entities.now given.now parts.now) source.now.attributes)) }
+    ensures { IfOk result (λ made. (made.0.items ≡ map (made_key target.now given.now parts.now) source.now.keys)
+        × (made.1.items ≡ map (made_attribute target.now entities.now given.now parts.now) source.now.attributes)) }
 {
     let keys = build_keys(alloc, source, target, given, parts)?;
     let attributes = build_attributes(alloc, source, target, entities, given, parts)?;

@@ -1,8 +1,11 @@
 //! The images of entities.
-ghost use Rattle.std.specs.Prelude.{◌≡◌, ◌-◌, ◌<◌, ◌^◌, ◌⊎◌, ◌++◌, ◌∷◌, [], IfOk, IfErr, Some, None, length, map, option_map};
+ghost use Rattle.std.specs.Prelude.{◌≡◌, ◌-◌, ◌<◌, ◌^◌, ◌⊎◌, ◌++◌, ◌∷◌, [], IfOk, IfErr, Some, None, length, map};
+ghost use Rattle.std.specs.Prelude.{option_map};
 ghost use Rattle.cq_theory.specs.Resolve.{or_else};
 ghost use Rattle.cq_theory.specs.Schema.{edge_names};
-ghost use Rattle.cq_mapping.specs.MappingParts.{of_mapping as refusal_of_mapping, first_missing, entity_ends_fault as fault_of_ends, entity_part_fault, entity_parts_fault, given_entities, made_entity, made_entities};
+ghost use Rattle.cq_mapping.specs.MappingParts.{of_mapping as refusal_of_mapping, first_missing};
+ghost use Rattle.cq_mapping.specs.MappingParts.{entity_ends_fault as fault_of_ends, entity_part_fault};
+ghost use Rattle.cq_mapping.specs.MappingParts.{entity_parts_fault, given_entities, made_entity, made_entities};
 
 use cq_base::{Name, Names};
 use cq_theory::lookup::{declare, entity_of_sort};
@@ -36,7 +39,8 @@ fn missing(name: &Name) -> ArrowRefusal
 /// Whether each name is given. Otherwise the first one that isn't.
 fn check_given(given: &Names, names: &[Name]) -> Result<(), ArrowRefusal>
     ensures accepted { IfOk result (λ _. first_missing given.now names.now ≡ None) }
-    ensures refused { IfErr result (λ refusal. (refusal ≡ ArrowRefusal.Memory) ⊎ (first_missing given.now names.now ≡ Some refusal)) }
+    ensures refused { IfErr result (λ refusal. (refusal ≡ ArrowRefusal.Memory)
+        ⊎ (first_missing given.now names.now ≡ Some refusal)) }
 {
     for name in names {
         if given.find(name).is_none() {
@@ -49,7 +53,8 @@ fn check_given(given: &Names, names: &[Name]) -> Result<(), ArrowRefusal>
 /// The same of foreign keys or attributes.
 pub(crate) fn check_edges(given: &Names, edges: &[Edge]) -> Result<(), ArrowRefusal>
     ensures accepted { IfOk result (λ _. first_missing given.now (edge_names edges.now) ≡ None) }
-    ensures refused { IfErr result (λ refusal. (refusal ≡ ArrowRefusal.Memory) ⊎ (first_missing given.now (edge_names edges.now) ≡ Some refusal)) }
+    ensures refused { IfErr result (λ refusal. (refusal ≡ ArrowRefusal.Memory)
+        ⊎ (first_missing given.now (edge_names edges.now) ≡ Some refusal)) }
 {
     for edge in edges {
         if given.find(&edge.name).is_none() {
@@ -88,8 +93,10 @@ fn add_entity(
     names: &(Name, Name),
 ) -> Result<(), TheoryRefusal>
     requires { length table.old < 2 ^ 32 - 1 }
-    ensures ok { IfOk result (λ _. (entity_part_fault source.now target.now table.old part names.now ≡ None) × (table.new ≡ table.old ++ names.now.0 ∷ [])) }
-    ensures refused { IfErr result (λ refusal. (refusal ≡ TheoryRefusal.Memory) ⊎ (entity_part_fault source.now target.now table.old part names.now ≡ Some refusal)) }
+    ensures ok { IfOk result (λ _. (entity_part_fault source.now target.now table.old part names.now ≡ None)
+        × (table.new ≡ table.old ++ names.now.0 ∷ [])) }
+    ensures refused { IfErr result (λ refusal. (refusal ≡ TheoryRefusal.Memory)
+        ⊎ (entity_part_fault source.now target.now table.old part names.now ≡ Some refusal)) }
 {
     declare(table, part, &names.0)?;
     match entity_ends_fault(source, target, part, names) {
@@ -108,7 +115,8 @@ fn add_entities(
     requires { length parts.now < 2 ^ 32 }
     ensures accepted { IfOk result (λ _. entity_parts_fault source.now target.now parts.now ≡ None) }
     ensures made { IfOk result (λ table. table ≡ given_entities parts.now) }
-    ensures refused { IfErr result (λ refusal. (refusal ≡ TheoryRefusal.Memory) ⊎ (entity_parts_fault source.now target.now parts.now ≡ Some refusal)) }
+    ensures refused { IfErr result (λ refusal. (refusal ≡ TheoryRefusal.Memory)
+        ⊎ (entity_parts_fault source.now target.now parts.now ≡ Some refusal)) }
 {
     let mut table = Names::new(alloc);
     let mut part = 0;
@@ -142,7 +150,8 @@ fn build_entities(
     given: &Names,
     parts: &[(Name, Name)],
 ) -> Result<Vec<u32>, AllocError>
-    ensures { IfOk result (λ images. images.items ≡ map (made_entity target.now given.now parts.now) source.now.entities) }
+    ensures { IfOk result (λ images. images.items ≡ map (made_entity target.now given.now parts.now)
+        source.now.entities) }
 {
     let mut images = Vec::new(alloc);
     for name in source.entities.as_slice() {
@@ -159,9 +168,12 @@ pub(crate) fn make_entities(
     parts: &[(Name, Name)],
 ) -> Result<Vec<u32>, ArrowRefusal>
     requires { length parts.now < 2 ^ 32 }
-    ensures accepted { IfOk result (λ _. (entity_parts_fault source.now target.now parts.now ≡ None) × (first_missing (given_entities parts.now) source.now.entities ≡ None)) }
+    ensures accepted { IfOk result (λ _. (entity_parts_fault source.now target.now parts.now ≡ None)
+        × (first_missing (given_entities parts.now) source.now.entities ≡ None)) }
     ensures made { IfOk result (λ images. images.items ≡ made_entities source.now target.now parts.now) }
-    ensures refused { IfErr result (λ refusal. (refusal ≡ ArrowRefusal.Memory) ⊎ (or_else (option_map refusal_of_mapping (entity_parts_fault source.now target.now parts.now)) (first_missing (given_entities parts.now) source.now.entities) ≡ Some refusal)) }
+    ensures refused { IfErr result (λ refusal. (refusal ≡ ArrowRefusal.Memory)
+        ⊎ (or_else (option_map refusal_of_mapping (entity_parts_fault source.now target.now parts.now))
+        (first_missing (given_entities parts.now) source.now.entities) ≡ Some refusal)) }
 {
     match add_entities(alloc, source, target, parts) {
         Ok(given) => finish_entities(alloc, source, target, &given, parts),
@@ -177,8 +189,10 @@ fn finish_entities(
     parts: &[(Name, Name)],
 ) -> Result<Vec<u32>, ArrowRefusal>
     ensures accepted { IfOk result (λ _. first_missing given.now source.now.entities ≡ None) }
-    ensures made { IfOk result (λ images. images.items ≡ map (made_entity target.now given.now parts.now) source.now.entities) }
-    ensures refused { IfErr result (λ refusal. (refusal ≡ ArrowRefusal.Memory) ⊎ (first_missing given.now source.now.entities ≡ Some refusal)) }
+    ensures made { IfOk result (λ images. images.items ≡ map (made_entity target.now given.now parts.now)
+        source.now.entities) }
+    ensures refused { IfErr result (λ refusal. (refusal ≡ ArrowRefusal.Memory)
+        ⊎ (first_missing given.now source.now.entities ≡ Some refusal)) }
 {
     check_given(given, source.entities.as_slice())?;
     match build_entities(alloc, source, target, given, parts) {

@@ -1,7 +1,8 @@
 //! The equations that a mapping has to preserve.
 ghost use Rattle.std.specs.Prelude.{◌≡◌, ◌++◌, map, IfOk, OnOk};
 ghost use Rattle.cq_mapping.specs.Images.{path_image};
-ghost use Rattle.cq_mapping.specs.Duties.{path_duty as duty_of_path_eq, observation_duty as duty_of_observation, duties_of};
+ghost use Rattle.cq_mapping.specs.Duties.{path_duty as duty_of_path_eq, observation_duty as duty_of_observation};
+ghost use Rattle.cq_mapping.specs.Duties.{duties_of};
 
 use crate::images::image_of_entity;
 use crate::mapping::Mapping;

@@ -14,13 +14,15 @@ ghost use Rattle.cq_mapping.specs.Duties.{Preserves};
 
 /// The image of a term has the image of the term's sort.
 pub fn sorts_of_images()
-    ensures { (F : Mapping) → IsMapping F → (G : Generators) (t : Term) (sort : Sort) → sort_of F.source G t ≡ Some sort → sort_of F.target (generator_images F G) (term_image F t) ≡ Some (sort_image F sort) }
+    ensures { (F : Mapping) → IsMapping F → (G : Generators) (t : Term) (sort : Sort) → sort_of F.source G t ≡ Some sort
+        → sort_of F.target (generator_images F G) (term_image F t) ≡ Some (sort_image F sort) }
 {}
 
 /// Where a mapping preserves equality, the image of what is derivable from a presentation is derivable from the
 /// presentation's image.
 pub fn images_of_derived()
-    ensures { (F : Mapping) → IsMapping F → Preserves F → (P : Presentation) (t u : Term) → Derives F.source P t u → Derives F.target (sigma F P) (term_image F t) (term_image F u) }
+    ensures { (F : Mapping) → IsMapping F → Preserves F → (P : Presentation) (t u : Term) → Derives F.source P t u
+        → Derives F.target (sigma F P) (term_image F t) (term_image F u) }
 {}
 
 /// The identity preserves equality.

@@ -66,7 +66,8 @@ impl Mapping {
         requires parts { length parts.entities + length parts.arrows < 2 ^ 32 }
         ensures accepted { IfOk result (λ _. mapping_fault source.value target.value parts ≡ None) }
         ensures made { IfOk result (λ made. made ≡ mapping_made source.value target.value parts) }
-        ensures refused { IfErr result (λ refusal. (refusal ≡ ArrowRefusal.Memory) ⊎ (mapping_fault source.value target.value parts ≡ Some refusal)) }
+        ensures refused { IfErr result (λ refusal. (refusal ≡ ArrowRefusal.Memory)
+            ⊎ (mapping_fault source.value target.value parts ≡ Some refusal)) }
     {
         let MappingParts { entities, arrows } = parts;
         let first = entities.len() as u32;

@@ -3,7 +3,14 @@ ghost use Rattle.std.specs.Prelude.{◌≡◌, ◌&&◌, ◌∷◌, [], Some, sl
 ghost use Rattle.cq_theory.specs.declared.presentation.Sort.TheVariants as declared_sort;
 ghost use Rattle.cq_theory.specs.Resolve.{raw_sort, are_of_one_sort, same_sort as is_same_sort};
 ghost use Rattle.cq_theory.specs.Routes.{is_at as is_at_entity};
-ghost use Rattle.cq_mapping.specs.MappingParts.{has_unknown_image as unknown_image, has_wrong_count_image as wrong_count_image, has_reserved_image as reserved_image, is_too_large_image as too_large_image, are_ends as ends_are, is_stated as stated_is, is_image_of_key as image_of_key, is_image_of_attribute as image_of_attribute, is_right_key as right_key, is_right_attribute as right_attribute, is_right as right_image, arrow_fault_over as fault_over};
+ghost use Rattle.cq_mapping.specs.MappingParts.{has_unknown_image as unknown_image};
+ghost use Rattle.cq_mapping.specs.MappingParts.{has_wrong_count_image as wrong_count_image};
+ghost use Rattle.cq_mapping.specs.MappingParts.{has_reserved_image as reserved_image};
+ghost use Rattle.cq_mapping.specs.MappingParts.{is_too_large_image as too_large_image, are_ends as ends_are};
+ghost use Rattle.cq_mapping.specs.MappingParts.{is_stated as stated_is, is_image_of_key as image_of_key};
+ghost use Rattle.cq_mapping.specs.MappingParts.{is_image_of_attribute as image_of_attribute, is_right_key as right_key};
+ghost use Rattle.cq_mapping.specs.MappingParts.{is_right_attribute as right_attribute, is_right as right_image};
+ghost use Rattle.cq_mapping.specs.MappingParts.{arrow_fault_over as fault_over};
 
 use cq_base::{Name, Names, Raw};
 use cq_theory::lookup::{
@@ -132,7 +139,9 @@ fn is_term_of(
     start: u32,
     end: u32,
 ) -> bool
-    ensures { result ≡ (stated_is target.now entity.now start && are_of_one_sort (raw_sort target.now variables.now (declared_sort.Entity start ∷ []) raw.now) (Some (declared_sort.Plain end))) }
+    ensures { result ≡ (stated_is target.now entity.now start
+        && are_of_one_sort (raw_sort target.now variables.now (declared_sort.Entity start ∷ []) raw.now)
+        (Some (declared_sort.Plain end))) }
 {
     let sorts = [Sort::Entity(start)];
     is_stated(target, entity, start)

@@ -5,7 +5,8 @@ ghost use Rattle.cq_theory.specs.EntTerm as ent;
 ghost use Rattle.cq_theory.specs.TypeTerm.{symbols_of, substituted};
 ghost use Rattle.cq_theory.specs.Presentation.{IsPresentation};
 ghost use Rattle.cq_theory.specs.declared.term.Term.TheVariants.{Ent, Typ};
-ghost use Rattle.cq_mapping.specs.Images.{key_image, attribute_image, ent_image, type_image, sort_image, generator_images, equation_image, sigma};
+ghost use Rattle.cq_mapping.specs.Images.{key_image, attribute_image, ent_image, type_image, sort_image};
+ghost use Rattle.cq_mapping.specs.Images.{generator_images, equation_image, sigma};
 ghost use Rattle.cq_mapping.specs.Duties.{is_long as is_long_term, has_long_side, is_too_large};
 ghost use Rattle.cq_mapping.specs.Symbols.{symbols_at};
 
@@ -28,7 +29,8 @@ impl Mapping {
         ensures accepted { IfOk result (λ _. is_too_large self.now presentation.now ≡ false) }
         ensures made { IfOk result (λ made. made ≡ sigma self.now presentation.now) }
         ensures presentation { IfOk result (λ made. IsPresentation self.now.target made) }
-        ensures refused { IfErr result (λ refusal. (refusal ≡ SizeRefusal.Memory) ⊎ ((refusal ≡ SizeRefusal.TooLarge) × (is_too_large self.now presentation.now ≡ true))) }
+        ensures refused { IfErr result (λ refusal. (refusal ≡ SizeRefusal.Memory)
+            ⊎ ((refusal ≡ SizeRefusal.TooLarge) × (is_too_large self.now presentation.now ≡ true))) }
     {
         self.is_well_sorted();
         if has_long_image(self, presentation.equations.as_slice()) {
@@ -123,7 +125,10 @@ fn room_after(base: u64, term: &TypeTerm, room: u64) -> Option<u64>
 /// The room that is left after the symbols of an attribute's image at an entity term.
 fn attribute_room(mapping: &Mapping, attribute: u32, at: &EntTerm, room: u64) -> Option<u64>
     requires { room ≤ 1024 }
-    ensures { MatchOption result (room < symbols_of (substituted (ent_image mapping.now at.now) (attribute_image mapping.now attribute))) (λ left. symbols_of (substituted (ent_image mapping.now at.now) (attribute_image mapping.now attribute)) + left ≡ room) }
+    ensures { MatchOption result (room < symbols_of
+        (substituted (ent_image mapping.now at.now) (attribute_image mapping.now attribute)))
+        (λ left. symbols_of (substituted (ent_image mapping.now at.now) (attribute_image mapping.now attribute))
+        + left ≡ room) }
 {
     let base = count_symbols(mapping, at);
     match mapping.attributes.as_slice().get(attribute as usize) {
@@ -135,7 +140,8 @@ fn attribute_room(mapping: &Mapping, attribute: u32, at: &EntTerm, room: u64) ->
 /// The room that is left after the symbols of the image of a term.
 fn room_left(mapping: &Mapping, term: &TypeTerm, room: u64) -> Option<u64>
     requires { room ≤ 1024 }
-    ensures { MatchOption result (room < symbols_of (type_image mapping.now term.now)) (λ left. symbols_of (type_image mapping.now term.now) + left ≡ room) }
+    ensures { MatchOption result (room < symbols_of (type_image mapping.now term.now))
+        (λ left. symbols_of (type_image mapping.now term.now) + left ≡ room) }
 {
     match term {
         TypeTerm::Gen(_) => room.checked_sub(1),

@@ -32,7 +32,8 @@ number_in numbers (Some r) = slice_index numbers r
 
 module _ (S : Schema) (P : Presentation) (m : Content) (rows : List ℕ) where
   -- the rows in order with their names, and the nodes with their equations, types and places
-  pub record IsBuilt (order : List (List ℕ)) (names : List (List EntTerm)) (numbers : List ℕ) (places : Places) (nodes : List Node) (equations : List (ℕ × ℕ)) (types : List ℕ) : Type 0 where
+  pub record IsBuilt (order : List (List ℕ)) (names : List (List EntTerm)) (numbers : List ℕ) (places : Places) (nodes : List Node)
+      (equations : List (ℕ × ℕ)) (types : List ℕ) : Type 0 where
     pub numbered : AreNumbered S P m rows order names numbers
     pub places_are : ArePlaces m rows places (node_terms S P names) S P
     pub nodes_are : AreNodes m rows places (node_terms S P names) nodes

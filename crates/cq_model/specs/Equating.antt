@@ -27,7 +27,8 @@ module _ (S : Schema) (m : Content) (places : Places) where
   -- these sides are added, whatever there was before
   abbrev pub AddsSides : Presentation → List ℕ → List (TypeTerm × TypeTerm) → NodeListData → NodeListData → Type 0
   AddsSides P entries more old new = (terms : List TypeTerm) (sides : List (TypeTerm × TypeTerm))
-      → AreEquationsOf S m places P entries terms sides old → AreEquationsOf S m places P entries (terms ++ flat_map side_terms more) (sides ++ more) new
+      → AreEquationsOf S m places P entries terms sides old → AreEquationsOf S m places P entries (terms ++ flat_map side_terms more)
+      (sides ++ more) new
 
   -- a term over the presentation that leads to the row
   pub record IsNameOf (P : Presentation) (entries : List ℕ) (entity row : ℕ) (t : EntTerm) : Type 0 where
@@ -36,7 +37,8 @@ module _ (S : Schema) (m : Content) (places : Places) where
 
   pub data AreNamesOf (P : Presentation) (entries : List ℕ) (entity : ℕ) : List ℕ → List EntTerm → Type 0 where
     none : AreNamesOf P entries entity [] []
-    more : {row : ℕ} {t : EntTerm} {rows : List ℕ} {names : List EntTerm} → IsNameOf P entries entity row t → AreNamesOf P entries entity rows names
+    more : {row : ℕ} {t : EntTerm} {rows : List ℕ} {names : List EntTerm} → IsNameOf P entries entity row t
+        → AreNamesOf P entries entity rows names
         → AreNamesOf P entries entity (row ∷ rows) (t ∷ names)
 
   -- some equations of an entity are added at a row, in the variable's place any term that leads to it

@@ -51,4 +51,5 @@ module _ (S : Schema) (M : Tables) where
 
 -- no lesser term names a row than its name does
 abbrev pub HasLeastNames : InstanceData → Type 0
-HasLeastNames i = (entity row : ℕ) → row < count_of i.tables entity → IsLeastName i.schema i.presentation i.tables i.assignment entity row (name_at i.names entity row)
+HasLeastNames i = (entity row : ℕ) → row < count_of i.tables entity
+    → IsLeastName i.schema i.presentation i.tables i.assignment entity row (name_at i.names entity row)

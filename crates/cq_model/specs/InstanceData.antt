@@ -28,8 +28,8 @@ name_at names entity row = slice_index_or (names_at names entity) row (record { 
 abbrev pub IsName : InstanceData → EntTerm → Type 0
 IsName i t = (t.generator < length i.presentation.generators) × All (λ k. k < length i.schema.keys) t.path
 
--- the presentation is one over the schema, the tables are well formed over the schema and satisfy it, an entry has no more arguments than a term of
--- 1,024 symbols can have, each row has a name over the presentation, and each generator stands for something of its sort
+-- the presentation is one over the schema, the tables are well formed over the schema and satisfy it, an entry has no more arguments than a
+-- term of 1,024 symbols can have, each row has a name over the presentation, and each generator stands for something of its sort
 pub record IsInstance (i : InstanceData) : Type 0 where
   pub presented : IsPresentation i.schema i.presentation
   pub well_formed : IsWellFormed i.schema i.tables
@@ -39,4 +39,5 @@ pub record IsInstance (i : InstanceData) : Type 0 where
   pub counted : (entity : ℕ) → length (names_at i.names entity) ≡ count_of i.tables entity
   pub named : All (λ names. All (IsName i) names) i.names
   pub assigned : length i.assignment ≡ length i.presentation.generators
-  pub sorts : (n : ℕ) (g : Name × Sort) → slice_get i.presentation.generators n ≡ Some g → HasSort i.schema i.tables g.1 (slice_index_or i.assignment n (AtRow 0))
+  pub sorts : (n : ℕ) (g : Name × Sort) → slice_get i.presentation.generators n ≡ Some g
+      → HasSort i.schema i.tables g.1 (slice_index_or i.assignment n (AtRow 0))

@@ -55,7 +55,8 @@ module _ (S : Schema) (P : Presentation) (names : List (List EntTerm)) where
 
   -- the cells and the generators of types
   abbrev pub leaf_terms : List TypeTerm
-  leaf_terms = flat_map (cell_nodes S P names) (below (length S.entities)) ++ filter_map (generator_node S P names) (enumerate_from 0 P.generators)
+  leaf_terms = flat_map (cell_nodes S P names) (below (length S.entities))
+      ++ filter_map (generator_node S P names) (enumerate_from 0 P.generators)
 
   -- a term for each node: the leaves, and then what the equations are made of
   abbrev pub node_terms : List TypeTerm
@@ -91,7 +92,8 @@ module _ (m : Content) (rows : List ℕ) (places : Places) (terms : List TypeTer
   -- each node is that of its term: its arguments are earlier nodes, which stand for the term's arguments
   pub record AreNodes (nodes : List Node) : Type 0 where
     pub count : length nodes ≡ length terms
-    pub each : (p : ℕ) (t : TypeTerm) (content : Node) → slice_get terms p ≡ Some t → slice_get nodes p ≡ Some content → IsNodeAt p (out-TypeTerm t) content
+    pub each : (p : ℕ) (t : TypeTerm) (content : Node) → slice_get terms p ≡ Some t → slice_get nodes p ≡ Some content
+        → IsNodeAt p (out-TypeTerm t) content
 
   -- the sides of each equation stand for the sides of the given one
   pub record AreSidesOf (sides : List (TypeTerm × TypeTerm)) (equations : List (ℕ × ℕ)) : Type 0 where
@@ -104,10 +106,12 @@ module _ (m : Content) (rows : List ℕ) (places : Places) (terms : List TypeTer
   pub record ArePlaces (S : Schema) (P : Presentation) : Type 0 where
     pub cell : (r a : ℕ) (edge : Edge) → live_of m r ≡ true → slice_get S.attributes a ≡ Some edge → edge.from ≡ row_entity m r
         → (t : EntTerm) × (slice_get terms (cell_place places r a) ≡ Some (term.Att a t)) × (row_of_term m rows t ≡ Some r)
-    pub generator : (n type : ℕ) → type_at (slice_get P.generators n) ≡ Some type → slice_get terms (slice_index places.generators n) ≡ Some (term.Gen n)
+    pub generator : (n type : ℕ) → type_at (slice_get P.generators n) ≡ Some type
+        → slice_get terms (slice_index places.generators n) ≡ Some (term.Gen n)
     pub own : (p : ℕ) (t : TypeTerm) → slice_get terms p ≡ Some t → StandsFor t p
 
   -- the type of each node
   pub record AreTypes (S : Schema) (P : Presentation) (types : List ℕ) : Type 0 where
     pub count : length types ≡ length terms
-    pub each : (p type : ℕ) (t : TypeTerm) → slice_get terms p ≡ Some t → slice_get types p ≡ Some type → type_of S P.generators t ≡ Some type
+    pub each : (p type : ℕ) (t : TypeTerm) → slice_get terms p ≡ Some t → slice_get types p ≡ Some type
+        → type_of S P.generators t ≡ Some type

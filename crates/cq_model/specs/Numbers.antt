@@ -1,4 +1,5 @@
--- What the generators and the equations of the canonical presentation are made of: the numbers of generators, and the edges of each entity by their numbers.
+-- What the generators and the equations of the canonical presentation are made of: the numbers of generators, and the edges of each entity
+-- by their numbers.
 use Rattle.std.specs.Prelude.{ℕ, List, [], ◌∷◌, ◌++◌, ◌+◌, ◌<◌, ◌^◌, All, map, length, sum, take, replicate, slice_index, slice_index_or}
 use Rattle.std.specs.List.{flat_map, range_with_len}
 use Rattle.cq_theory.specs.declared.constant.Con.TheVariants.{Named}
@@ -41,7 +42,8 @@ module _ (counts : List ℕ) where
 
   -- what the generators stand for
   abbrev pub meanings : ℕ → List Meaning
-  meanings nulls = flat_map (λ entity. map AtRow (below (slice_index counts entity))) (below (length counts)) ++ map (λ n. AtValue (value.Null n)) (below nulls)
+  meanings nulls = flat_map (λ entity. map AtRow (below (slice_index counts entity))) (below (length counts))
+      ++ map (λ n. AtValue (value.Null n)) (below nulls)
 
 module _ (first count : ℕ) where
   abbrev pub value_made_step : Value-F TypeTerm → TypeTerm
@@ -66,10 +68,12 @@ module _ (sheet : Sheet) (numbers : Numbers) where
 
   abbrev pub cell_made : ℕ → ℕ → ℕ → Equation
   cell_made generator row a =
-      Typ (term.Att a (record { generator = generator; path = [] })) (value_made numbers.first_null numbers.nulls (slice_index_or (slice_index_or sheet.cells a []) row (value.Const (Named 0))))
+      Typ (term.Att a (record { generator = generator; path = [] }))
+      (value_made numbers.first_null numbers.nulls (slice_index_or (slice_index_or sheet.cells a []) row (value.Const (Named 0))))
 
   abbrev pub key_made : ℕ → ℕ → ℕ → Equation
-  key_made generator row k = Ent (record { generator = generator; path = k ∷ [] }) (record { generator = target_generator k row; path = [] })
+  key_made generator row k = Ent (record { generator = generator; path = k ∷ [] })
+      (record { generator = target_generator k row; path = [] })
 
   abbrev pub cells_made : ℕ → ℕ → List Equation
   cells_made entity row = map (cell_made (slice_index numbers.starts entity + row) row) (slice_index_or numbers.attributes entity [])
@@ -92,7 +96,8 @@ module _ (sheet : Sheet) (numbers : Numbers) where
   -- each number of a generator has 32 bits
   pub record HaveRoom : Type 0 where
     pub rows : (entity row : ℕ) → row < slice_index sheet.counts entity → slice_index numbers.starts entity + row < 2 ^ 32
-    pub keys : (entity row : ℕ) → row < slice_index sheet.counts entity → All (λ k. target_generator k row < 2 ^ 32) (slice_index_or numbers.keys entity [])
+    pub keys : (entity row : ℕ) → row < slice_index sheet.counts entity
+        → All (λ k. target_generator k row < 2 ^ 32) (slice_index_or numbers.keys entity [])
     pub null_room : numbers.first_null + numbers.nulls < 2 ^ 32
 
 -- the numbers for tables with these rows and that many nulls, over that many entities, and these foreign keys and attributes

@@ -24,7 +24,8 @@ module _ (S : Schema) (m : Content) (places : Places) where
     pub filled : AllFilled m
     pub firsts : length places.firsts ≡ made_of m
     pub ranks : length places.ranks ≡ length S.attributes
-    pub cells : (r a : ℕ) (edge : Edge) → live_of m r ≡ true → slice_get S.attributes a ≡ Some edge → edge.from ≡ row_entity m r → cell_place places r a < count
+    pub cells : (r a : ℕ) (edge : Edge) → live_of m r ≡ true → slice_get S.attributes a ≡ Some edge → edge.from ≡ row_entity m r
+        → cell_place places r a < count
 
   -- terms over these generators can be read, where `rows` has the row of each
   pub record AreReadable (G : Generators) (rows : List ℕ) (count : ℕ) : Type 0 where
@@ -42,7 +43,8 @@ module _ (S : Schema) (m : Content) (places : Places) where
     pub sort : type_of S generators t ≡ Some type
 
   -- each such term as a term over the presentation, where `entries` has the rows of its generators
-  pub record IsPlacing (P : Presentation) (entries : List ℕ) (G : Generators) (rows : List ℕ) (placed : TypeTerm → TypeTerm) (named : EntTerm → EntTerm) : Type 0 where
+  pub record IsPlacing (P : Presentation) (entries : List ℕ) (G : Generators) (rows : List ℕ) (placed : TypeTerm → TypeTerm)
+      (named : EntTerm → EntTerm) : Type 0 where
     pub gen : (n : ℕ) → placed (term.Gen n) ≡ term.Gen n
     pub constant : (c : Con) → placed (term.Const c) ≡ term.Const c
     pub attribute : (a : ℕ) (t : EntTerm) → placed (term.Att a t) ≡ term.Att a (named t)
@@ -66,13 +68,17 @@ module _ (S : Schema) (m : Content) (places : Places) where
     pub equations : new.equations ≡ old.equations
     pub grows : length old.nodes ≤ length new.nodes
     pub within : place < length new.nodes
-    pub listed : (P : Presentation) (entries : List ℕ) (G : Generators) (placed : TypeTerm → TypeTerm) (named : EntTerm → EntTerm) (terms : List TypeTerm) (type : ℕ)
+    pub listed : (P : Presentation) (entries : List ℕ) (G : Generators) (placed : TypeTerm → TypeTerm) (named : EntTerm → EntTerm)
+        (terms : List TypeTerm) (type : ℕ)
         → IsPlacing P entries G rows placed named → type_of S G t ≡ Some type → AreTermsOf P entries terms old
-        → AreTermsOf P entries (terms ++ made_terms (placed t)) new × StandsFor m entries places (terms ++ made_terms (placed t)) (placed t) place
+        → AreTermsOf P entries (terms ++ made_terms (placed t)) new
+        × StandsFor m entries places (terms ++ made_terms (placed t)) (placed t) place
 
   -- an equation is added with the nodes of its sides
   pub record IsEquated (rows : List ℕ) (old new : NodeListData) (t u : TypeTerm) : Type 0 where
     pub grows : length old.nodes ≤ length new.nodes
-    pub listed : (P : Presentation) (entries : List ℕ) (G : Generators) (placed : TypeTerm → TypeTerm) (named : EntTerm → EntTerm) (terms : List TypeTerm) (sides : List (TypeTerm × TypeTerm)) (type : ℕ)
-        → IsPlacing P entries G rows placed named → type_of S G t ≡ Some type → type_of S G u ≡ Some type → AreEquationsOf P entries terms sides old
+    pub listed : (P : Presentation) (entries : List ℕ) (G : Generators) (placed : TypeTerm → TypeTerm) (named : EntTerm → EntTerm)
+        (terms : List TypeTerm) (sides : List (TypeTerm × TypeTerm)) (type : ℕ)
+        → IsPlacing P entries G rows placed named → type_of S G t ≡ Some type → type_of S G u ≡ Some type
+        → AreEquationsOf P entries terms sides old
         → AreEquationsOf P entries (terms ++ side_terms (placed t, placed u)) (sides ++ (placed t, placed u) ∷ []) new

@@ -25,7 +25,8 @@ module _ (members : List ℕ) (entities : ℕ) where
 
 -- each row has as its number its place among those of its entity
 abbrev pub AreNumbers : List ℕ → List ℕ → List ℕ → Type 0
-AreNumbers members rows numbers = (e n place : ℕ) → slice_get (positions members e) n ≡ Some place → slice_index numbers (slice_index rows place) ≡ n
+AreNumbers members rows numbers = (e n place : ℕ) → slice_get (positions members e) n ≡ Some place
+    → slice_index numbers (slice_index rows place) ≡ n
 
 pub record AreNumberedAs (m : Content) (entities : ℕ) (rows : List ℕ) (names : List EntTerm) (made : NumberedRows) : Type 0 where
   pub rows_are : made.rows ≡ rows

@@ -1,5 +1,6 @@
 -- The walk that names rows: which rows are named, and in which order.
-use Rattle.std.specs.Prelude.{ℕ, Bool, true, false, List, [], ◌∷◌, ◌++◌, Some, ◌≡◌, ◌<◌, ◌+◌, ◌⊎◌, length, slice_get, slice_set, slice_index, slice_index_or, if◌then◌else◌}
+use Rattle.std.specs.Prelude.{ℕ, Bool, true, false, List, [], ◌∷◌, ◌++◌, Some, ◌≡◌, ◌<◌, ◌+◌, ◌⊎◌, length, slice_get, slice_set}
+use Rattle.std.specs.Prelude.{slice_index, slice_index_or, if◌then◌else◌}
 use Rattle.cq_tables.specs.Content.{Content, made_of, live_of, cell_of}
 use Rattle.cq_tables.specs.Content.{entity_of as row_entity}
 use Rattle.cq_rows.specs.Rows.{row_of_term}
@@ -83,7 +84,8 @@ module _ (S : Schema) (P : Presentation) (m : Content) (entries : List ℕ) wher
     pub found : (r : ℕ) → slice_index_or w.met r false ≡ true → (i : ℕ) × (slice_get w.rows i ≡ Some r)
     pub once : (i j r : ℕ) → slice_get w.rows i ≡ Some r → slice_get w.rows j ≡ Some r → i ≡ j
     pub live : (i r : ℕ) → slice_get w.rows i ≡ Some r → live_of m r ≡ true
-    pub entity : (i r : ℕ) (t : EntTerm) → slice_get w.rows i ≡ Some r → slice_get w.names i ≡ Some t → entity_of S P.generators t ≡ Some (row_entity m r)
+    pub entity : (i r : ℕ) (t : EntTerm) → slice_get w.rows i ≡ Some r → slice_get w.names i ≡ Some t
+        → entity_of S P.generators t ≡ Some (row_entity m r)
     pub leads : (i r : ℕ) (t : EntTerm) → slice_get w.rows i ≡ Some r → slice_get w.names i ≡ Some t → row_of_term m entries t ≡ Some r
     pub sorted : (i j : ℕ) (t u : EntTerm) → i < j → slice_get w.names i ≡ Some t → slice_get w.names j ≡ Some u → IsBefore t u
 
@@ -92,8 +94,10 @@ module _ (S : Schema) (P : Presentation) (m : Content) (entries : List ℕ) wher
   pub record IsWalked (w : Listing) (g n k : ℕ) : Type 0 where
     pub listing : IsListing w
     pub origin : (j : ℕ) (u : EntTerm) → slice_get w.names j ≡ Some u → IsGenerator g u ⊎ IsStep w n k u
-    pub generators : (i e : ℕ) → i < g → entity_at (slice_get P.generators i) ≡ Some e → IsNamedUpTo w (slice_index entries i) (generator_term i)
-    pub steps : (i key r s : ℕ) (t : EntTerm) → IsPast n k i key → slice_get w.rows i ≡ Some r → slice_get w.names i ≡ Some t → cell_of m r key ≡ Some s
+    pub generators : (i e : ℕ) → i < g → entity_at (slice_get P.generators i) ≡ Some e
+        → IsNamedUpTo w (slice_index entries i) (generator_term i)
+    pub steps : (i key r s : ℕ) (t : EntTerm) → IsPast n k i key → slice_get w.rows i ≡ Some r → slice_get w.names i ≡ Some t
+        → cell_of m r key ≡ Some s
         → IsNamedUpTo w s (one_further t key)
 
   -- all generators are named and all steps from named rows

@@ -1,6 +1,7 @@
 //! The values of functions at values.
 ghost use Rattle.std.specs.Prelude.{◌≡◌, IfOk, find};
-ghost use Rattle.cq_theory.specs.Tables.{same_plain as alike, all_same_plain as all_alike, is_for as is_entry_for, entry_or_built};
+ghost use Rattle.cq_theory.specs.Tables.{same_plain as alike, all_same_plain as all_alike, is_for as is_entry_for};
+ghost use Rattle.cq_theory.specs.Tables.{entry_or_built};
 
 use crate::values::copied;
 use cq_base::Seq;
@@ -55,7 +56,8 @@ pub fn applied(
     function: u32,
     args: Vec<Value>,
 ) -> Result<Value, AllocError>
-    ensures { IfOk result (λ value. value ≡ entry_or_built (find (is_entry_for function args.items) entries.now) function args.items) }
+    ensures { IfOk result (λ value. value ≡ entry_or_built (find (is_entry_for function args.items) entries.now)
+        function args.items) }
 {
     for entry in entries {
         if is_for(function, args.as_slice(), entry) {

@@ -85,7 +85,8 @@ fn place_leaves(
         × AreNamedRows schema.now presentation.now tables.now entries numbered.now }
     ensures { (entries : List ℕ) → AreClosed schema.now presentation.now tables.now entries
         → AreNamedRows schema.now presentation.now tables.now entries numbered.now
-        → IfOk result (λ made. AreLeaves schema.now presentation.now tables.now entries numbered.now.names made.1 made.0) }
+        → IfOk result (λ made. AreLeaves schema.now presentation.now tables.now entries numbered.now.names
+        made.1 made.0) }
 {
     schema.is_well_sorted();
     let entities = schema.entities.len();
@@ -130,7 +131,8 @@ fn make_nodes(
     requires presentation { IsPresentation schema.now presentation.now }
     requires closed { AreClosed schema.now presentation.now tables.now entries.now }
     requires rows { AreNamedRows schema.now presentation.now tables.now entries.now numbered.now }
-    ensures { IfOk result (λ made. IsBuilt schema.now presentation.now tables.now entries.now numbered.now.order numbered.now.names numbered.now.numbers
+    ensures { IfOk result (λ made. IsBuilt schema.now presentation.now tables.now entries.now numbered.now.order
+        numbered.now.names numbered.now.numbers
         made.1 made.0.nodes made.0.equations made.0.types) }
 {
     schema.is_well_sorted();
@@ -194,7 +196,8 @@ fn read_parts(
 ) -> Result<ModelParts, AllocError>
     requires few_types { length types.now < 2 ^ 64 }
     requires closed { AreClosed schema.now presentation.now tables.now entries.now }
-    requires built { (nodes : List Node) × (equations : List (ℕ × ℕ)) × IsBuilt schema.now presentation.now tables.now entries.now numbered.now.order numbered.now.names
+    requires built { (nodes : List Node) × (equations : List (ℕ × ℕ))
+        × IsBuilt schema.now presentation.now tables.now entries.now numbered.now.order numbered.now.names
         numbered.now.numbers places.now nodes equations types.now × IsClosureOf nodes equations flat.now }
     ensures tables { IfOk result (λ parts. record { sheet = parts.sheet; algebra = parts.algebra }
         ≡ tables_of schema.now presentation.now tables.now entries.now numbered.now.order numbered.now.numbers places.now types.now flat.now) }
@@ -226,8 +229,10 @@ fn model_parts(
     requires presentation { IsPresentation schema.now presentation.now }
     requires closed { AreClosed schema.now presentation.now tables.now entries.now }
     requires rows { AreNamedRows schema.now presentation.now tables.now entries.now numbered.now }
-    ensures instance { IfOk result (λ parts. IsInstance (instance_of schema.now presentation.now numbered.now.names parts)) }
-    ensures listed { IfOk result (λ parts. IsListed (instance_of schema.now presentation.now numbered.now.names parts)) }
+    ensures instance { IfOk result (λ parts. IsInstance
+        (instance_of schema.now presentation.now numbered.now.names parts)) }
+    ensures listed { IfOk result (λ parts. IsListed
+        (instance_of schema.now presentation.now numbered.now.names parts)) }
     ensures consistent { IfOk result (λ _. IsInconsistent schema.now presentation.now → ⊥) }
     ensures refused { IfErr result (IsRefusal schema.now presentation.now) }
 {
@@ -299,7 +304,8 @@ pub fn build(
     ensures consistent { IfOk result (λ _. IsInconsistent schema.value presentation → ⊥) }
     ensures open { result ≡ Err Depth → NoneCloses schema.value presentation depth }
     ensures many { result ≡ Err TooManyRows → SomeWide schema.value presentation depth }
-    ensures inconsistent { (c d : Con) → result ≡ Err (Inconsistent c d) → IsInconsistentAt schema.value presentation c d }
+    ensures inconsistent { (c d : Con) → result ≡ Err (Inconsistent c d)
+        → IsInconsistentAt schema.value presentation c d }
 {
     let partial = match saturate(alloc, &schema, &presentation, depth) {
         Ok(partial) => partial,

@@ -1,5 +1,6 @@
 //! The equations between type terms: those of a presentation, and those of its schema at each row.
-ghost use Rattle.std.specs.Prelude.{ℕ, ◌≡◌, ◌<◌, ◌≤◌, ◌^◌, [], true, Some, All, length, slice_get, slice_index_or, OnOk};
+ghost use Rattle.std.specs.Prelude.{ℕ, ◌≡◌, ◌<◌, ◌≤◌, ◌^◌, [], true, Some, All, length, slice_get, slice_index_or};
+ghost use Rattle.std.specs.Prelude.{OnOk};
 ghost use Rattle.std.specs.List.{flat_map};
 ghost use Rattle.cq_tables.specs.Content.{live_of};
 ghost use Rattle.cq_tables.specs.Content.{entity_of as row_entity};
@@ -26,10 +27,12 @@ pub fn push_given(
     list: &mut NodeList,
 ) -> Result<(), AllocError>
     requires places { HavePlaces schema.now tables.now places.now (length list.old.nodes) }
-    requires presented { IsPresented schema.now tables.now places.now presentation.now entries.now (length list.old.nodes) }
+    requires presented { IsPresented schema.now tables.now places.now presentation.now entries.now
+        (length list.old.nodes) }
     requires presentation { IsPresentation schema.now presentation.now }
     ensures grows { OnOk result (length list.old.nodes ≤ length list.new.nodes) }
-    ensures added { OnOk result (AddsSides schema.now tables.now places.now presentation.now entries.now (flat_map equation_sides presentation.now.equations) list.old list.new) }
+    ensures added { OnOk result (AddsSides schema.now tables.now places.now presentation.now entries.now
+        (flat_map equation_sides presentation.now.equations) list.old list.new) }
 {
     for equation in presentation.equations.as_slice() {
         let Equation::Typ(left, right) = equation else {
@@ -54,7 +57,8 @@ fn push_row(
     requires live { live_of tables.now row ≡ true }
     requires entity { row_entity tables.now row ≡ entity }
     ensures grows { OnOk result (length list.old.nodes ≤ length list.new.nodes) }
-    ensures added { OnOk result (AddsAtRow schema.now tables.now places.now entity schema.now.obs_eqs row list.old list.new) }
+    ensures added { OnOk result (AddsAtRow schema.now tables.now places.now entity schema.now.obs_eqs row
+        list.old list.new) }
 {
     for equation in schema.obs_eqs.as_slice() {
         if equation.entity != entity {
@@ -105,10 +109,12 @@ pub fn push_observations(
     list: &mut NodeList,
 ) -> Result<(), AllocError>
     requires places { HavePlaces schema.now tables.now places.now (length list.old.nodes) }
-    requires rows { (e r i : ℕ) → slice_get (slice_index_or order.now e []) i ≡ Some r → (live_of tables.now r ≡ true) × (row_entity tables.now r ≡ e) }
+    requires rows { (e r i : ℕ) → slice_get (slice_index_or order.now e []) i ≡ Some r → (live_of tables.now r ≡ true)
+        × (row_entity tables.now r ≡ e) }
     requires few { length order.now < 2 ^ 32 }
     ensures grows { OnOk result (length list.old.nodes ≤ length list.new.nodes) }
-    ensures added { OnOk result (AddsObservations schema.now tables.now places.now order.now (length order.now) list.old list.new) }
+    ensures added { OnOk result (AddsObservations schema.now tables.now places.now order.now
+        (length order.now) list.old list.new) }
 {
     for (entity, rows) in order.iter().enumerate() {
         push_entity(

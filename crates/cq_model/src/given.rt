@@ -61,9 +61,11 @@ fn given_parts(
 ) -> Result<GivenParts, AllocError>
     requires model { IsModel schema.now (tables sheet.now algebra.now) }
     requires few { size_of (tables sheet.now algebra.now) ≤ 16000000 }
-    ensures presentation { IfOk result (λ parts. parts.presentation ≡ (given schema.now (tables sheet.now algebra.now)).presentation) }
+    ensures presentation { IfOk result (λ parts. parts.presentation
+        ≡ (given schema.now (tables sheet.now algebra.now)).presentation) }
     ensures names { IfOk result (λ parts. parts.names ≡ (given schema.now (tables sheet.now algebra.now)).names) }
-    ensures standings { IfOk result (λ parts. map meaning parts.standings ≡ canonical_assignment schema.now (tables sheet.now algebra.now)) }
+    ensures standings { IfOk result (λ parts. map meaning parts.standings ≡ canonical_assignment schema.now
+        (tables sheet.now algebra.now)) }
 {
     let presentation = canonical_presentation(alloc, schema, sheet, algebra)?;
     let names = row_names(alloc, sheet.counts.as_slice())?;
@@ -87,7 +89,8 @@ impl Instance {
     ) -> Result<Instance, TablesRefusal>
         requires { IsModel schema.value (tables sheet algebra) }
         ensures instance { IfOk result (λ instance. instance ≡ given schema.value (tables sheet algebra)) }
-        ensures initial { IfOk result (λ instance. Initial instance.schema instance.presentation instance.tables instance.assignment) }
+        ensures initial { IfOk result (λ instance. Initial instance.schema instance.presentation instance.tables
+            instance.assignment) }
         ensures least { IfOk result (λ instance. HasLeastNames instance) }
         ensures large { (result ≡ Err TablesRefusal.TooLarge) ↔ (16000000 < size_of (tables sheet algebra)) }
     {

@@ -61,8 +61,20 @@ impl Instance {
         algebra: Algebra,
         standings: Seq<Standing>,
     ) -> Instance
-        requires { IsInstance (record { schema = schema.value; presentation = presentation; names = names; tables = record { sheet = sheet; algebra = algebra }; assignment = map meaning standings }) }
-        ensures { result ≡ record { schema = schema.value; presentation = presentation; names = names; tables = record { sheet = sheet; algebra = algebra }; assignment = map meaning standings } }
+        requires { IsInstance (record {
+          schema = schema.value;
+          presentation = presentation;
+          names = names;
+          tables = record { sheet = sheet; algebra = algebra };
+          assignment = map meaning standings;
+        }) }
+        ensures { result ≡ record {
+          schema = schema.value;
+          presentation = presentation;
+          names = names;
+          tables = record { sheet = sheet; algebra = algebra };
+          assignment = map meaning standings;
+        } }
     {
         Instance {
             schema,
@@ -134,7 +146,8 @@ impl Instance {
     /// The value of an attribute at a row of its entity.
     pub fn cell(&self, attribute: u32, row: u32) -> &Value
         requires attribute { attribute < length self.now.schema.attributes }
-        requires row { IfSome (slice_get self.now.schema.attributes attribute) (λ edge. row < count_of self.now.tables edge.from) }
+        requires row { IfSome (slice_get self.now.schema.attributes attribute)
+            (λ edge. row < count_of self.now.tables edge.from) }
         ensures { result.now ≡ cell_at self.now.tables attribute row }
     {
         let column = &self.sheet.cells.as_slice()[attribute as usize];

@@ -22,13 +22,18 @@ ghost use Rattle.cq_model.specs.Built.{IsBuilt, IsClosureOf, tables_of, assignme
 /// nodes, are the listed model of the presentation, with these names. Where two constants clash, the presentation is
 /// inconsistent at just these two.
 pub fn read_models()
-    ensures listed { (S : Schema) (P : Presentation) (m : Content) (rows : List ℕ) → IsSchema S → IsPresentation S P → AreClosed S P m rows
-        → (order : List (List ℕ)) (names : List (List EntTerm)) (numbers : List ℕ) (places : Places) (nodes : List Node) (equations : List (ℕ × ℕ)) (types : List ℕ)
+    ensures listed { (S : Schema) (P : Presentation) (m : Content) (rows : List ℕ) → IsSchema S → IsPresentation S P
+        → AreClosed S P m rows
+        → (order : List (List ℕ)) (names : List (List EntTerm)) (numbers : List ℕ) (places : Places) (nodes : List Node)
+        (equations : List (ℕ × ℕ)) (types : List ℕ)
         → IsBuilt S P m rows order names numbers places nodes equations types
         → (flat : Closure) → IsClosureOf nodes equations flat → flat.clash ≡ None
-        → (lists : Lists S P (tables_of S P m rows order numbers places types flat) (assignment_of S P m rows order numbers places flat.values)) × (lists.names ≡ names) }
-    ensures inconsistent { (S : Schema) (P : Presentation) (m : Content) (rows : List ℕ) → IsSchema S → IsPresentation S P → AreClosed S P m rows
-        → (order : List (List ℕ)) (names : List (List EntTerm)) (numbers : List ℕ) (places : Places) (nodes : List Node) (equations : List (ℕ × ℕ)) (types : List ℕ)
+        → (lists : Lists S P (tables_of S P m rows order numbers places types flat)
+        (assignment_of S P m rows order numbers places flat.values)) × (lists.names ≡ names) }
+    ensures inconsistent { (S : Schema) (P : Presentation) (m : Content) (rows : List ℕ) → IsSchema S
+        → IsPresentation S P → AreClosed S P m rows
+        → (order : List (List ℕ)) (names : List (List EntTerm)) (numbers : List ℕ) (places : Places) (nodes : List Node)
+        (equations : List (ℕ × ℕ)) (types : List ℕ)
         → IsBuilt S P m rows order names numbers places nodes equations types
         → (flat : Closure) → IsClosureOf nodes equations flat
         → (c d : Con) → flat.clash ≡ Some (c, d) → IsInconsistentAt S P c d }

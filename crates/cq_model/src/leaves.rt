@@ -1,5 +1,6 @@
 //! The cells and the generators of types, as the first nodes.
-ghost use Rattle.std.specs.Prelude.{ℕ, ◌≡◌, ◌<◌, ◌+◌, ◌*◌, ◌^◌, [], Some, All, map, length, slice_get, slice_index, slice_index_or, IfOk, OnOk};
+ghost use Rattle.std.specs.Prelude.{ℕ, ◌≡◌, ◌<◌, ◌+◌, ◌*◌, ◌^◌, [], Some, All, map, length, slice_get, slice_index};
+ghost use Rattle.std.specs.Prelude.{slice_index_or, IfOk, OnOk};
 ghost use Rattle.cq_theory.specs.Canonical.{below};
 ghost use Rattle.cq_model.specs.Numbering.{positions, rank};
 ghost use Rattle.cq_model.specs.LeafPlaces.{AreFirsts, AddsLeaves, AddsGenerators};
@@ -27,7 +28,8 @@ pub fn first_places(
     requires starts { length starts.items ≡ length attributes.now }
     requires once { (i j r : ℕ) → slice_get rows.now i ≡ Some r → slice_get rows.now j ≡ Some r → i ≡ j }
     requires fits { (e : ℕ) → e < length attributes.now
-        → slice_index starts.items e + length (positions members.now e) * length (slice_index_or attributes.now e []) < 2 ^ 63 }
+        → slice_index starts.items e + length (positions members.now e) * length
+        (slice_index_or attributes.now e []) < 2 ^ 63 }
     ensures firsts { IfOk result (λ firsts. AreFirsts members.now rows.now attributes.now starts.items firsts.items) }
     ensures count { IfOk result (λ firsts. length firsts.items ≡ made) }
 {
@@ -46,7 +48,8 @@ pub fn first_places(
 pub fn ranks(alloc: Global, entities: usize, sources: &[u32]) -> Result<Vec<u32>, AllocError>
     requires within { All (λ source. source < entities) sources.now }
     requires few { length sources.now < 2 ^ 32 }
-    ensures { IfOk result (λ ranks. ranks.items ≡ map (λ a. rank sources.now (slice_index sources.now a) a) (below (length sources.now))) }
+    ensures { IfOk result (λ ranks. ranks.items ≡ map (λ a. rank sources.now (slice_index sources.now a) a)
+        (below (length sources.now))) }
 {
     let mut counts = vec![in alloc; 0u32; entities]?;
     let mut ranks = Vec::new(alloc);

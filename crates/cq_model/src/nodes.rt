@@ -28,7 +28,11 @@ impl Model for NodeList {
 
     ghost Value = { NodeListData };
 
-    ghost view = { λ list. record { nodes = list.nodes.items; types = list.types.items; equations = list.equations.items } };
+    ghost view = { λ list. record {
+      nodes = list.nodes.items;
+      types = list.types.items;
+      equations = list.equations.items;
+    } };
 }
 
 impl NodeList {
@@ -53,7 +57,12 @@ impl NodeList {
     /// Adds a node of a type, and answers its place.
     pub fn push(&mut self, node: Node, kind: u32) -> Result<u64, AllocError>
         ensures place { IfOk result (λ place. place ≡ length self.old.nodes) }
-        ensures added { OnOk result (self.new ≡ record { nodes = self.old.nodes ++ node ∷ []; types = self.old.types ++ kind ∷ []; equations = self.old.equations }) }
+        ensures added { OnOk result (self.new ≡ record {
+          nodes = self.old.nodes ++ node ∷ [];
+          types = self.old.types
+              ++ kind ∷ [];
+          equations = self.old.equations;
+        }) }
     {
         let place = self.count();
         self.nodes.push(node)?;
@@ -63,7 +72,11 @@ impl NodeList {
 
     /// Adds an equation between two nodes.
     fn equate(&mut self, left: u64, right: u64) -> Result<(), AllocError>
-        ensures { OnOk result (self.new ≡ record { nodes = self.old.nodes; types = self.old.types; equations = self.old.equations ++ (left, right) ∷ [] }) }
+        ensures { OnOk result (self.new ≡ record {
+          nodes = self.old.nodes;
+          types = self.old.types;
+          equations = self.old.equations ++ (left, right) ∷ [];
+        }) }
     {
         self.equations.push((left, right))?;
         Ok(())
@@ -80,7 +93,8 @@ fn place_of_cell(
 ) -> u64
     requires { (S : Over) × (count : ℕ) × (count < 2 ^ 64) × HavePlaces S tables.now places.now count
         × IsReadable S tables.now places.now rows.now count (Att attribute term.now) }
-    ensures { (r : ℕ) × (row_of_term tables.now rows.now term.now ≡ Some r) × (result ≡ cell_place places.now r attribute) }
+    ensures { (r : ℕ) × (row_of_term tables.now rows.now term.now ≡ Some r)
+        × (result ≡ cell_place places.now r attribute) }
 {
     let start = rows[term.generator as usize];
     match tables.trace(start, term.path.as_slice()) {
@@ -117,7 +131,8 @@ fn push_term(
 ) -> Result<u64, AllocError>
     requires places { HavePlaces schema.now tables.now places.now (length list.old.nodes) }
     requires term { IsReadable schema.now tables.now places.now rows.now (length list.old.nodes) term.now }
-    ensures { IfOk result (λ place. IsPushed schema.now tables.now places.now rows.now list.old list.new term.now place) }
+    ensures { IfOk result (λ place. IsPushed schema.now tables.now places.now rows.now list.old list.new
+        term.now place) }
 {
     match term {
         TypeTerm::Gen(generator) => Ok(places.generators.as_slice()[*generator as usize]),

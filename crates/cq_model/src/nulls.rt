@@ -1,5 +1,6 @@
 //! Nulls counted out over the cells, entity by entity, row by row and attribute by attribute.
-ghost use Rattle.std.specs.Prelude.{ℕ, ◌≡◌, ◌<◌, ◌≤◌, ◌+◌, ◌*◌, ◌^◌, ◌++◌, [], map, length, All, IfOk, OnOk, slice_index, slice_index_or};
+ghost use Rattle.std.specs.Prelude.{ℕ, ◌≡◌, ◌<◌, ◌≤◌, ◌+◌, ◌*◌, ◌^◌, ◌++◌, [], map, length, All, IfOk, OnOk};
+ghost use Rattle.std.specs.Prelude.{slice_index, slice_index_or};
 ghost use Rattle.std.specs.List.{flat_map};
 ghost use Rattle.cq_model.specs.Numbering as numbering;
 
@@ -22,8 +23,10 @@ pub fn count_nulls(
 ) -> Result<Nulls, AllocError>
     requires entities { length attributes.now ≡ length rows.now }
     requires within { All (λ places. All (λ a. a < length targets.now) places) attributes.now }
-    ensures types { IfOk result (λ nulls. nulls.types.items ≡ numbering.types rows.now attributes.now targets.now (length rows.now)) }
-    ensures starts { IfOk result (λ nulls. nulls.starts.items ≡ numbering.starts rows.now attributes.now targets.now (length rows.now)) }
+    ensures types { IfOk result (λ nulls. nulls.types.items ≡ numbering.types rows.now attributes.now targets.now
+        (length rows.now)) }
+    ensures starts { IfOk result (λ nulls. nulls.starts.items ≡ numbering.starts rows.now attributes.now targets.now
+        (length rows.now)) }
 {
     let mut types = Vec::new(alloc);
     let mut starts = Vec::new(alloc);
@@ -47,7 +50,8 @@ fn push_entity(
     targets: &[u32],
 ) -> Result<(), AllocError>
     requires { All (λ a. a < length targets.now) places.now }
-    ensures { OnOk result (types.new.items ≡ types.old.items ++ flat_map (λ row. map (slice_index targets.now) places.now) rows.now) }
+    ensures { OnOk result (types.new.items ≡ types.old.items
+        ++ flat_map (λ row. map (slice_index targets.now) places.now) rows.now) }
 {
     for _row in rows {
         push_row(types, places, targets)?;

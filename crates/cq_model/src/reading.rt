@@ -1,5 +1,6 @@
 //! The tables of a model, read from numbered rows and from the closure of their terms.
-ghost use Rattle.std.specs.Prelude.{ℕ, ◌≡◌, ◌<◌, ◌^◌, true, map, length, All, IfOk, IsSome, Some, Option, slice_get, slice_index};
+ghost use Rattle.std.specs.Prelude.{ℕ, ◌≡◌, ◌<◌, ◌^◌, true, map, length, All, IfOk, IsSome, Some, Option, slice_get};
+ghost use Rattle.std.specs.Prelude.{slice_index};
 ghost use Rattle.std.specs.List.{enumerate_from};
 ghost use Rattle.cq_rows.specs.Plain.{ends_of};
 ghost use Rattle.cq_tables.specs.Content.{live_of, entity_of, keys_of, cell_of, step_of};
@@ -83,8 +84,11 @@ fn key_columns(
     requires few { length keys.now < 2 ^ 32 }
     requires within { All (λ edge. edge.from < length order.now) keys.now }
     requires keys { keys_of tables.now ≡ map ends_of keys.now }
-    requires rows { (e n r : ℕ) → slice_get (rows_at order.now e) n ≡ Some r → (live_of tables.now r ≡ true) × (entity_of tables.now r ≡ e) }
-    ensures { IfOk result (λ columns. columns ≡ map (λ k. map (λ r. number_in numbers.now (cell_of tables.now r k.0)) (rows_at order.now k.1.from)) (enumerate_from 0 keys.now)) }
+    requires rows { (e n r : ℕ) → slice_get (rows_at order.now e) n ≡ Some r → (live_of tables.now r ≡ true)
+        × (entity_of tables.now r ≡ e) }
+    ensures { IfOk result (λ columns. columns ≡ map
+        (λ k. map (λ r. number_in numbers.now (cell_of tables.now r k.0)) (rows_at order.now k.1.from))
+        (enumerate_from 0 keys.now)) }
 {
     let mut columns = Vec::with_capacity(alloc, keys.len())?;
     for (key, edge) in keys.iter().enumerate() {
@@ -104,7 +108,8 @@ fn cell_column(
 ) -> Result<Seq<Value>, AllocError>
     requires few { length flat.now.values < 2 ^ 64 }
     requires places { All (λ r. cell_place places.now r attribute < length flat.now.values) rows.now }
-    ensures { IfOk result (λ column. column ≡ map (λ r. value_at flat.now.values (cell_place places.now r attribute)) rows.now) }
+    ensures { IfOk result (λ column. column ≡ map (λ r. value_at flat.now.values
+        (cell_place places.now r attribute)) rows.now) }
 {
     let rank = number_at(places.ranks.as_slice(), attribute as u64) as u64;
     let firsts = places.firsts.as_slice();
@@ -127,8 +132,11 @@ fn cell_columns(
     requires few { length attributes.now < 2 ^ 32 }
     requires few_values { length flat.now.values < 2 ^ 64 }
     requires within { All (λ edge. edge.from < length order.now) attributes.now }
-    requires places { (a n r : ℕ) (edge : Edge) → slice_get attributes.now a ≡ Some edge → slice_get (rows_at order.now edge.from) n ≡ Some r → cell_place places.now r a < length flat.now.values }
-    ensures { IfOk result (λ columns. columns ≡ map (λ a. map (λ r. value_at flat.now.values (cell_place places.now r a.0)) (rows_at order.now a.1.from)) (enumerate_from 0 attributes.now)) }
+    requires places { (a n r : ℕ) (edge : Edge) → slice_get attributes.now a ≡ Some edge
+        → slice_get (rows_at order.now edge.from) n ≡ Some r → cell_place places.now r a < length flat.now.values }
+    ensures { IfOk result (λ columns. columns ≡ map
+        (λ a. map (λ r. value_at flat.now.values (cell_place places.now r a.0)) (rows_at order.now a.1.from))
+        (enumerate_from 0 attributes.now)) }
 {
     let mut columns = Vec::with_capacity(alloc, attributes.len())?;
     for (attribute, edge) in attributes.iter().enumerate() {
@@ -166,9 +174,12 @@ pub fn read_sheet(
     requires entities { length order.now ≡ length schema.now.entities }
     requires few_values { length flat.now.values < 2 ^ 64 }
     requires keys { keys_of tables.now ≡ map ends_of schema.now.keys }
-    requires rows { (e n r : ℕ) → slice_get (rows_at order.now e) n ≡ Some r → (live_of tables.now r ≡ true) × (entity_of tables.now r ≡ e) }
-    requires places { (a n r : ℕ) (edge : Edge) → slice_get schema.now.attributes a ≡ Some edge → slice_get (rows_at order.now edge.from) n ≡ Some r → cell_place places.now r a < length flat.now.values }
-    ensures { (P : Presentation) (rows : _) → IfOk result (λ sheet. sheet ≡ sheet_of schema.now P tables.now rows order.now numbers.now places.now flat.now.values) }
+    requires rows { (e n r : ℕ) → slice_get (rows_at order.now e) n ≡ Some r → (live_of tables.now r ≡ true)
+        × (entity_of tables.now r ≡ e) }
+    requires places { (a n r : ℕ) (edge : Edge) → slice_get schema.now.attributes a ≡ Some edge
+        → slice_get (rows_at order.now edge.from) n ≡ Some r → cell_place places.now r a < length flat.now.values }
+    ensures { (P : Presentation) (rows : _) → IfOk result
+        (λ sheet. sheet ≡ sheet_of schema.now P tables.now rows order.now numbers.now places.now flat.now.values) }
 {
     let counts = row_counts(alloc, order)?;
     let keys = key_columns(alloc, tables, schema.keys.as_slice(), order, numbers)?;
@@ -214,7 +225,9 @@ fn read_standing(
     flat: &Flat,
 ) -> Result<Standing, AllocError>
     requires { HasPlace places.now flat.now.values generator sort.now }
-    ensures { (S : SchemaData) (P : Presentation) (m : Content) (order : _) → IfOk result (λ made. meaning made ≡ standing S P m rows.now order numbers.now places.now flat.now.values generator sort.now) }
+    ensures { (S : SchemaData) (P : Presentation) (m : Content) (order : _)
+        → IfOk result (λ made. meaning made ≡ standing S P m rows.now order numbers.now places.now flat.now.values
+        generator sort.now) }
 {
     match sort {
         Sort::Entity(_) => Ok(Standing::Row(number_at(numbers, place_at(rows, generator)))),
@@ -235,8 +248,11 @@ pub fn read_standings(
     places: &Places,
     flat: &Flat,
 ) -> Result<Seq<Standing>, AllocError>
-    requires { (n : ℕ) (g : Name × Sort) → slice_get presentation.now.generators n ≡ Some g → HasPlace places.now flat.now.values n g.1 }
-    ensures { (S : SchemaData) (m : Content) (order : _) → IfOk result (λ made. map meaning made ≡ assignment_of S presentation.now m rows.now order numbers.now places.now flat.now.values) }
+    requires { (n : ℕ) (g : Name × Sort) → slice_get presentation.now.generators n ≡ Some g
+        → HasPlace places.now flat.now.values n g.1 }
+    ensures { (S : SchemaData) (m : Content) (order : _)
+        → IfOk result (λ made. map meaning made ≡ assignment_of S presentation.now m rows.now order numbers.now
+        places.now flat.now.values) }
 {
     let generators = presentation.generators.as_slice();
     let mut made = Vec::with_capacity(alloc, generators.len())?;

@@ -26,7 +26,8 @@ impl Instance {
     pub fn row_along(&self, path: &[u32], row: u32) -> u32
         requires { (target : ℕ) × IsOnWay self.now.schema self.now.tables path.now row target }
         ensures row { result ≡ row_from self.now.tables row path.now }
-        ensures within { (target : ℕ) → IsOnWay self.now.schema self.now.tables path.now row target → result < count_of self.now.tables target }
+        ensures within { (target : ℕ) → IsOnWay self.now.schema self.now.tables path.now row target
+            → result < count_of self.now.tables target }
     {
         self.is_instance();
         let mut reached = row;
@@ -38,9 +39,11 @@ impl Instance {
 
     /// The row that an entity term names whose generators stand for these rows and values.
     pub fn row_over(&self, standings: &[Standing], term: &EntTerm) -> u32
-        requires { (entity : ℕ) × IsEntTermOf self.now.schema self.now.tables (map meaning standings.now) term.now entity }
+        requires { (entity : ℕ) × IsEntTermOf self.now.schema self.now.tables (map meaning standings.now)
+            term.now entity }
         ensures row { result ≡ row_named self.now.tables (map meaning standings.now) term.now }
-        ensures within { (entity : ℕ) → IsEntTermOf self.now.schema self.now.tables (map meaning standings.now) term.now entity → result < count_of self.now.tables entity }
+        ensures within { (entity : ℕ) → IsEntTermOf self.now.schema self.now.tables (map meaning standings.now) term.now
+            entity → result < count_of self.now.tables entity }
     {
         let start = row_in(standing_of(standings, term.generator));
         self.row_along(term.path.as_slice(), start)
@@ -78,7 +81,8 @@ impl Instance {
     pub fn row_of(&self, term: &EntTerm) -> u32
         requires { IsGround self.now.schema self.now.presentation (Ent term.now) }
         ensures row { result ≡ row_named self.now.tables self.now.assignment term.now }
-        ensures within { (entity : ℕ) → entity_of self.now.schema self.now.presentation.generators term.now ≡ Some entity → result < count_of self.now.tables entity }
+        ensures within { (entity : ℕ) → entity_of self.now.schema self.now.presentation.generators term.now
+            ≡ Some entity → result < count_of self.now.tables entity }
     {
         self.row_over(self.standings(), term)
     }

@@ -1,5 +1,6 @@
 //! The least name of each row, by one walk from the rows of the generators.
-ghost use Rattle.std.specs.Prelude.{ℕ, List, ◌≡◌, ◌<◌, ◌+◌, ◌^◌, [], true, false, length, map, replicate, slice_get, slice_index, slice_index_or, IfOk, OnOk, Some};
+ghost use Rattle.std.specs.Prelude.{ℕ, List, ◌≡◌, ◌<◌, ◌+◌, ◌^◌, [], true, false, length, map, replicate, slice_get};
+ghost use Rattle.std.specs.Prelude.{slice_index, slice_index_or, IfOk, OnOk, Some};
 ghost use Rattle.cq_tables.specs.Content.{made_of, live_of, keys_of, IsWhole};
 ghost use Rattle.cq_rows.specs.Plain.{ends_of};
 ghost use Rattle.cq_rows.specs.Saturated.{HasEntries};
@@ -64,7 +65,8 @@ impl Walk {
     fn meet_step(&mut self, alloc: Global, row: u64, at: usize, key: u32) -> Result<(), AllocError>
         requires row { row < length self.old.met }
         requires at { at < length self.old.names }
-        ensures { OnOk result ((name : Term) → slice_get self.old.names at ≡ Some name → Meets self.old self.new row (one_further name key)) }
+        ensures { OnOk result ((name : Term) → slice_get self.old.names at ≡ Some name
+            → Meets self.old self.new row (one_further name key)) }
     {
         if self.met[row as usize] {
             return Ok(());
@@ -135,7 +137,8 @@ fn expand(
     requires at { at < length walk.old.rows }
     requires names { length walk.old.names ≡ length walk.old.rows }
     requires live { live_of tables.now (slice_index walk.old.rows at) ≡ true }
-    ensures { OnOk result ((P : Presented) (entries : List ℕ) (g : ℕ) → IsWalked schema.now P tables.now entries walk.old g at 0
+    ensures { OnOk result ((P : Presented) (entries : List ℕ) (g : ℕ)
+        → IsWalked schema.now P tables.now entries walk.old g at 0
         → IsWalked schema.now P tables.now entries walk.new g (at + 1) 0) }
 {
     schema.is_well_sorted();

@@ -20,7 +20,8 @@ pub fn row_column(
     path: &[u32],
     count: u32,
 ) -> Result<Seq<u32>, AllocError>
-    requires { (target : ℕ) × ((row : ℕ) → row < count → IsOnWay instance.now.schema instance.now.tables path.now row target) }
+    requires { (target : ℕ) × ((row : ℕ) → row < count
+        → IsOnWay instance.now.schema instance.now.tables path.now row target) }
     ensures { IfOk result (λ column. column ≡ map (λ row. row_from instance.now.tables row path.now) (below count)) }
 {
     let mut column = Vec::with_capacity(alloc, count as usize)?;
@@ -40,7 +41,8 @@ fn value_at(
     requires { (type : ℕ) × IsTypeTermOf instance.now.schema instance.now.tables (AtRow row ∷ []) term.now type }
     ensures value { IfOk result (λ value. value ≡ value_of instance.now.tables (AtRow row ∷ []) term.now) }
     ensures fits { IfOk result (λ value. nat_lt 1024 (symbols_of value) ≡ false) }
-    ensures refused { IfErr result (TellsSize (nat_lt 1024 (symbols_of (value_of instance.now.tables (AtRow row ∷ []) term.now)))) }
+    ensures refused { IfErr result (TellsSize (nat_lt 1024
+        (symbols_of (value_of instance.now.tables (AtRow row ∷ []) term.now)))) }
 {
     let standings = [Standing::Row(row)];
     match instance.value_over(alloc, &standings, term) {
@@ -64,9 +66,12 @@ fn push_value(
     column: &mut Vec<Value>,
 ) -> Result<(), SizeRefusal>
     requires { (type : ℕ) × IsTypeTermOf instance.now.schema instance.now.tables (AtRow row ∷ []) term.now type }
-    ensures value { OnOk result (column.new.items ≡ column.old.items ++ value_of instance.now.tables (AtRow row ∷ []) term.now ∷ []) }
-    ensures fits { OnOk result (nat_lt 1024 (symbols_of (value_of instance.now.tables (AtRow row ∷ []) term.now)) ≡ false) }
-    ensures refused { IfErr result (TellsSize (nat_lt 1024 (symbols_of (value_of instance.now.tables (AtRow row ∷ []) term.now)))) }
+    ensures value { OnOk result (column.new.items ≡ column.old.items
+        ++ value_of instance.now.tables (AtRow row ∷ []) term.now ∷ []) }
+    ensures fits { OnOk result (nat_lt 1024 (symbols_of
+        (value_of instance.now.tables (AtRow row ∷ []) term.now)) ≡ false) }
+    ensures refused { IfErr result (TellsSize (nat_lt 1024
+        (symbols_of (value_of instance.now.tables (AtRow row ∷ []) term.now)))) }
 {
     match value_at(alloc, instance, term, row) {
         Ok(value) => match column.push(value) {
@@ -84,10 +89,13 @@ pub fn value_column(
     term: &TypeTerm,
     count: u32,
 ) -> Result<Seq<Value>, SizeRefusal>
-    requires { (type : ℕ) × ((row : ℕ) → row < count → IsTypeTermOf instance.now.schema instance.now.tables (AtRow row ∷ []) term.now type) }
-    ensures values { IfOk result (λ column. column ≡ map (λ row. value_of instance.now.tables (AtRow row ∷ []) term.now) (below count)) }
+    requires { (type : ℕ) × ((row : ℕ) → row < count
+        → IsTypeTermOf instance.now.schema instance.now.tables (AtRow row ∷ []) term.now type) }
+    ensures values { IfOk result (λ column. column ≡ map (λ row. value_of instance.now.tables (AtRow row ∷ []) term.now)
+        (below count)) }
     ensures fits { IfOk result (λ column. list_any (λ v. nat_lt 1024 (symbols_of v)) column ≡ false) }
-    ensures refused { IfErr result (TellsSize (list_any (λ v. nat_lt 1024 (symbols_of v)) (map (λ row. value_of instance.now.tables (AtRow row ∷ []) term.now) (below count)))) }
+    ensures refused { IfErr result (TellsSize (list_any (λ v. nat_lt 1024 (symbols_of v))
+        (map (λ row. value_of instance.now.tables (AtRow row ∷ []) term.now) (below count)))) }
 {
     let Ok(mut column) = Vec::with_capacity(alloc, count as usize) else {
         return Err(SizeRefusal::Memory);

@@ -29,7 +29,8 @@ const MOST_GENERATORS: u64 = 16_000_000;
 pub fn delta(alloc: Global, mapping: &Mapping, instance: &Instance) -> Result<Instance, SizeRefusal>
     requires preserves { Preserves mapping.now }
     requires over { instance.now.schema ≡ mapping.now.target }
-    ensures instance { IfOk result (λ made. made ≡ given mapping.now.source (delta_tables mapping.now instance.now.tables)) }
+    ensures instance { IfOk result (λ made. made ≡ given mapping.now.source
+        (delta_tables mapping.now instance.now.tables)) }
     ensures initial { IfOk result (λ made. Initial made.schema made.presentation made.tables made.assignment) }
     ensures least { IfOk result (λ made. HasLeastNames made) }
     ensures fits { IfOk result (λ _. is_oversized (delta_tables mapping.now instance.now.tables) ≡ false) }
@@ -118,7 +119,8 @@ fn pulled_keys(
     instance: &Instance,
 ) -> Result<Seq<Seq<u32>>, AllocError>
     requires over { instance.now.schema ≡ mapping.now.target }
-    ensures { IfOk result (λ columns. columns ≡ map (key_column mapping.now instance.now.tables) (enumerate_from 0 mapping.now.source.keys)) }
+    ensures { IfOk result (λ columns. columns ≡ map (key_column mapping.now instance.now.tables)
+        (enumerate_from 0 mapping.now.source.keys)) }
 {
     mapping.is_well_sorted();
     let keys = mapping.source.keys.as_slice();
@@ -138,10 +140,14 @@ fn push_cells(
     count: u32,
     columns: &mut Vec<Seq<Value>>,
 ) -> Result<(), SizeRefusal>
-    requires { (type : ℕ) × ((row : ℕ) → row < count → IsTypeTermOf instance.now.schema instance.now.tables (AtRow row ∷ []) term.now type) }
-    ensures column { OnOk result (columns.new.items ≡ columns.old.items ++ map (λ row. value_of instance.now.tables (AtRow row ∷ []) term.now) (below count) ∷ []) }
-    ensures fits { OnOk result (list_any (λ v. nat_lt 1024 (symbols_of v)) (map (λ row. value_of instance.now.tables (AtRow row ∷ []) term.now) (below count)) ≡ false) }
-    ensures refused { IfErr result (TellsSize (list_any (λ v. nat_lt 1024 (symbols_of v)) (map (λ row. value_of instance.now.tables (AtRow row ∷ []) term.now) (below count)))) }
+    requires { (type : ℕ) × ((row : ℕ) → row < count
+        → IsTypeTermOf instance.now.schema instance.now.tables (AtRow row ∷ []) term.now type) }
+    ensures column { OnOk result (columns.new.items ≡ columns.old.items
+        ++ map (λ row. value_of instance.now.tables (AtRow row ∷ []) term.now) (below count) ∷ []) }
+    ensures fits { OnOk result (list_any (λ v. nat_lt 1024 (symbols_of v))
+        (map (λ row. value_of instance.now.tables (AtRow row ∷ []) term.now) (below count)) ≡ false) }
+    ensures refused { IfErr result (TellsSize (list_any (λ v. nat_lt 1024 (symbols_of v))
+        (map (λ row. value_of instance.now.tables (AtRow row ∷ []) term.now) (below count)))) }
 {
     match value_column(alloc, instance, term, count) {
         Ok(column) => match columns.push(column) {
@@ -159,7 +165,8 @@ fn pulled_cells(
     instance: &Instance,
 ) -> Result<Seq<Seq<Value>>, SizeRefusal>
     requires over { instance.now.schema ≡ mapping.now.target }
-    ensures columns { IfOk result (λ columns. columns ≡ map (cell_column mapping.now instance.now.tables) (enumerate_from 0 mapping.now.source.attributes)) }
+    ensures columns { IfOk result (λ columns. columns ≡ map (cell_column mapping.now instance.now.tables)
+        (enumerate_from 0 mapping.now.source.attributes)) }
     ensures fits { IfOk result (λ _. has_long_cell (delta_tables mapping.now instance.now.tables) ≡ false) }
     ensures refused { IfErr result (TellsSize (has_long_cell (delta_tables mapping.now instance.now.tables))) }
 {
@@ -210,7 +217,8 @@ fn pulled_instance(
     requires over { instance.now.schema ≡ mapping.now.target }
     requires sheet { sheet ≡ (delta_tables mapping.now instance.now.tables).sheet }
     requires fits { is_oversized (delta_tables mapping.now instance.now.tables) ≡ false }
-    ensures instance { IfOk result (λ made. made ≡ given mapping.now.source (delta_tables mapping.now instance.now.tables)) }
+    ensures instance { IfOk result (λ made. made ≡ given mapping.now.source
+        (delta_tables mapping.now instance.now.tables)) }
     ensures initial { IfOk result (λ made. Initial made.schema made.presentation made.tables made.assignment) }
     ensures least { IfOk result (λ made. HasLeastNames made) }
 {

@@ -30,11 +30,15 @@ pub fn sigma(
     ensures schema { IfOk result (λ made. made.schema ≡ mapping.now.target) }
     ensures presentation { IfOk result (λ made. made.presentation ≡ moved mapping.now instance.now.presentation) }
     ensures listed { IfOk result (λ made. IsListed made) }
-    ensures consistent { IfOk result (λ _. IsInconsistent mapping.now.target (moved mapping.now instance.now.presentation) → ⊥) }
+    ensures consistent { IfOk result (λ _. IsInconsistent mapping.now.target
+        (moved mapping.now instance.now.presentation) → ⊥) }
     ensures size { SaysSize result (is_too_large mapping.now instance.now.presentation) }
-    ensures open { result ≡ Err Depth → NoneCloses mapping.now.target (moved mapping.now instance.now.presentation) depth }
-    ensures many { result ≡ Err TooManyRows → SomeWide mapping.now.target (moved mapping.now instance.now.presentation) depth }
-    ensures inconsistent { (c d : Con) → result ≡ Err (Inconsistent c d) → IsInconsistentAt mapping.now.target (moved mapping.now instance.now.presentation) c d }
+    ensures open { result ≡ Err Depth → NoneCloses mapping.now.target
+        (moved mapping.now instance.now.presentation) depth }
+    ensures many { result ≡ Err TooManyRows → SomeWide mapping.now.target
+        (moved mapping.now instance.now.presentation) depth }
+    ensures inconsistent { (c d : Con) → result ≡ Err (Inconsistent c d)
+        → IsInconsistentAt mapping.now.target (moved mapping.now instance.now.presentation) c d }
 {
     instance.is_instance();
     let presentation = match mapping.sigma_presentation(alloc, instance.presentation()) {

@@ -53,4 +53,5 @@ IsTermRefused tokens (refusals.BadOption place) = ⊥
 
 -- behind an End no text of the rule goes on
 abbrev pub EndsAtEnd : {A : Type 0} → Rule A → Type 0
-EndsAtEnd {A} rule = (front : List Token) (last : Token) (tail : List Token) (a : A) → last.kind ≡ kinds.End → Spells rule (front ++ last ∷ tail) a → tail ≡ []
+EndsAtEnd {A} rule = (front : List Token) (last : Token) (tail : List Token) (a : A) → last.kind ≡ kinds.End
+    → Spells rule (front ++ last ∷ tail) a → tail ≡ []

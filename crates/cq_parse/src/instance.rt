@@ -73,7 +73,8 @@ fn coproduct<'a>(alloc: Global, at: Cursor<'a>) -> Result<((Seq<Spot>, Spot), Cu
 
 /// Nothing, or options in braces.
 fn braced_options<'a>(alloc: Global, at: Cursor<'a>) -> Result<(Seq<Opt>, Cursor<'a>), Halt<'a>>
-    ensures { Gives result (read (braces (is Class.LeftBrace) (is Class.Options) grammar.setting section_words (is Class.RightBrace)) at.entry.tokens.now) }
+    ensures { Gives result (read (braces (is Class.LeftBrace) (is Class.Options) grammar.setting section_words
+        (is Class.RightBrace)) at.entry.tokens.now) }
 {
     if !is_next(at, Class::LeftBrace) {
         return Ok((Seq::from_vec(Vec::new(alloc)), at));

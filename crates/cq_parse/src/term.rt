@@ -4,7 +4,8 @@ ghost use Rattle.cq_rules.specs.Class.{is};
 ghost use Rattle.cq_rules.specs.Outcome.{leads, mapped, name_of, read_chain, read_keep};
 ghost use Rattle.cq_rules.specs.Rule.{set};
 ghost use Rattle.cq_rules.specs.Tree as tree;
-ghost use Rattle.cq_rules.specs.Tree.{after_dots, args_tree, begins_term, deepest, end, levels, more, read_args, read_base, read_deep, read_term};
+ghost use Rattle.cq_rules.specs.Tree.{after_dots, args_tree, begins_term, deepest, end, levels, more, read_args};
+ghost use Rattle.cq_rules.specs.Tree.{read_base, read_deep, read_term};
 ghost use Rattle.cq_syntax.specs.Terms.{tree_of};
 ghost use Rattle.cq_parse.specs.Gives.{Fails, GivesTerm, GivesTerms};
 ghost use Rattle.cq_parse.specs.TermTrees.{trees_of};
@@ -55,7 +56,8 @@ fn dots<'a>(
 ) -> Result<(Raw, usize, Cursor<'a>), Halt<'a>>
     requires known { first_levels ≡ levels (tree_of first) }
     requires in_range { first_levels ≤ most }
-    ensures reads { GivesTerm result (after_dots (tree_of first) (read_chain (most - first_levels) at.entry.tokens.now)) }
+    ensures reads { GivesTerm result (after_dots (tree_of first)
+        (read_chain (most - first_levels) at.entry.tokens.now)) }
     ensures levels { IfOk result (λ x. x.1 ≡ levels (tree_of x.0)) }
     ensures fits { IfOk result (λ x. x.1 ≤ most) }
 {

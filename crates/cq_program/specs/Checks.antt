@@ -1,5 +1,6 @@
 -- What declared names stand for, and the rules of names and parts.
-use Rattle.std.specs.Prelude.{ℕ, Bool, true, false, List, [], ◌∷◌, Option, Some, None, Result, Ok, Err, if◌then◌else◌, is_some, map, slice_index_or, option_and_then, option_map}
+use Rattle.std.specs.Prelude.{ℕ, Bool, true, false, List, [], ◌∷◌, Option, Some, None, Result, Ok, Err, if◌then◌else◌, is_some, map}
+use Rattle.std.specs.Prelude.{slice_index_or, option_and_then, option_map}
 use Rattle.cq_base.specs.declared.name.Name.{Name}
 use Rattle.cq_base.specs.declared.place.Place.{Place}
 use Rattle.cq_base.specs.Names.{same_name}
@@ -40,11 +41,14 @@ use Rattle.cq_query.specs.Coeval.{coeval_of}
 use Rattle.cq_transform.specs.Identities.{identity_images}
 use Rattle.cq_push.specs.Gluing.{coproduct_of, pushout_of}
 use Rattle.cq_program.specs.declared.reason.Reason.{Reason}
-use Rattle.cq_program.specs.declared.reason.Reason.TheVariants.{NameTaken, NameUnknown, WrongKind, WrongSchema, Duplicate, Unknown, WrongCount, WrongSort, Reserved, TooLarge, Missing, NotASpan, NotBuilt}
-use Rattle.cq_program.specs.Parts.{typeside_parts, typeside_places, schema_parts, schema_places, instance_parts, instance_places, mapping_parts, mapping_places, query_parts, query_places}
+use Rattle.cq_program.specs.declared.reason.Reason.TheVariants.{NameTaken, NameUnknown, WrongKind, WrongSchema, Duplicate, Unknown}
+use Rattle.cq_program.specs.declared.reason.Reason.TheVariants.{WrongCount, WrongSort, Reserved, TooLarge, Missing, NotASpan, NotBuilt}
+use Rattle.cq_program.specs.Parts.{typeside_parts, typeside_places, schema_parts, schema_places, instance_parts, instance_places}
+use Rattle.cq_program.specs.Parts.{mapping_parts, mapping_places, query_parts, query_places}
 
--- A schema, with the name under which it is printed, that of its own declaration, and the name of its typeside's declaration. Two names stand for
--- one schema exactly where the printed names are one, and two schemas are over one typeside declaration exactly where the typesides' names are one.
+-- A schema, with the name under which it is printed, that of its own declaration, and the name of its typeside's declaration. Two names
+-- stand for one schema exactly where the printed names are one, and two schemas are over one typeside declaration exactly where the
+-- typesides' names are one.
 pub record SchemaMeant : Type 0 where
   pub name : Name
   pub typeside : Name
@@ -76,8 +80,8 @@ pub record TransformMeant : Type 0 where
   pub ends : Ends
   pub transform : Transform
 
--- What a declared name stands for. An instance goes with the printed name of its schema, a mapping and a query with those of their source and their
--- target, and a transform with its ends.
+-- What a declared name stands for. An instance goes with the printed name of its schema, a mapping and a query with those of their source
+-- and their target, and a transform with its ends.
 pub data Meant : Type 0 where
   typeside : TypesideData → Meant
   schema : SchemaMeant → Meant
@@ -186,16 +190,20 @@ abbrev pub of_parts : {A R : Type 0} → (R → Option (Place × Reason)) → Op
 of_parts breach fault made = broken_or made (option_and_then breach fault)
 
 unfoldable pub typeside_given : Place → TypesideLit → Checked TypesideData
-typeside_given place lit = of_parts (part_breach place (typeside_places lit)) (typeside_fault (typeside_parts lit)) (typeside_made (typeside_parts lit))
+typeside_given place lit = of_parts (part_breach place (typeside_places lit)) (typeside_fault (typeside_parts lit))
+    (typeside_made (typeside_parts lit))
 
 unfoldable pub schema_given : Place → TypesideData → SchemaLit → Checked SchemaData
-schema_given place T lit = of_parts (part_breach place (schema_places lit)) (schema_fault T (schema_parts lit)) (schema_made T (schema_parts lit))
+schema_given place T lit = of_parts (part_breach place (schema_places lit)) (schema_fault T (schema_parts lit))
+    (schema_made T (schema_parts lit))
 
 unfoldable pub mapping_given : Place → SchemaData → SchemaData → MappingLit → Checked MappingData
-mapping_given place S T lit = of_parts (arrow_breach place (mapping_places lit)) (mapping_fault S T (mapping_parts lit)) (mapping_made S T (mapping_parts lit))
+mapping_given place S T lit = of_parts (arrow_breach place (mapping_places lit)) (mapping_fault S T (mapping_parts lit))
+    (mapping_made S T (mapping_parts lit))
 
 unfoldable pub query_given : Place → SchemaData → SchemaData → QueryLit → Checked QueryData
-query_given place S T lit = of_parts (arrow_breach place (query_places lit)) (query_fault S T (query_parts lit)) (query_made S T (query_parts lit))
+query_given place S T lit = of_parts (arrow_breach place (query_places lit)) (query_fault S T (query_parts lit))
+    (query_made S T (query_parts lit))
 
 abbrev fault_over : SchemaData → PresentationParts → Option TheoryRefusal
 fault_over S parts = presentation_fault S parts.generators parts.equations
@@ -204,12 +212,14 @@ abbrev made_over : SchemaData → PresentationParts → Presentation
 made_over S parts = presented S parts.generators parts.equations
 
 unfoldable pub presentation_given : Place → SchemaData → InstanceLit → Checked Presentation
-presentation_given place S lit = of_parts (part_breach place (instance_places lit)) (fault_over S (instance_parts lit)) (made_over S (instance_parts lit))
+presentation_given place S lit = of_parts (part_breach place (instance_places lit)) (fault_over S (instance_parts lit))
+    (made_over S (instance_parts lit))
 
--- What a declaration poses whose names and parts break no rule: a theory; a mapping or a query between schemas of printed names, whose duties are to be
--- derived; the identity of a schema; a presentation over a schema, whose model is to be made; a presentation that is made of others, to which a
--- limit applies; tables that are to be pulled back along a mapping, whose source has the printed name; tables to which a query is to be answered,
--- whose target has it; or the images of a transform between two instances, which are to keep the equations of the first.
+-- What a declaration poses whose names and parts break no rule: a theory; a mapping or a query between schemas of printed names, whose
+-- duties are to be derived; the identity of a schema; a presentation over a schema, whose model is to be made; a presentation that is made
+-- of others, to which a limit applies; tables that are to be pulled back along a mapping, whose source has the printed name; tables to
+-- which a query is to be answered, whose target has it; or the images of a transform between two instances, which are to keep the equations
+-- of the first.
 pub data Posed : Type 0 where
   a_typeside : TypesideData → Posed
   a_schema : SchemaMeant → Posed
@@ -234,7 +244,8 @@ schema_posed env place name lit =
 -- Two schemas are over one typeside declaration, and then the parts are checked.
 abbrev pub mapping_between : Place → MappingLit → SchemaMeant → SchemaMeant → Checked Posed
 mapping_between place lit source target =
-    if same_name source.typeside target.typeside then and_then (mapping_given place source.schema target.schema lit) (λ F. Ok (a_mapping source.name target.name F))
+    if same_name source.typeside target.typeside then and_then (mapping_given place source.schema target.schema lit)
+    (λ F. Ok (a_mapping source.name target.name F))
     else Err (lit.target.place, WrongSchema)
 
 abbrev pub mapping_posed : Environment → Place → MappingLit → Checked Posed
@@ -245,7 +256,8 @@ mapping_posed env place lit =
 
 abbrev pub query_between : Place → QueryLit → SchemaMeant → SchemaMeant → Checked Posed
 query_between place lit source target =
-    if same_name source.typeside target.typeside then and_then (query_given place source.schema target.schema lit) (λ Q. Ok (a_query source.name target.name Q))
+    if same_name source.typeside target.typeside then and_then (query_given place source.schema target.schema lit)
+    (λ Q. Ok (a_query source.name target.name Q))
     else Err (lit.target.place, WrongSchema)
 
 abbrev pub query_posed : Environment → Place → QueryLit → Checked Posed
@@ -265,19 +277,23 @@ instance_posed env place lit =
 
 -- The instance is over the target of a mapping along which it is pulled back, and over the source of one along which it is moved.
 abbrev pub delta_between : Spot → MappingMeant → InstanceMeant → Checked Posed
-delta_between spot F i = if same_name F.target i.schema then Ok (a_delta F.source F.mapping i.instance.tables) else Err (spot.place, WrongSchema)
+delta_between spot F i = if same_name F.target i.schema then Ok (a_delta F.source F.mapping i.instance.tables)
+    else Err (spot.place, WrongSchema)
 
 abbrev pub sigma_between : Spot → MappingMeant → InstanceMeant → Checked Posed
 sigma_between spot F i =
-    if same_name F.source i.schema then Ok (a_made F.target F.mapping.target (sigma F.mapping i.instance.presentation)) else Err (spot.place, WrongSchema)
+    if same_name F.source i.schema then Ok (a_made F.target F.mapping.target (sigma F.mapping i.instance.presentation))
+    else Err (spot.place, WrongSchema)
 
 -- It is over the source of a query that is answered, and over the target of one that is read backwards.
 abbrev pub eval_between : Spot → QueryMeant → InstanceMeant → Checked Posed
-eval_between spot Q i = if same_name Q.source i.schema then Ok (an_eval Q.target Q.query i.instance.tables) else Err (spot.place, WrongSchema)
+eval_between spot Q i = if same_name Q.source i.schema then Ok (an_eval Q.target Q.query i.instance.tables)
+    else Err (spot.place, WrongSchema)
 
 abbrev pub coeval_between : Spot → QueryMeant → InstanceMeant → Checked Posed
 coeval_between spot Q i =
-    if same_name Q.target i.schema then Ok (a_made Q.source Q.query.source (coeval_of Q.query i.instance.tables)) else Err (spot.place, WrongSchema)
+    if same_name Q.target i.schema then Ok (a_made Q.source Q.query.source (coeval_of Q.query i.instance.tables))
+    else Err (spot.place, WrongSchema)
 
 abbrev pub delta_posed : Environment → Spot → Spot → Checked Posed
 delta_posed env along spot = and_then (mapping_used env along) (λ F. and_then (instance_used env spot) (λ i. delta_between spot F i))
@@ -330,13 +346,15 @@ abbrev pub pushout_between : Spot → TransformMeant → TransformMeant → Chec
 pushout_between spot f g = if same_name f.ends.source g.ends.source then Ok (pushed_out f g) else Err (spot.place, NotASpan)
 
 abbrev pub pushout_posed : Environment → Spot → Spot → Checked Posed
-pushout_posed env first second = and_then (transform_used env first) (λ f. and_then (transform_used env second) (λ g. pushout_between second f g))
+pushout_posed env first second = and_then (transform_used env first)
+    (λ f. and_then (transform_used env second) (λ g. pushout_between second f g))
 
 abbrev pub ends_at : Spot → InstanceMeant → Ends
 ends_at spot i = record { source = spot.name; target = spot.name; start = i; finish = i }
 
 abbrev pub identical_posed : Environment → Spot → Checked Posed
-identical_posed env spot = and_then (instance_used env spot) (λ i. Ok (a_transform (ends_at spot i) (identity_images i.instance.presentation.generators)))
+identical_posed env spot = and_then (instance_used env spot) (λ i.
+    Ok (a_transform (ends_at spot i) (identity_images i.instance.presentation.generators)))
 
 -- the forms that are built
 abbrev pub is_built : Body → Bool

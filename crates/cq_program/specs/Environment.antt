@@ -22,7 +22,8 @@ use Rattle.cq_theory.specs.Tables.{Initial}
 use Rattle.cq_model.specs.InstanceData.{InstanceData}
 use Rattle.cq_model.specs.Given.{HasLeastNames}
 use Rattle.cq_transform.specs.Transforms.{GoesFrom}
-use Rattle.cq_program.specs.Checks.{Meant, typeside, schema, mapping, query, instance, transform, Ends, SchemaMeant, MappingMeant, QueryMeant, InstanceMeant, TransformMeant, Environment, Checked, meant_by}
+use Rattle.cq_program.specs.Checks.{Meant, typeside, schema, mapping, query, instance, transform, Ends, SchemaMeant, MappingMeant}
+use Rattle.cq_program.specs.Checks.{QueryMeant, InstanceMeant, TransformMeant, Environment, Checked, meant_by}
 
 abbrev pub schema_meant : NamedSchema → SchemaMeant
 schema_meant named = record { name = named.name; typeside = named.typeside; schema = named.schema.value }
@@ -31,7 +32,12 @@ abbrev pub instance_meant : NamedInstance → InstanceMeant
 instance_meant named = record { schema = named.schema; instance = named.instance.value }
 
 abbrev pub ends_meant : NamedEnds → Ends
-ends_meant named = record { source = named.source; target = named.target; start = instance_meant named.start; finish = instance_meant named.finish }
+ends_meant named = record {
+  source = named.source;
+  target = named.target;
+  start = instance_meant named.start;
+  finish = instance_meant named.finish;
+}
 
 abbrev pub meant : Meaning → Meant
 meant (meaning.Typeside t) = typeside t.value
@@ -81,9 +87,10 @@ AreEnds env e =
     (meant_by env e.source ≡ Some (instance e.start.schema e.start.instance))
     × (meant_by env e.target ≡ Some (instance e.finish.schema e.finish.instance))
 
--- What holds of each meaning: the name of a schema's typeside stands for that typeside, and its printed name for the schema; each duty of a mapping or a
--- query is derivable, and the printed names of its two schemas stand for them; that of an instance's schema stands for the schema, and the instance is
--- the term model of its presentation; the names of a transform's ends stand for these, and the transform goes from the one to the other.
+-- What holds of each meaning: the name of a schema's typeside stands for that typeside, and its printed name for the schema; each duty of a
+-- mapping or a query is derivable, and the printed names of its two schemas stand for them; that of an instance's schema stands for the
+-- schema, and the instance is the term model of its presentation; the names of a transform's ends stand for these, and the transform goes
+-- from the one to the other.
 abbrev pub IsSettled : Environment → Meant → Type 0
 IsSettled env (typeside T) = Unit {0}
 IsSettled env (schema S) = (meant_by env S.typeside ≡ Some (typeside S.schema.typeside)) × (meant_by env S.name ≡ Some (schema S))

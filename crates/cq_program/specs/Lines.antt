@@ -3,7 +3,11 @@ use Rattle.std.specs.Prelude.{ℕ, List, [], ◌∷◌, ◌++◌, codes, decimal
 use Rattle.std.specs.List.{flat_map}
 use Rattle.cq_base.specs.declared.place.Place.{Place}
 use Rattle.cq_program.specs.declared.reason.Reason.{Reason}
-use Rattle.cq_program.specs.declared.reason.Reason.TheVariants.{NameTaken, NameUnknown, WrongKind, WrongSchema, NotASpan, Duplicate, Unknown, WrongCount, WrongSort, Reserved, TooLarge, Missing, NotPreserved, DutyDepth, DutyRows, Broken, Depth, TooManyRows, Inconsistent, Oversized, TooManyAnswers, NameClash, LongName, NotCsv, BadHeader, BadCell, DoubleId, NoSuchId, ManyRecords, NotBuilt}
+use Rattle.cq_program.specs.declared.reason.Reason.TheVariants.{NameTaken, NameUnknown, WrongKind, WrongSchema, NotASpan, Duplicate}
+use Rattle.cq_program.specs.declared.reason.Reason.TheVariants.{Unknown, WrongCount, WrongSort, Reserved, TooLarge, Missing, NotPreserved}
+use Rattle.cq_program.specs.declared.reason.Reason.TheVariants.{DutyDepth, DutyRows, Broken, Depth, TooManyRows, Inconsistent, Oversized}
+use Rattle.cq_program.specs.declared.reason.Reason.TheVariants.{TooManyAnswers, NameClash, LongName, NotCsv, BadHeader, BadCell, DoubleId}
+use Rattle.cq_program.specs.declared.reason.Reason.TheVariants.{NoSuchId, ManyRecords, NotBuilt}
 
 abbrev pub code_of : Reason → ℕ
 code_of NameTaken = 31
@@ -92,7 +96,8 @@ abbrev pub detail_text : List (List ℕ) → List ℕ
 detail_text details = flat_map (λ detail. codes " " ++ detail) details
 
 abbrev pub head_of : Place → ℕ → List ℕ → List ℕ
-head_of place code name = codes "refused " ++ decimal place.line ++ codes ":" ++ decimal place.col ++ codes " " ++ decimal code ++ codes " " ++ name
+head_of place code name = codes "refused " ++ decimal place.line ++ codes ":" ++ decimal place.col ++ codes " " ++ decimal code
+    ++ codes " " ++ name
 
 -- `refused LINE:COL CODE NAME`, each detail after a blank, and LF
 abbrev pub line_of : Place → ℕ → List ℕ → List (List ℕ) → List ℕ

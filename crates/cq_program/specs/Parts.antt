@@ -160,7 +160,8 @@ mapping_places m = map (λ b. b.place) m.blocks ++ flat_map arrow_places m.block
 abbrev pub mapping_count : MappingLit → ℕ
 mapping_count m = length m.blocks + sum_by (λ b. length b.keys + length b.attributes) m.blocks
 
--- Each variable and each clause of a block, with the number of the block. A foreign key is a clause, and each term that it assigns one more.
+-- Each variable and each clause of a block, with the number of the block. A foreign key is a clause, and each term that it assigns one
+-- more.
 abbrev pub variable_parts : ℕ → GroupSyn → List (ℕ × Name × Name)
 variable_parts block g = map (λ spot. (block, spot.name, g.sort)) g.names
 

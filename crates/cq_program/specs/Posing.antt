@@ -26,7 +26,8 @@ use Rattle.cq_program.specs.declared.reason.ProgramRefusal.{ProgramRefusal}
 use Rattle.cq_program.specs.declared.reason.ProgramRefusal.TheVariants as program_refusal
 use Rattle.cq_program.specs.declared.posing.Statement.{Statement}
 use Rattle.cq_program.specs.declared.posing.Statement.TheVariants as statement
-use Rattle.cq_program.specs.Checks.{Environment, Meant, TransformMeant, Posed, typeside, a_typeside, a_schema, a_mapping, an_identity, a_query, a_presentation, a_made, a_delta, an_eval, a_transform, pushed_out, meant_by}
+use Rattle.cq_program.specs.Checks.{Environment, Meant, TransformMeant, Posed, typeside, a_typeside, a_schema, a_mapping, an_identity}
+use Rattle.cq_program.specs.Checks.{a_query, a_presentation, a_made, a_delta, an_eval, a_transform, pushed_out, meant_by}
 use Rattle.cq_program.specs.Environment.{AreEnds, IsPrinted, ends_meant, schema_meant, transform_meant}
 use Rattle.cq_program.specs.Program.{Breach, Breaks, Fails, Declares, Exceeds, IsModelOf, IsTransformOf}
 
@@ -51,10 +52,10 @@ posed_as (statement.Coproduct n s parts) = a_made n s.value (coproduct_of (map (
 posed_as (statement.Pushout f g) = pushed_out (transform_meant f) (transform_meant g)
 posed_as (statement.Transform e t) = a_transform (ends_meant e) t.images
 
--- A presentation is one over its schema; an instance that is pulled back or read backwards is over the target, and one that is moved or queried over the
--- source; a mapping along which tables are pulled back preserves equality, and a query that is answered is sound. The operands of a coproduct are over
--- its schema, the transforms of a pushout go from one instance, and a transform goes from the one end to the other; images that are broken don't keep
--- an equation.
+-- A presentation is one over its schema; an instance that is pulled back or read backwards is over the target, and one that is moved or
+-- queried over the source; a mapping along which tables are pulled back preserves equality, and a query that is answered is sound. The
+-- operands of a coproduct are over its schema, the transforms of a pushout go from one instance, and a transform goes from the one end to
+-- the other; images that are broken don't keep an equation.
 abbrev pub IsPosed : Statement → Type 0
 IsPosed (statement.Typeside t) = Unit {0}
 IsPosed (statement.Schema s) = Unit {0}
@@ -70,8 +71,9 @@ IsPosed (statement.Coproduct n s parts) = All (λ part. part.value.schema ≡ s.
 IsPosed (statement.Pushout f g) = AreSpan (transform_meant f) (transform_meant g)
 IsPosed (statement.Transform e t) = IsTransformOf (ends_meant e) t.images t
 
--- What is posed under a name is over what its names stand for: a schema over its typeside, under its printed name; all others over the schemas that
--- their printed names stand for, and a transform between the instances for which the names of its ends stand. An identity preserves equality.
+-- What is posed under a name is over what its names stand for: a schema over its typeside, under its printed name; all others over the
+-- schemas that their printed names stand for, and a transform between the instances for which the names of its ends stand. An identity
+-- preserves equality.
 abbrev pub IsGrounded : Environment → Name → Posed → Type 0
 IsGrounded env name (a_typeside T) = Unit {0}
 IsGrounded env name (a_schema S) = (meant_by env S.typeside ≡ Some (typeside S.schema.typeside)) × (S.name ≡ name)
@@ -112,7 +114,8 @@ RefusesProgram depth program (program_refusal.Broken place reason) = Breaks dept
 RefusesProgram depth program (program_refusal.Read name cause) = ⊥
 RefusesProgram depth program program_refusal.Memory = Unit {0}
 
--- What the answer of a call says that makes the listed model of a presentation over a schema, of rows up to a depth. The limit is tried first.
+-- What the answer of a call says that makes the listed model of a presentation over a schema, of rows up to a depth. The limit is tried
+-- first.
 pub record IsAnswerOf (S : SchemaData) (P : Presentation) (depth : ℕ) (answer : Result InstanceData MoveRefusal) : Type 0 where
   pub model : IfOk answer (IsModelOf S P)
   pub size : SaysSize answer (is_too_large P)

@@ -1,5 +1,6 @@
 -- What a program means, and the first rule that it breaks.
-use Rattle.std.specs.Prelude.{◌≡◌, ◌⊎◌, true, false, ℕ, ◌<◌, ◌≤◌, ◌-◌, ◌^◌, List, [], ◌∷◌, ◌++◌, Option, Some, None, Ok, Err, All, length, slice_get}
+use Rattle.std.specs.Prelude.{◌≡◌, ◌⊎◌, true, false, ℕ, ◌<◌, ◌≤◌, ◌-◌, ◌^◌, List, [], ◌∷◌, ◌++◌, Option, Some, None, Ok, Err, All, length}
+use Rattle.std.specs.Prelude.{slice_get}
 use Rattle.std.specs.List.{filter_map}
 use Rattle.cq_base.specs.declared.name.Name.{Name}
 use Rattle.cq_base.specs.declared.place.Place.{Place}
@@ -26,7 +27,8 @@ use Rattle.cq_model.specs.Listed.{IsListed}
 use Rattle.cq_model.specs.declared.transform.Image.{Image}
 use Rattle.cq_model.specs.declared.transform.Transform.{Transform}
 use Rattle.cq_program.specs.declared.reason.Reason.{Reason}
-use Rattle.cq_program.specs.declared.reason.Reason.TheVariants.{NotPreserved, DutyDepth, DutyRows, Broken, Depth, TooManyRows, Inconsistent, Oversized, TooManyAnswers}
+use Rattle.cq_program.specs.declared.reason.Reason.TheVariants.{NotPreserved, DutyDepth, DutyRows, Broken, Depth, TooManyRows, Inconsistent}
+use Rattle.cq_program.specs.declared.reason.Reason.TheVariants.{Oversized, TooManyAnswers}
 use Rattle.cq_mapping.specs.MappingData.{MappingData}
 use Rattle.cq_mapping.specs.Mapping.{identity_of}
 use Rattle.cq_mapping.specs.declared.duties.Duty.{Duty}
@@ -42,7 +44,9 @@ use Rattle.cq_transform.specs.Transforms.{GoesFrom}
 use Rattle.cq_push.specs.Gluing.{is_oversized as is_too_large}
 use Rattle.cq_check.specs.Answers.{IsDerivedWithin, IsNotPreserved, IsTooDeepDuty, IsTooWideDuty, IsUnsoundAt, IsTooDeepAt, IsTooWideAt}
 use Rattle.cq_program.specs.Parts.{typeside_count, schema_count, mapping_count, query_count, instance_count, transform_count}
-use Rattle.cq_program.specs.Checks.{Meant, typeside, schema, mapping, query, instance, transform, Ends, Environment, Posed, a_typeside, a_schema, a_mapping, an_identity, a_query, a_presentation, a_made, a_delta, an_eval, a_transform, posed_by}
+use Rattle.cq_program.specs.Checks.{Meant, typeside, schema, mapping, query, instance, transform, Ends, Environment, Posed, a_typeside}
+use Rattle.cq_program.specs.Checks.{a_schema, a_mapping, an_identity, a_query, a_presentation, a_made, a_delta, an_eval, a_transform}
+use Rattle.cq_program.specs.Checks.{posed_by}
 
 -- the listed model of a presentation over a schema, both well sorted, which makes no two constants equal
 pub record IsModelOf (S : SchemaData) (P : Presentation) (i : InstanceData) : Type 0 where
@@ -60,16 +64,18 @@ pub record IsEvalWithin (Q : QueryData) (M N : Tables) : Type 0 where
   pub few : NoneHasMany Q M
   pub fits : is_oversized N ≡ false
 
--- A transform of these images goes from the one end to the other, and the first is the term model of its presentation over a well-sorted schema.
+-- A transform of these images goes from the one end to the other, and the first is the term model of its presentation over a well-sorted
+-- schema.
 pub record IsTransformOf (e : Ends) (images : List Image) (t : Transform) : Type 0 where
   pub images_are : t.images ≡ images
   pub schema : IsSchema e.start.instance.schema
   pub initial : Initial e.start.instance.schema e.start.instance.presentation e.start.instance.tables e.start.instance.assignment
   pub goes : GoesFrom t e.start.instance e.finish.instance
 
--- What is posed is this: a theory itself, a mapping or a query where each of its duties is derivable, a presentation by its listed model. The duties
--- of an identity are equations of its schema, and so derivable. Tables that are pulled back or that are answers stand with their canonical
--- presentation, within the limits on tables; a presentation that is made of others stands by its listed model, within the limit on presentations.
+-- What is posed is this: a theory itself, a mapping or a query where each of its duties is derivable, a presentation by its listed model.
+-- The duties of an identity are equations of its schema, and so derivable. Tables that are pulled back or that are answers stand with their
+-- canonical presentation, within the limits on tables; a presentation that is made of others stands by its listed model, within the limit
+-- on presentations.
 -- Images stand by the one homomorphism that agrees with them.
 abbrev pub Stands : Posed → Meant → Type 0
 Stands (a_typeside T) m = m ≡ typeside T
@@ -83,7 +89,8 @@ Stands (a_delta n F M) m = (m ≡ instance n (given F.source (delta_tables F M))
 Stands (an_eval n Q M) m = (N : Tables) × (m ≡ instance n (given Q.target N)) × IsEvalWithin Q M N
 Stands (a_transform e images) m = (t : Transform) × (m ≡ transform e t) × IsTransformOf e images t
 
--- A presentation makes two constants equal: the least that equals a greater one and the least such greater one, whose texts the reason tells.
+-- A presentation makes two constants equal: the least that equals a greater one and the least such greater one, whose texts the reason
+-- tells.
 pub record TellsClash (S : SchemaData) (P : Presentation) (reason : Reason) : Type 0 where
   pub least : Con
   pub greater : Con
@@ -118,8 +125,8 @@ TellsAnswers Q M reason = TellsMany Q M reason ⊎ ((reason ≡ Oversized) × Is
 abbrev pub TellsBroken : Ends → List Image → Reason → Type 0
 TellsBroken e images reason = (n : ℕ) × (reason ≡ Broken n) × IsBrokenAt e.start.instance e.finish.instance images n
 
--- what is posed breaks the rule that each duty is derivable, that no two constants are equal, that tables and presentations keep their limits, or
--- that equations hold
+-- what is posed breaks the rule that each duty is derivable, that no two constants are equal, that tables and presentations keep their
+-- limits, or that equations hold
 abbrev pub Fails : Posed → Reason → Type 0
 Fails (a_typeside T) reason = ⊥
 Fails (a_schema S) reason = ⊥
@@ -140,9 +147,9 @@ IsLimit Depth = Unit {0}
 IsLimit TooManyRows = Unit {0}
 IsLimit _ = ⊥
 
--- Which limit keeps the duty with number n from being decided within a depth, where those before it are derivable. The depth gives the leave where
--- the duty isn't derived within it and its presentation closes at no depth up to it; the limit on rows where at some depth up to it there are more
--- classes than rows are allowed, and the duty isn't derived within any lesser depth.
+-- Which limit keeps the duty with number n from being decided within a depth, where those before it are derivable. The depth gives the
+-- leave where the duty isn't derived within it and its presentation closes at no depth up to it; the limit on rows where at some depth up
+-- to it there are more classes than rows are allowed, and the duty isn't derived within any lesser depth.
 abbrev pub ExceedsAtDuty : ℕ → MappingData → Reason → ℕ → Type 0
 ExceedsAtDuty depth F reason n = ((reason ≡ DutyDepth n) × IsTooDeepDuty F depth n) ⊎ ((reason ≡ DutyRows n) × IsTooWideDuty F depth n)
 
@@ -150,8 +157,8 @@ abbrev pub ExceedsAtQueryDuty : ℕ → QueryData → Reason → ℕ → Type 0
 ExceedsAtQueryDuty depth Q reason n =
     ((reason ≡ DutyDepth n) × IsTooDeepAt Q depth n) ⊎ ((reason ≡ DutyRows n) × IsTooWideAt Q depth n)
 
--- Which limit keeps the model of a presentation from being made within a depth. The depth gives the leave where the presentation closes at no
--- depth up to the given one; the limit on rows where at some depth up to it there are more classes than rows are allowed.
+-- Which limit keeps the model of a presentation from being made within a depth. The depth gives the leave where the presentation closes at
+-- no depth up to the given one; the limit on rows where at some depth up to it there are more classes than rows are allowed.
 abbrev pub ExceedsAtModel : ℕ → SchemaData → Presentation → Reason → Type 0
 ExceedsAtModel depth S P reason =
     ((reason ≡ Depth) × ((j : ℕ) → j ≤ depth → Closes S P j → ⊥))
@@ -220,7 +227,8 @@ pub record Breaks (depth : ℕ) (program : Program) (place : Place) (reason : Re
   pub follow : Follow [] before env
   pub breach : Breach depth env broken place reason
 
--- An equation is derived within some depth up to the given one, and at no depth up to that one there are more classes than rows are allowed.
+-- An equation is derived within some depth up to the given one, and at no depth up to that one there are more classes than rows are
+-- allowed.
 abbrev pub IsDecidedOver : ℕ → SchemaData → Presentation → Equation → Type 0
 IsDecidedOver depth S P e = (j : ℕ) × (j ≤ depth) × IsDerivedWithin S P e j × ((i : ℕ) → i ≤ j → IsWide S P i → ⊥)
 

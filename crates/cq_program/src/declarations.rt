@@ -88,7 +88,8 @@ fn declare(
     requires room { length env.entries.items < 2 ^ 32 - 1 }
     requires settled { AreSettled (environment_of env.entries.items) }
     requires depth { depth ≤ 64 }
-    ensures declares { IfOk result (λ after. AddsDecl (environment_of env.entries.items) decl.now (environment_of after.entries.items)) }
+    ensures declares { IfOk result (λ after. AddsDecl (environment_of env.entries.items) decl.now
+        (environment_of after.entries.items)) }
     ensures settled { IfOk result (λ after. AreSettled (environment_of after.entries.items)) }
     ensures breaks { IfErr result (RefusesDecl depth (environment_of env.entries.items) decl.now) }
 {
@@ -108,8 +109,10 @@ fn judge(
     requires few { part_count decl.now.body < 2 ^ 32 }
     requires settled { AreSettled (environment_of env.now.entries.items) }
     requires depth { depth ≤ 64 }
-    ensures declares { IfOk result (λ meaning. Declares (environment_of env.now.entries.items) decl.now (meant meaning)) }
-    ensures settled { IfOk result (λ meaning. WillSettle (environment_of env.now.entries.items) decl.now.name (meant meaning)) }
+    ensures declares { IfOk result (λ meaning. Declares (environment_of env.now.entries.items) decl.now
+        (meant meaning)) }
+    ensures settled { IfOk result (λ meaning. WillSettle (environment_of env.now.entries.items) decl.now.name
+        (meant meaning)) }
     ensures breaks { IfErr result (RefusesDecl depth (environment_of env.now.entries.items) decl.now) }
 {
     let statement = pose(alloc, env, decl)?;
@@ -118,7 +121,8 @@ fn judge(
 
 /// The instances among the declared names.
 fn instances_of(alloc: Global, env: Environment) -> Result<Vec<Named>, AllocError>
-    ensures { IfOk result (λ named. map listed_as named.items ≡ filter_map listing_of (environment_of env.entries.items)) }
+    ensures { IfOk result (λ named. map listed_as named.items ≡ filter_map listing_of
+        (environment_of env.entries.items)) }
 {
     let named = instances_in(alloc, env.entries)?;
     Ok(named)

@@ -87,7 +87,8 @@ impl Environment {
 
     /// What a name stands for.
     pub fn find(&self, name: &Name) -> Option<&Meaning>
-        ensures { option_map (λ meaning. meant meaning.now) result ≡ meant_by (environment_of self.now.entries.items) name.now }
+        ensures { option_map (λ meaning. meant meaning.now) result ≡ meant_by
+            (environment_of self.now.entries.items) name.now }
     {
         match self.names.find(name) {
             Some(number) => Some(&self.entries[number as usize].meaning),
@@ -97,8 +98,10 @@ impl Environment {
 
     /// The typeside for which a used name stands.
     pub fn typeside(&self, used: &Spot) -> Result<Rc<Typeside>, ProgramRefusal>
-        ensures answers { Answers (λ typeside. typeside.value) result (typeside_used (environment_of self.now.entries.items) used.now) }
-        ensures meant { IfOk result (λ found. meant_by (environment_of self.now.entries.items) used.now.name ≡ Some (typeside found.value)) }
+        ensures answers { Answers (λ typeside. typeside.value) result
+            (typeside_used (environment_of self.now.entries.items) used.now) }
+        ensures meant { IfOk result (λ found. meant_by (environment_of self.now.entries.items) used.now.name
+            ≡ Some (typeside found.value)) }
     {
         match self.find(&used.name) {
             None => Err(unknown(used)),
@@ -129,7 +132,8 @@ impl Environment {
     /// The environment with one more name behind the others.
     pub fn with(self, name: Name, meaning: Meaning) -> Result<Environment, AllocError>
         requires { length self.entries.items < 2 ^ 32 - 1 }
-        ensures { IfOk result (λ after. environment_of after.entries.items ≡ environment_of self.entries.items ++ (name, meant meaning) ∷ []) }
+        ensures { IfOk result (λ after. environment_of after.entries.items ≡ environment_of self.entries.items
+            ++ (name, meant meaning) ∷ []) }
     {
         let Environment {
             mut entries,

@@ -4,7 +4,8 @@ ghost use Rattle.std.specs.Option.{SomeIff};
 ghost use Rattle.cq_syntax.specs.declared.program.Body.TheVariants.{Mapping, Instance, Transform};
 ghost use Rattle.cq_program.specs.Program.{HasFewParts, part_count};
 ghost use Rattle.cq_theory.specs.TypesideParts.{literals_count};
-ghost use Rattle.cq_program.specs.Parts.{name_of, clause_count, instance_count, key_count, mapping_count, query_count, schema_count, transform_count, typeside_count, variable_count};
+ghost use Rattle.cq_program.specs.Parts.{name_of, clause_count, instance_count, key_count, mapping_count, query_count};
+ghost use Rattle.cq_program.specs.Parts.{schema_count, transform_count, typeside_count, variable_count};
 
 use cq_syntax::{
     Body, Decl, EdgeSyn, FunSyn, GroupSyn, InstanceExp, InstanceLit, MapBlock, MappingExp,
@@ -161,7 +162,8 @@ fn room_after(room: u32, parts: usize) -> Option<u32>
 }
 
 fn room_after_groups(room: u32, groups: &[GroupSyn]) -> Option<u32>
-    ensures { SomeIff result (sum_by (λ g. length g.names) groups.now ≤ room) (room - sum_by (λ g. length g.names) groups.now) }
+    ensures { SomeIff result (sum_by (λ g. length g.names) groups.now ≤ room)
+        (room - sum_by (λ g. length g.names) groups.now) }
 {
     let mut left = room;
     for group in groups {
@@ -174,7 +176,8 @@ fn room_after_groups(room: u32, groups: &[GroupSyn]) -> Option<u32>
 }
 
 fn room_after_blocks(room: u32, blocks: &[MapBlock]) -> Option<u32>
-    ensures { SomeIff result (sum_by (λ b. length b.keys + length b.attributes) blocks.now ≤ room) (room - sum_by (λ b. length b.keys + length b.attributes) blocks.now) }
+    ensures { SomeIff result (sum_by (λ b. length b.keys + length b.attributes) blocks.now ≤ room)
+        (room - sum_by (λ b. length b.keys + length b.attributes) blocks.now) }
 {
     let mut left = room;
     for block in blocks {
@@ -187,7 +190,8 @@ fn room_after_blocks(room: u32, blocks: &[MapBlock]) -> Option<u32>
 }
 
 fn room_after_block(room: u32, block: &MapBlock) -> Option<u32>
-    ensures { SomeIff result (length block.now.keys + length block.now.attributes ≤ room) (room - (length block.now.keys + length block.now.attributes)) }
+    ensures { SomeIff result (length block.now.keys + length block.now.attributes ≤ room)
+        (room - (length block.now.keys + length block.now.attributes)) }
 {
     match room_after(room, block.keys.len()) {
         Some(room) => room_after(room, block.attributes.len()),
@@ -196,7 +200,8 @@ fn room_after_block(room: u32, block: &MapBlock) -> Option<u32>
 }
 
 fn room_after_edges(room: u32, groups: &[EdgeSyn]) -> Option<u32>
-    ensures { SomeIff result (sum_by (λ e. length e.names) groups.now ≤ room) (room - sum_by (λ e. length e.names) groups.now) }
+    ensures { SomeIff result (sum_by (λ e. length e.names) groups.now ≤ room)
+        (room - sum_by (λ e. length e.names) groups.now) }
 {
     let mut left = room;
     for group in groups {
@@ -209,7 +214,8 @@ fn room_after_edges(room: u32, groups: &[EdgeSyn]) -> Option<u32>
 }
 
 fn room_after_functions(room: u32, groups: &[FunSyn]) -> Option<u32>
-    ensures { SomeIff result (sum_by (λ f. length f.names) groups.now ≤ room) (room - sum_by (λ f. length f.names) groups.now) }
+    ensures { SomeIff result (sum_by (λ f. length f.names) groups.now ≤ room)
+        (room - sum_by (λ f. length f.names) groups.now) }
 {
     let mut left = room;
     for group in groups {

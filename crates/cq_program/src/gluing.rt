@@ -4,8 +4,10 @@ ghost use Rattle.cq_base.specs.declared.name.Name.{Name as TheName};
 ghost use Rattle.cq_push.specs.Gluing.{coproduct_of};
 ghost use Rattle.cq_theory.specs.Presentation.{IsPresentation};
 ghost use Rattle.cq_theory.specs.SchemaData.{SchemaData};
-ghost use Rattle.cq_program.specs.Checks.{InstanceMeant, a_made, coproduct_posed, first_misfit, instance_used, operands_used, pushed_out, pushout_posed};
-ghost use Rattle.cq_program.specs.Environment.{Answers, AreSettled, IsModelled, Refuses, environment_of, meant, operands_meant, transform_meant};
+ghost use Rattle.cq_program.specs.Checks.{InstanceMeant, a_made, coproduct_posed, first_misfit, instance_used};
+ghost use Rattle.cq_program.specs.Checks.{operands_used, pushed_out, pushout_posed};
+ghost use Rattle.cq_program.specs.Environment.{Answers, AreSettled, IsModelled, Refuses, environment_of, meant};
+ghost use Rattle.cq_program.specs.Environment.{operands_meant, transform_meant};
 ghost use Rattle.cq_program.specs.Posing.{AreSpan, IsGrounded, IsPosed, Withholds, posed_as};
 ghost use Rattle.cq_program.specs.Program.{Stands};
 
@@ -38,9 +40,11 @@ pub fn pose_coproduct(
     schema: &Spot,
 ) -> Result<Statement, ProgramRefusal>
     requires settled { AreSettled (environment_of env.now.entries.items) }
-    ensures posed { Answers posed_as result (coproduct_posed (environment_of env.now.entries.items) used.now schema.now) }
+    ensures posed { Answers posed_as result (coproduct_posed (environment_of env.now.entries.items) used.now
+        schema.now) }
     ensures well_sorted { IfOk result IsPosed }
-    ensures grounded { (name : TheName) → IfOk result (λ statement. IsGrounded (environment_of env.now.entries.items) name (posed_as statement)) }
+    ensures grounded { (name : TheName) → IfOk result
+        (λ statement. IsGrounded (environment_of env.now.entries.items) name (posed_as statement)) }
 {
     let operands = operands_of(alloc, env, used)?;
     let over = env.schema(schema)?;
@@ -57,7 +61,8 @@ fn operands_of(
     env: &Environment,
     used: &[Spot],
 ) -> Result<Vec<Operand>, ProgramRefusal>
-    ensures { Answers (λ operands. operands_meant operands.items) result (operands_used (environment_of env.now.entries.items) used.now) }
+    ensures { Answers (λ operands. operands_meant operands.items) result
+        (operands_used (environment_of env.now.entries.items) used.now) }
 {
     let mut operands = Vec::new(alloc);
     for spot in used {
@@ -72,8 +77,11 @@ fn push_operand(
     used: &Spot,
     operands: &mut Vec<Operand>,
 ) -> Result<(), ProgramRefusal>
-    ensures given { OnOk result ((part : InstanceMeant) × (instance_used (environment_of env.now.entries.items) used.now ≡ Ok part) × (operands_meant operands.new.items ≡ operands_meant operands.old.items ++ (used.now.place, part) ∷ [])) }
-    ensures refused { IfErr result (λ refusal. Refuses refusal (instance_used (environment_of env.now.entries.items) used.now)) }
+    ensures given { OnOk result ((part : InstanceMeant)
+        × (instance_used (environment_of env.now.entries.items) used.now ≡ Ok part)
+        × (operands_meant operands.new.items ≡ operands_meant operands.old.items ++ (used.now.place, part) ∷ [])) }
+    ensures refused { IfErr result (λ refusal. Refuses refusal
+        (instance_used (environment_of env.now.entries.items) used.now)) }
 {
     let part = instance_of(env, used)?;
     let place = used.place;
@@ -117,9 +125,11 @@ pub fn pose_pushout(
     second: &Spot,
 ) -> Result<Statement, ProgramRefusal>
     requires settled { AreSettled (environment_of env.now.entries.items) }
-    ensures posed { Answers posed_as result (pushout_posed (environment_of env.now.entries.items) first.now second.now) }
+    ensures posed { Answers posed_as result (pushout_posed (environment_of env.now.entries.items) first.now
+        second.now) }
     ensures well_sorted { IfOk result IsPosed }
-    ensures grounded { (name : TheName) → IfOk result (λ statement. IsGrounded (environment_of env.now.entries.items) name (posed_as statement)) }
+    ensures grounded { (name : TheName) → IfOk result
+        (λ statement. IsGrounded (environment_of env.now.entries.items) name (posed_as statement)) }
 {
     let left = transform_of(env, first)?;
     let right = transform_of(env, second)?;
@@ -140,9 +150,11 @@ pub fn summed(
 ) -> Result<Meaning, ProgramRefusal>
     requires over { All (λ part. part.value.schema ≡ schema.value) parts.now }
     requires depth { depth ≤ 64 }
-    ensures stands { IfOk result (λ meaning. Stands (a_made name schema.value (coproduct_of (map (λ part. part.value.presentation) parts.now))) (meant meaning)) }
+    ensures stands { IfOk result (λ meaning. Stands
+        (a_made name schema.value (coproduct_of (map (λ part. part.value.presentation) parts.now))) (meant meaning)) }
     ensures modelled { IfOk result (λ meaning. IsModelled (meant meaning)) }
-    ensures withholds { IfErr result (Withholds depth place (a_made name schema.value (coproduct_of (map (λ part. part.value.presentation) parts.now)))) }
+    ensures withholds { IfErr result (Withholds depth place
+        (a_made name schema.value (coproduct_of (map (λ part. part.value.presentation) parts.now)))) }
 {
     schema.is_well_sorted();
     are_presented(parts);
@@ -153,7 +165,8 @@ pub fn summed(
 
 /// Instances over one schema have presentations over it. The call does nothing.
 fn are_presented(parts: &[Rc<Instance>])
-    ensures { (S : SchemaData) → All (λ part. part.value.schema ≡ S) parts.now → All (IsPresentation S) (map (λ part. part.value.presentation) parts.now) }
+    ensures { (S : SchemaData) → All (λ part. part.value.schema ≡ S) parts.now
+        → All (IsPresentation S) (map (λ part. part.value.presentation) parts.now) }
 {
     for part in parts {
         part.is_instance();
@@ -171,9 +184,11 @@ pub fn glued(
 ) -> Result<Meaning, ProgramRefusal>
     requires span { AreSpan (transform_meant left.now) (transform_meant right.now) }
     requires depth { depth ≤ 64 }
-    ensures stands { IfOk result (λ meaning. Stands (pushed_out (transform_meant left.now) (transform_meant right.now)) (meant meaning)) }
+    ensures stands { IfOk result (λ meaning. Stands (pushed_out (transform_meant left.now) (transform_meant right.now))
+        (meant meaning)) }
     ensures modelled { IfOk result (λ meaning. IsModelled (meant meaning)) }
-    ensures withholds { IfErr result (Withholds depth place (pushed_out (transform_meant left.now) (transform_meant right.now))) }
+    ensures withholds { IfErr result (Withholds depth place
+        (pushed_out (transform_meant left.now) (transform_meant right.now))) }
 {
     let first: &Transform = &left.transform;
     let second: &Transform = &right.transform;

@@ -38,7 +38,8 @@ pub fn one_refusal()
 
 /// A presentation that makes constants equal tells one pair of them.
 pub fn one_clash()
-    ensures { (S : SchemaData) (P : Presentation) (reason other : Reason) → TellsClash S P reason → TellsClash S P other → reason ≡ other }
+    ensures { (S : SchemaData) (P : Presentation) (reason other : Reason) → TellsClash S P reason → TellsClash S P other
+        → reason ≡ other }
 {}
 
 /// A mapping that doesn't preserve equality tells one duty, the first that isn't derivable.
@@ -48,5 +49,6 @@ pub fn one_unkept()
 
 /// A presentation that has a listed model makes no constants equal: equal constants would mean one value.
 pub fn listed_is_consistent()
-    ensures { (S : SchemaData) (P : Presentation) (M : Tables) (A : Assignment) → IsSchema S → Lists S P M A → IsInconsistent S P → ⊥ }
+    ensures { (S : SchemaData) (P : Presentation) (M : Tables) (A : Assignment) → IsSchema S → Lists S P M A
+        → IsInconsistent S P → ⊥ }
 {}

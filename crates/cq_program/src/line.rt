@@ -217,7 +217,8 @@ fn push_texts(first: &[u8], second: &[u8], text: &mut Vec<u8>) -> Result<(), All
 }
 
 fn push_counts(first: u32, second: u32, text: &mut Vec<u8>) -> Result<(), AllocError>
-    ensures { OnOk result (text.new.items ≡ text.old.items ++ codes " " ++ decimal first ++ codes " " ++ decimal second) }
+    ensures { OnOk result (text.new.items ≡ text.old.items ++ codes " " ++ decimal first ++ codes " "
+        ++ decimal second) }
 {
     push_count(u64::from(first), text)?;
     push_count(u64::from(second), text)?;
@@ -235,7 +236,8 @@ fn push_record(file: &[u8], row: u32, text: &mut Vec<u8>) -> Result<(), AllocErr
 
 /// Appends a file and the numbers of a record and a column.
 fn push_cell(file: &[u8], row: u32, column: u32, text: &mut Vec<u8>) -> Result<(), AllocError>
-    ensures { OnOk result (text.new.items ≡ text.old.items ++ codes " " ++ file.now ++ codes " " ++ decimal row ++ codes " " ++ decimal column) }
+    ensures { OnOk result (text.new.items ≡ text.old.items ++ codes " " ++ file.now ++ codes " " ++ decimal row
+        ++ codes " " ++ decimal column) }
 {
     push_record(file, row, text)?;
     push_count(u64::from(column), text)?;

@@ -26,11 +26,14 @@ pub fn made(
     typeside: &Typeside,
     answer: Result<Instance, MoveRefusal>,
 ) -> Result<Meaning, ProgramRefusal>
-    requires named { (c d : Con) → answer ≡ Err (Clashing c d) → (is_named_con typeside.now c ≡ true) × (is_named_con typeside.now d ≡ true) }
+    requires named { (c d : Con) → answer ≡ Err (Clashing c d) → (is_named_con typeside.now c ≡ true)
+        × (is_named_con typeside.now d ≡ true) }
     requires modelled { IfOk answer IsTermModel }
-    ensures stands { (S : SchemaData) (P : Presentation) (depth : ℕ) → IsAnswerOf S P depth answer → IfOk result (λ meaning. Stands (a_made name S P) (meant meaning)) }
+    ensures stands { (S : SchemaData) (P : Presentation) (depth : ℕ) → IsAnswerOf S P depth answer
+        → IfOk result (λ meaning. Stands (a_made name S P) (meant meaning)) }
     ensures modelled { IfOk result (λ meaning. IsModelled (meant meaning)) }
-    ensures withholds { (S : SchemaData) (P : Presentation) (depth : ℕ) → typeside.now ≡ S.typeside → IsAnswerOf S P depth answer → IfErr result (Withholds depth place (a_made name S P)) }
+    ensures withholds { (S : SchemaData) (P : Presentation) (depth : ℕ) → typeside.now ≡ S.typeside
+        → IsAnswerOf S P depth answer → IfErr result (Withholds depth place (a_made name S P)) }
 {
     match answer {
         Ok(instance) => Ok(shared_instance(alloc, name, instance)?),

@@ -165,7 +165,10 @@ fn constant_texts(
 ) -> Result<(Seq<u8>, Seq<u8>), AllocError>
     requires least { is_named_con typeside.now least ≡ true }
     requires greater { is_named_con typeside.now greater ≡ true }
-    ensures { IfOk result (λ texts. texts ≡ (text_of typeside.now (Const least), text_of typeside.now (Const greater))) }
+    ensures { IfOk result (λ texts. texts ≡ (
+      text_of typeside.now (Const least),
+      text_of typeside.now (Const greater),
+    )) }
 {
     let first = constant_text(alloc, typeside, least)?;
     let second = constant_text(alloc, typeside, greater)?;

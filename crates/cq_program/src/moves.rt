@@ -27,7 +27,8 @@ pub fn pose_delta(env: &Environment, along: &Spot, used: &Spot) -> Result<Statem
     requires settled { AreSettled (environment_of env.now.entries.items) }
     ensures posed { Answers posed_as result (delta_posed (environment_of env.now.entries.items) along.now used.now) }
     ensures well_sorted { IfOk result IsPosed }
-    ensures grounded { (name : TheName) → IfOk result (λ statement. IsGrounded (environment_of env.now.entries.items) name (posed_as statement)) }
+    ensures grounded { (name : TheName) → IfOk result
+        (λ statement. IsGrounded (environment_of env.now.entries.items) name (posed_as statement)) }
 {
     let named = mapping_of(env, along)?;
     let moved = instance_of(env, used)?;
@@ -42,7 +43,8 @@ pub fn pose_sigma(env: &Environment, along: &Spot, used: &Spot) -> Result<Statem
     requires settled { AreSettled (environment_of env.now.entries.items) }
     ensures posed { Answers posed_as result (sigma_posed (environment_of env.now.entries.items) along.now used.now) }
     ensures well_sorted { IfOk result IsPosed }
-    ensures grounded { (name : TheName) → IfOk result (λ statement. IsGrounded (environment_of env.now.entries.items) name (posed_as statement)) }
+    ensures grounded { (name : TheName) → IfOk result
+        (λ statement. IsGrounded (environment_of env.now.entries.items) name (posed_as statement)) }
 {
     let named = mapping_of(env, along)?;
     let moved = instance_of(env, used)?;
@@ -64,7 +66,8 @@ pub fn pulled(
     requires over { instance.now.schema ≡ mapping.now.target }
     ensures stands { IfOk result (λ meaning. Stands (a_delta name mapping.now instance.now.tables) (meant meaning)) }
     ensures modelled { IfOk result (λ meaning. IsModelled (meant meaning)) }
-    ensures withholds { (depth : ℕ) → IfErr result (Withholds depth place (a_delta name mapping.now instance.now.tables)) }
+    ensures withholds { (depth : ℕ) → IfErr result (Withholds depth place
+        (a_delta name mapping.now instance.now.tables)) }
 {
     match delta(alloc, mapping, instance) {
         Ok(made) => Ok(shared_instance(alloc, name, made)?),
@@ -84,9 +87,11 @@ pub fn pushed(
 ) -> Result<Meaning, ProgramRefusal>
     requires over { instance.now.schema ≡ mapping.now.source }
     requires depth { depth ≤ 64 }
-    ensures stands { IfOk result (λ meaning. Stands (a_made name mapping.now.target (moved mapping.now instance.now.presentation)) (meant meaning)) }
+    ensures stands { IfOk result (λ meaning. Stands
+        (a_made name mapping.now.target (moved mapping.now instance.now.presentation)) (meant meaning)) }
     ensures modelled { IfOk result (λ meaning. IsModelled (meant meaning)) }
-    ensures withholds { IfErr result (Withholds depth place (a_made name mapping.now.target (moved mapping.now instance.now.presentation))) }
+    ensures withholds { IfErr result (Withholds depth place
+        (a_made name mapping.now.target (moved mapping.now instance.now.presentation))) }
 {
     mapping.is_well_sorted();
     instance.is_instance();

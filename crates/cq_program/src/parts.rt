@@ -1,7 +1,9 @@
 //! The parts that literals give. A name in a group is a part of its own.
 ghost use Rattle.std.specs.Prelude.{◌≡◌, ◌++◌, IfOk, OnOk, map};
 ghost use Rattle.std.specs.List.{flat_map};
-ghost use Rattle.cq_program.specs.Parts.{names_of, name_of, group_parts, function_parts, edge_parts, path_eq_part, observation_part, equation_part, attribute_image, key_part, attribute_part, arrow_parts, typeside_parts, schema_parts, instance_parts, mapping_parts};
+ghost use Rattle.cq_program.specs.Parts.{names_of, name_of, group_parts, function_parts, edge_parts, path_eq_part};
+ghost use Rattle.cq_program.specs.Parts.{observation_part, equation_part, attribute_image, key_part, attribute_part};
+ghost use Rattle.cq_program.specs.Parts.{arrow_parts, typeside_parts, schema_parts, instance_parts, mapping_parts};
 
 use crate::raw::copy_raw;
 use cq_base::{Name, Raw, Seq};

@@ -1,7 +1,9 @@
 //! The places of the parts of a literal, in the order in which the parts are numbered.
 ghost use Rattle.std.specs.Prelude.{◌≡◌, ◌++◌, IfOk, OnOk, map, option_to_list};
 ghost use Rattle.std.specs.List.{flat_map};
-ghost use Rattle.cq_program.specs.Parts.{places_of, group_places, function_places, edge_places, path_eq_place, equation_place, arrow_places, typeside_places, schema_places, instance_places, mapping_places};
+ghost use Rattle.cq_program.specs.Parts.{places_of, group_places, function_places, edge_places, path_eq_place};
+ghost use Rattle.cq_program.specs.Parts.{equation_place, arrow_places, typeside_places, schema_places, instance_places};
+ghost use Rattle.cq_program.specs.Parts.{mapping_places};
 
 use cq_base::Place;
 use cq_syntax::{

@@ -5,7 +5,10 @@ ghost use Rattle.cq_syntax.specs.declared.program.Body.TheVariants.{Instance as 
 ghost use Rattle.cq_theory.specs.Presentation.{IsPresentation};
 ghost use Rattle.cq_program.specs.Program.{part_count};
 ghost use Rattle.cq_program.specs.Parts.{typeside_count, schema_count, mapping_count, instance_count};
-ghost use Rattle.cq_program.specs.Checks.{arrow_breach, body_posed, identity_posed, instance_posed, is_built, mapping_given, mapping_posed, part_breach, place_of, posed_by, presentation_given, schema_given, schema_posed, typeside_given, typeside_posed};
+ghost use Rattle.cq_program.specs.Checks.{arrow_breach, body_posed, identity_posed, instance_posed, is_built};
+ghost use Rattle.cq_program.specs.Checks.{mapping_given, mapping_posed, part_breach, place_of, posed_by};
+ghost use Rattle.cq_program.specs.Checks.{presentation_given, schema_given, schema_posed, typeside_given};
+ghost use Rattle.cq_program.specs.Checks.{typeside_posed};
 ghost use Rattle.cq_program.specs.Environment.{schema_meant, Answers, AreSettled, Tells, environment_of};
 ghost use Rattle.cq_program.specs.Posing.{IsGrounded, IsPosed, posed_as};
 
@@ -57,7 +60,8 @@ pub fn pose(alloc: Global, env: &Environment, decl: &Decl) -> Result<Statement, 
     requires settled { AreSettled (environment_of env.now.entries.items) }
     ensures posed { Answers posed_as result (posed_by (environment_of env.now.entries.items) decl.now) }
     ensures well_sorted { IfOk result IsPosed }
-    ensures grounded { IfOk result (λ statement. IsGrounded (environment_of env.now.entries.items) decl.now.name (posed_as statement)) }
+    ensures grounded { IfOk result (λ statement. IsGrounded (environment_of env.now.entries.items) decl.now.name
+        (posed_as statement)) }
 {
     if !is_built(&decl.body) {
         return Err(ProgramRefusal::Broken(decl.place, Reason::NotBuilt));
@@ -112,9 +116,11 @@ fn pose_body(
 ) -> Result<Statement, ProgramRefusal>
     requires few { part_count body.now < 2 ^ 32 }
     requires settled { AreSettled (environment_of env.now.entries.items) }
-    ensures posed { Answers posed_as result (body_posed (environment_of env.now.entries.items) place name.now body.now) }
+    ensures posed { Answers posed_as result (body_posed (environment_of env.now.entries.items) place
+        name.now body.now) }
     ensures well_sorted { IfOk result IsPosed }
-    ensures grounded { IfOk result (λ statement. IsGrounded (environment_of env.now.entries.items) name.now (posed_as statement)) }
+    ensures grounded { IfOk result (λ statement. IsGrounded (environment_of env.now.entries.items) name.now
+        (posed_as statement)) }
 {
     match body {
         Body::Typeside(literal) => pose_typeside(alloc, place, literal),
@@ -145,9 +151,11 @@ fn pose_instance(
 ) -> Result<Statement, ProgramRefusal>
     requires few { part_count (Instanced expression.now) < 2 ^ 32 }
     requires settled { AreSettled (environment_of env.now.entries.items) }
-    ensures posed { (name : TheName) → Answers posed_as result (body_posed (environment_of env.now.entries.items) place name (Instanced expression.now)) }
+    ensures posed { (name : TheName) → Answers posed_as result
+        (body_posed (environment_of env.now.entries.items) place name (Instanced expression.now)) }
     ensures well_sorted { IfOk result IsPosed }
-    ensures grounded { (name : TheName) → IfOk result (λ statement. IsGrounded (environment_of env.now.entries.items) name (posed_as statement)) }
+    ensures grounded { (name : TheName) → IfOk result
+        (λ statement. IsGrounded (environment_of env.now.entries.items) name (posed_as statement)) }
 {
     match expression {
         InstanceExp::Literal(literal) => pose_literal(alloc, env, place, literal),
@@ -190,9 +198,11 @@ fn pose_schema(
     literal: &SchemaLit,
 ) -> Result<Statement, ProgramRefusal>
     requires { schema_count literal.now < 2 ^ 32 }
-    ensures posed { Answers posed_as result (schema_posed (environment_of env.now.entries.items) place name.now literal.now) }
+    ensures posed { Answers posed_as result (schema_posed (environment_of env.now.entries.items) place name.now
+        literal.now) }
     ensures well_sorted { IfOk result IsPosed }
-    ensures grounded { IfOk result (λ statement. IsGrounded (environment_of env.now.entries.items) name.now (posed_as statement)) }
+    ensures grounded { IfOk result (λ statement. IsGrounded (environment_of env.now.entries.items) name.now
+        (posed_as statement)) }
 {
     let typeside = env.typeside(&literal.typeside)?;
     let schema = schema_in(alloc, place, typeside, literal)?;
@@ -206,7 +216,8 @@ fn named_schema(
     typeside: &Name,
     schema: Schema,
 ) -> Result<NamedSchema, AllocError>
-    ensures { IfOk result (λ named. schema_meant named ≡ record { name = name.now; typeside = typeside.now; schema = schema }) }
+    ensures { IfOk result (λ named. schema_meant named
+        ≡ record { name = name.now; typeside = typeside.now; schema = schema }) }
 {
     Ok(NamedSchema {
         name: name.clone()?,
@@ -232,7 +243,8 @@ fn pose_mapping(
     requires settled { AreSettled (environment_of env.now.entries.items) }
     ensures posed { Answers posed_as result (mapping_posed (environment_of env.now.entries.items) place literal.now) }
     ensures well_sorted { IfOk result IsPosed }
-    ensures grounded { (name : TheName) → IfOk result (λ statement. IsGrounded (environment_of env.now.entries.items) name (posed_as statement)) }
+    ensures grounded { (name : TheName) → IfOk result
+        (λ statement. IsGrounded (environment_of env.now.entries.items) name (posed_as statement)) }
 {
     let source = env.schema(&literal.source)?;
     let target = env.schema(&literal.target)?;
@@ -249,7 +261,8 @@ fn pose_identity(env: &Environment, used: &Spot) -> Result<Statement, ProgramRef
     requires settled { AreSettled (environment_of env.now.entries.items) }
     ensures posed { Answers posed_as result (identity_posed (environment_of env.now.entries.items) used.now) }
     ensures well_sorted { IfOk result IsPosed }
-    ensures grounded { (name : TheName) → IfOk result (λ statement. IsGrounded (environment_of env.now.entries.items) name (posed_as statement)) }
+    ensures grounded { (name : TheName) → IfOk result
+        (λ statement. IsGrounded (environment_of env.now.entries.items) name (posed_as statement)) }
 {
     let over = env.schema(used)?;
     over.schema.is_well_sorted();
@@ -266,7 +279,8 @@ fn pose_literal(
     requires settled { AreSettled (environment_of env.now.entries.items) }
     ensures posed { Answers posed_as result (instance_posed (environment_of env.now.entries.items) place literal.now) }
     ensures well_sorted { IfOk result IsPosed }
-    ensures grounded { (name : TheName) → IfOk result (λ statement. IsGrounded (environment_of env.now.entries.items) name (posed_as statement)) }
+    ensures grounded { (name : TheName) → IfOk result
+        (λ statement. IsGrounded (environment_of env.now.entries.items) name (posed_as statement)) }
 {
     let over = env.schema(&literal.schema)?;
     let presentation = presentation_in(alloc, place, &over.schema, literal)?;

@@ -3,7 +3,8 @@ ghost use Rattle.std.specs.Prelude.{ℕ, ◌≡◌, ◌<◌, ◌≤◌, ◌^◌,
 ghost use Rattle.cq_base.specs.declared.name.Name.{Name as TheName};
 ghost use Rattle.cq_query.specs.Coeval.{coeval_of};
 ghost use Rattle.cq_query.specs.Duties.{Sound};
-ghost use Rattle.cq_program.specs.Checks.{a_made, a_query, an_eval, coeval_posed, eval_posed, query as meant_query, query_given, query_posed};
+ghost use Rattle.cq_program.specs.Checks.{a_made, a_query, an_eval, coeval_posed, eval_posed, query as meant_query};
+ghost use Rattle.cq_program.specs.Checks.{query_given, query_posed};
 ghost use Rattle.cq_program.specs.Environment.{Answers, AreSettled, IsModelled, Tells, environment_of, meant};
 ghost use Rattle.cq_eval.specs.declared.refusal.EvalRefusal.TheVariants.{TooManyAnswers as HasMany, TooLarge, Memory};
 ghost use Rattle.cq_program.specs.declared.reason.Reason.TheVariants.{TooManyAnswers, Oversized};
@@ -41,7 +42,8 @@ pub fn pose_query(
     requires settled { AreSettled (environment_of env.now.entries.items) }
     ensures posed { Answers posed_as result (query_posed (environment_of env.now.entries.items) place literal.now) }
     ensures well_sorted { IfOk result IsPosed }
-    ensures grounded { (name : TheName) → IfOk result (λ statement. IsGrounded (environment_of env.now.entries.items) name (posed_as statement)) }
+    ensures grounded { (name : TheName) → IfOk result
+        (λ statement. IsGrounded (environment_of env.now.entries.items) name (posed_as statement)) }
 {
     let source = env.schema(&literal.source)?;
     let target = env.schema(&literal.target)?;
@@ -82,7 +84,8 @@ pub fn pose_eval(env: &Environment, along: &Spot, used: &Spot) -> Result<Stateme
     requires settled { AreSettled (environment_of env.now.entries.items) }
     ensures posed { Answers posed_as result (eval_posed (environment_of env.now.entries.items) along.now used.now) }
     ensures well_sorted { IfOk result IsPosed }
-    ensures grounded { (name : TheName) → IfOk result (λ statement. IsGrounded (environment_of env.now.entries.items) name (posed_as statement)) }
+    ensures grounded { (name : TheName) → IfOk result
+        (λ statement. IsGrounded (environment_of env.now.entries.items) name (posed_as statement)) }
 {
     let named = query_of(env, along)?;
     let moved = instance_of(env, used)?;
@@ -101,7 +104,8 @@ pub fn pose_coeval(
     requires settled { AreSettled (environment_of env.now.entries.items) }
     ensures posed { Answers posed_as result (coeval_posed (environment_of env.now.entries.items) along.now used.now) }
     ensures well_sorted { IfOk result IsPosed }
-    ensures grounded { (name : TheName) → IfOk result (λ statement. IsGrounded (environment_of env.now.entries.items) name (posed_as statement)) }
+    ensures grounded { (name : TheName) → IfOk result
+        (λ statement. IsGrounded (environment_of env.now.entries.items) name (posed_as statement)) }
 {
     let named = query_of(env, along)?;
     let moved = instance_of(env, used)?;
@@ -164,7 +168,8 @@ pub fn answered(
     requires over { instance.now.schema ≡ query.now.source }
     ensures stands { IfOk result (λ meaning. Stands (an_eval name query.now instance.now.tables) (meant meaning)) }
     ensures modelled { IfOk result (λ meaning. IsModelled (meant meaning)) }
-    ensures withholds { (depth : ℕ) → IfErr result (Withholds depth place (an_eval name query.now instance.now.tables)) }
+    ensures withholds { (depth : ℕ) → IfErr result (Withholds depth place
+        (an_eval name query.now instance.now.tables)) }
 {
     query.is_well_sorted();
     match eval(alloc, query, instance) {
@@ -176,7 +181,8 @@ pub fn answered(
 /// The refusal of too many or of too large answers, at the declaration's place.
 fn eval_refusal(place: Place, query: &Query, refusal: EvalRefusal) -> ProgramRefusal
     requires { (n : ℕ) → refusal ≡ HasMany n → n < length query.now.target.entities }
-    ensures many { (n : ℕ) → refusal ≡ HasMany n → Tells result (option_map (λ name. (place, TooManyAnswers name)) (slice_get query.now.target.entities n)) }
+    ensures many { (n : ℕ) → refusal ≡ HasMany n → Tells result
+        (option_map (λ name. (place, TooManyAnswers name)) (slice_get query.now.target.entities n)) }
     ensures large { refusal ≡ TooLarge → Tells result (Some (place, Oversized)) }
     ensures memory { refusal ≡ Memory → Tells result None }
 {
@@ -190,7 +196,8 @@ fn eval_refusal(place: Place, query: &Query, refusal: EvalRefusal) -> ProgramRef
 /// The refusal that an entity of the target of a query gets too many answers.
 fn too_many(place: Place, query: &Query, entity: u32) -> ProgramRefusal
     requires { entity < length query.now.target.entities }
-    ensures { Tells result (option_map (λ name. (place, TooManyAnswers name)) (slice_get query.now.target.entities entity)) }
+    ensures { Tells result (option_map (λ name. (place, TooManyAnswers name))
+        (slice_get query.now.target.entities entity)) }
 {
     match query.target.entities.as_slice()[entity as usize].clone() {
         Ok(name) => ProgramRefusal::Broken(place, Reason::TooManyAnswers(name)),
@@ -210,9 +217,11 @@ pub fn read_backwards(
 ) -> Result<Meaning, ProgramRefusal>
     requires over { instance.now.schema ≡ query.now.target }
     requires depth { depth ≤ 64 }
-    ensures stands { IfOk result (λ meaning. Stands (a_made name query.now.source (coeval_of query.now instance.now.tables)) (meant meaning)) }
+    ensures stands { IfOk result (λ meaning. Stands
+        (a_made name query.now.source (coeval_of query.now instance.now.tables)) (meant meaning)) }
     ensures modelled { IfOk result (λ meaning. IsModelled (meant meaning)) }
-    ensures withholds { IfErr result (Withholds depth place (a_made name query.now.source (coeval_of query.now instance.now.tables))) }
+    ensures withholds { IfErr result (Withholds depth place
+        (a_made name query.now.source (coeval_of query.now instance.now.tables))) }
 {
     query.is_well_sorted();
     instance.is_instance();

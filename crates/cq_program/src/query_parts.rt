@@ -1,7 +1,8 @@
 //! The parts that the literals of queries give. Variables and clauses have the number of their block.
 ghost use Rattle.std.specs.Prelude.{◌≡◌, ◌<◌, ◌^◌, ◌++◌, IfOk, OnOk, length, map};
 ghost use Rattle.std.specs.List.{enumerate_from, flat_map};
-ghost use Rattle.cq_program.specs.Parts.{assign_clause, attribute_clause, block_clauses, block_variables, key_clauses, query_parts, test_clause, variable_parts};
+ghost use Rattle.cq_program.specs.Parts.{assign_clause, attribute_clause, block_clauses, block_variables, key_clauses};
+ghost use Rattle.cq_program.specs.Parts.{query_parts, test_clause, variable_parts};
 
 use crate::raw::copy_raw;
 use cq_base::{Name, Raw, Seq};

@@ -2,7 +2,8 @@
 ghost use Rattle.std.specs.Prelude.{◌≡◌, IfOk};
 ghost use Rattle.cq_base.specs.declared.name.Name.{Name as TheName};
 ghost use Rattle.cq_program.specs.Checks.{a_transform, ends_at, identical_posed};
-ghost use Rattle.cq_program.specs.Environment.{Answers, AreSettled, IsModelled, ends_meant, environment_of, instance_meant, meant};
+ghost use Rattle.cq_program.specs.Environment.{Answers, AreSettled, IsModelled, ends_meant, environment_of};
+ghost use Rattle.cq_program.specs.Environment.{instance_meant, meant};
 ghost use Rattle.cq_program.specs.Posing.{IsGrounded, IsPosed, posed_as};
 ghost use Rattle.cq_program.specs.Program.{IsTransformOf, Stands};
 
@@ -27,7 +28,8 @@ pub fn pose_identical(
     requires settled { AreSettled (environment_of env.now.entries.items) }
     ensures posed { Answers posed_as result (identical_posed (environment_of env.now.entries.items) used.now) }
     ensures well_sorted { IfOk result IsPosed }
-    ensures grounded { (name : TheName) → IfOk result (λ statement. IsGrounded (environment_of env.now.entries.items) name (posed_as statement)) }
+    ensures grounded { (name : TheName) → IfOk result
+        (λ statement. IsGrounded (environment_of env.now.entries.items) name (posed_as statement)) }
 {
     let part = instance_of(env, used)?;
     let start: &Instance = &part.instance;
@@ -53,7 +55,8 @@ fn named_ends(
     start: NamedInstance,
     finish: NamedInstance,
 ) -> Result<NamedEnds, AllocError>
-    ensures { IfOk result (λ ends. ends_meant ends ≡ record { source = source.now; target = target.now; start = instance_meant start; finish = instance_meant finish }) }
+    ensures { IfOk result (λ ends. ends_meant ends ≡ record
+        { source = source.now; target = target.now; start = instance_meant start; finish = instance_meant finish }) }
 {
     Ok(NamedEnds {
         source: source.clone()?,

@@ -1,7 +1,8 @@
 //! The mappings, queries, instances and transforms for which used names stand.
 ghost use Rattle.std.specs.Prelude.{◌≡◌, IfOk};
 ghost use Rattle.cq_program.specs.Checks.{mapping_used, query_used, instance_used, transform_used};
-ghost use Rattle.cq_program.specs.Environment.{Answers, ends_meant, environment_of, instance_meant, mapping_meant, query_meant, transform_meant};
+ghost use Rattle.cq_program.specs.Environment.{Answers, ends_meant, environment_of, instance_meant, mapping_meant};
+ghost use Rattle.cq_program.specs.Environment.{query_meant, transform_meant};
 
 use crate::environment::{
     Environment, Meaning, NamedEnds, NamedInstance, NamedTransform, unknown, wrong_kind,
@@ -98,7 +99,8 @@ fn named_mapping(
     target: &Name,
     mapping: &Rc<Mapping>,
 ) -> Result<NamedMapping, AllocError>
-    ensures { IfOk result (λ named. mapping_meant named ≡ record { source = source.now; target = target.now; mapping = mapping.now.value }) }
+    ensures { IfOk result (λ named. mapping_meant named
+        ≡ record { source = source.now; target = target.now; mapping = mapping.now.value }) }
 {
     Ok(NamedMapping {
         source: source.clone()?,
@@ -108,7 +110,8 @@ fn named_mapping(
 }
 
 fn named_query(source: &Name, target: &Name, query: &Rc<Query>) -> Result<NamedQuery, AllocError>
-    ensures { IfOk result (λ named. query_meant named ≡ record { source = source.now; target = target.now; query = query.now.value }) }
+    ensures { IfOk result (λ named. query_meant named
+        ≡ record { source = source.now; target = target.now; query = query.now.value }) }
 {
     Ok(NamedQuery {
         source: source.clone()?,
@@ -118,7 +121,8 @@ fn named_query(source: &Name, target: &Name, query: &Rc<Query>) -> Result<NamedQ
 }
 
 fn named_instance(schema: &Name, instance: &Rc<Instance>) -> Result<NamedInstance, AllocError>
-    ensures { IfOk result (λ named. instance_meant named ≡ record { schema = schema.now; instance = instance.now.value }) }
+    ensures { IfOk result (λ named. instance_meant named
+        ≡ record { schema = schema.now; instance = instance.now.value }) }
 {
     Ok(NamedInstance {
         schema: schema.clone()?,

@@ -1,5 +1,6 @@
 //! Presentations that are glued together, part by part.
-ghost use Rattle.std.specs.Prelude.{◌≡◌, ◌≤◌, ◌<◌, ◌+◌, ◌++◌, ◌⊎◌, [], true, false, IfOk, IfErr, OnOk, All, length, map};
+ghost use Rattle.std.specs.Prelude.{◌≡◌, ◌≤◌, ◌<◌, ◌+◌, ◌++◌, ◌⊎◌, [], true, false, IfOk, IfErr, OnOk, All, length};
+ghost use Rattle.std.specs.Prelude.{map};
 ghost use Rattle.cq_theory.specs.Canonical.{named};
 ghost use Rattle.cq_theory.specs.Presentation.{IsSort};
 ghost use Rattle.cq_push.specs.Shifted.{shifted_equation};

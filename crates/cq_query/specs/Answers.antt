@@ -38,7 +38,8 @@ module _ (Q : Query) (M : Tables) where
   -- each where equation holds
   abbrev pub MeetsTests : ℕ → List ℕ → Type 0
   MeetsTests entity rows =
-      (n : ℕ) (e : Equation) → slice_get (tests_at Q entity) n ≡ Some e → meaning_of M (stands rows) (left_of e) ≡ meaning_of M (stands rows) (right_of e)
+      (n : ℕ) (e : Equation) → slice_get (tests_at Q entity) n ≡ Some e
+      → meaning_of M (stands rows) (left_of e) ≡ meaning_of M (stands rows) (right_of e)
 
   -- the list of all assignments of rows to the variables, in lexicographic order, of which those are kept at which the where equations hold
   abbrev pub AreAnswers : ℕ → List (List ℕ) → Type 0
@@ -50,11 +51,15 @@ module _ (Q : Query) (M : Tables) where
     pub answers : List (List (List ℕ))
     pub each : (entity : ℕ) → entity < length Q.target.entities → AreAnswers entity (slice_index_or answers entity [])
     pub counts : N.sheet.counts ≡ map (λ entity. length (slice_index_or answers entity [])) (below (length Q.target.entities))
-    pub key_columns : (k : ℕ) (edge : Edge) → slice_get Q.target.keys k ≡ Some edge → length (slice_index_or N.sheet.keys k []) ≡ count_of N edge.from
-    pub cell_columns : (a : ℕ) (edge : Edge) → slice_get Q.target.attributes a ≡ Some edge → length (slice_index_or N.sheet.cells a []) ≡ count_of N edge.from
-    pub keys : (k row : ℕ) (edge : Edge) (rows : List ℕ) → slice_get Q.target.keys k ≡ Some edge → slice_get (slice_index_or answers edge.from []) row ≡ Some rows
+    pub key_columns : (k : ℕ) (edge : Edge) → slice_get Q.target.keys k ≡ Some edge
+        → length (slice_index_or N.sheet.keys k []) ≡ count_of N edge.from
+    pub cell_columns : (a : ℕ) (edge : Edge) → slice_get Q.target.attributes a ≡ Some edge
+        → length (slice_index_or N.sheet.cells a []) ≡ count_of N edge.from
+    pub keys : (k row : ℕ) (edge : Edge) (rows : List ℕ) → slice_get Q.target.keys k ≡ Some edge
+        → slice_get (slice_index_or answers edge.from []) row ≡ Some rows
         → slice_get (slice_index_or answers edge.to []) (key_at N k row) ≡ Some (map (row_of M (stands rows)) (assigned Q k))
-    pub cells : (a row : ℕ) (edge : Edge) (rows : List ℕ) → slice_get Q.target.attributes a ≡ Some edge → slice_get (slice_index_or answers edge.from []) row ≡ Some rows
+    pub cells : (a row : ℕ) (edge : Edge) (rows : List ℕ) → slice_get Q.target.attributes a ≡ Some edge
+        → slice_get (slice_index_or answers edge.from []) row ≡ Some rows
         → cell_at N a row ≡ value_of M (stands rows) (attribute_term Q a)
     pub algebra : N.algebra ≡ M.algebra
     pub key_count : length N.sheet.keys ≡ length Q.target.keys

@@ -11,4 +11,5 @@ use Rattle.cq_query.specs.QueryParts.{assigned_given, assigned_in}
 -- the place for each variable is that of the first clause that assigns a term to it for the foreign key
 abbrev pub IsAssigned : Schema → List (ℕ × Clause) → ℕ → List (Name × ℕ) → Type 0
 IsAssigned T clauses k places =
-    (variable : Name) → option_and_then (at_place (λ part. assigned_given T k variable part.1) clauses) (lookup (same_name variable) places) ≡ assigned_in T clauses k variable
+    (variable : Name) → option_and_then (at_place (λ part. assigned_given T k variable part.1) clauses) (lookup (same_name variable) places)
+    ≡ assigned_in T clauses k variable

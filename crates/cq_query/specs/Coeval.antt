@@ -1,5 +1,6 @@
 -- The presentation of coeval: a generator for each row and variable, and the equations that the query makes of the tables.
-use Rattle.std.specs.Prelude.{ℕ, Bool, List, [], ◌++◌, ◌+◌, ◌*◌, ◌||◌, if◌then◌else◌, map, length, sum, Option, Some, None, nat_lt, slice_get, slice_index, slice_index_or}
+use Rattle.std.specs.Prelude.{ℕ, Bool, List, [], ◌++◌, ◌+◌, ◌*◌, ◌||◌, if◌then◌else◌, map, length, sum, Option, Some, None, nat_lt}
+use Rattle.std.specs.Prelude.{slice_get, slice_index, slice_index_or}
 use Rattle.std.specs.List.{flat_map, list_any, range_with_len}
 use Rattle.cq_theory.specs.declared.constant.Con.TheVariants.{Named}
 use Rattle.cq_theory.specs.declared.presentation.Equation.{Equation}
@@ -63,7 +64,8 @@ module _ (Q : Query) (counts : List ℕ) where
   abbrev pub terms_from : ℕ → ℕ → Option ℕ → List EntTerm
   terms_from entity row None = []
   terms_from entity row (Some start) =
-      if nat_lt row (slice_index counts entity) then generators_from (start + row * length (variables_at Q entity)) (length (variables_at Q entity)) else []
+      if nat_lt row (slice_index counts entity) then generators_from (start + row * length (variables_at Q entity))
+      (length (variables_at Q entity)) else []
 
   -- the generators of a row, one for each variable; a row that doesn't exist has none
   abbrev pub row_terms : ℕ → ℕ → List EntTerm
@@ -83,7 +85,8 @@ module _ (Q : Query) (sheet : Sheet) where
   abbrev pub key_equations_at : ℕ → ℕ → ℕ → Option Edge → List Equation
   key_equations_at entity row k None = []
   key_equations_at entity row k (Some edge) =
-      equal_terms (row_terms Q sheet.counts edge.to (slice_index (slice_index_or sheet.keys k []) row)) (map (put (row_terms Q sheet.counts entity row)) (assigned Q k))
+      equal_terms (row_terms Q sheet.counts edge.to (slice_index (slice_index_or sheet.keys k []) row))
+      (map (put (row_terms Q sheet.counts entity row)) (assigned Q k))
 
   abbrev pub key_equations : ℕ → ℕ → ℕ → List Equation
   key_equations entity row k = key_equations_at entity row k (slice_get Q.target.keys k)

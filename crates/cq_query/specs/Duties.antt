@@ -14,7 +14,8 @@ use Rattle.cq_theory.specs.Derivation.{Derives, left_of, right_of}
 use Rattle.cq_query.specs.QueryData.{QueryData as Query}
 use Rattle.cq_query.specs.Groups.{positions}
 use Rattle.cq_query.specs.Puts.{put_equation}
-use Rattle.cq_query.specs.Translation.{key_sources, path_sources, observation_sources, variables_at, tests_at, variable_terms, assigned, along, translated}
+use Rattle.cq_query.specs.Translation.{key_sources, path_sources, observation_sources, variables_at, tests_at, variable_terms, assigned}
+use Rattle.cq_query.specs.Translation.{along, translated}
 
 -- the terms of two lists that stand beside one another are equal
 abbrev pub equal_terms : List EntTerm → List EntTerm → List Equation
@@ -43,7 +44,8 @@ module _ (Q : Query) where
   -- the equation with the query's terms for keys and attributes
   abbrev pub observation_duties : ℕ → Option ObsEq → List Equation
   observation_duties entity None = []
-  observation_duties entity (Some e) = TypEquation (translated Q (variable_terms Q entity) e.left) (translated Q (variable_terms Q entity) e.right) ∷ []
+  observation_duties entity (Some e) = TypEquation (translated Q (variable_terms Q entity) e.left)
+      (translated Q (variable_terms Q entity) e.right) ∷ []
 
   -- what is to be derivable from the frozen presentation of the entity, for each key, path equation and observation equation from there
   abbrev pub duties : ℕ → List Equation
@@ -61,4 +63,5 @@ module _ (Q : Query) where
 
   -- each duty is derivable from the frozen presentation of its entity
   abbrev pub Sound : Type 0
-  Sound = (entity n : ℕ) (e : Equation) → entity < length Q.target.entities → slice_get (duties entity) n ≡ Some e → Derives Q.source (frozen entity) (left_of e) (right_of e)
+  Sound = (entity n : ℕ) (e : Equation) → entity < length Q.target.entities → slice_get (duties entity) n ≡ Some e
+      → Derives Q.source (frozen entity) (left_of e) (right_of e)

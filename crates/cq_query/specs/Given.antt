@@ -9,7 +9,9 @@ use Rattle.cq_query.specs.QueryParts.{gives_symbol, gives_variable}
 abbrev pub same_pair : Name × Name → Name × Name → Bool
 same_pair p q = same_name p.0 q.0 && same_name p.1 q.1
 
--- the sets have the attributes and foreign keys that the clauses give, and the variables to which they assign a term, each with its foreign key
+-- the sets have the attributes and foreign keys that the clauses give, and the variables to which they assign a term, each with its foreign
+-- key
 pub record HasGiven (clauses : List (ℕ × Clause)) (symbols : List Name) (assigned : List (Name × Name)) : Type 0 where
   pub of_symbols : (name : Name) → list_any (same_name name) symbols ≡ list_any (λ c. gives_symbol name c.1) clauses
-  pub of_assigned : (key variable : Name) → list_any (same_pair (key, variable)) assigned ≡ list_any (λ c. gives_variable key variable c.1) clauses
+  pub of_assigned : (key variable : Name) → list_any (same_pair (key, variable)) assigned ≡ list_any
+      (λ c. gives_variable key variable c.1) clauses

@@ -1,5 +1,6 @@
 -- The first fault of the parts of a query, and the query that they give.
-use Rattle.std.specs.Prelude.{ℕ, Bool, false, not, List, [], ◌∷◌, ◌++◌, ◌+◌, ◌==◌, ◌&&◌, ◌||◌, if◌then◌else◌, map, length, slice_get, slice_index, Option, Some, None, is_none, nat_le, option_map, option_and_then}
+use Rattle.std.specs.Prelude.{ℕ, Bool, false, not, List, [], ◌∷◌, ◌++◌, ◌+◌, ◌==◌, ◌&&◌, ◌||◌, if◌then◌else◌, map, length, slice_get}
+use Rattle.std.specs.Prelude.{slice_index, Option, Some, None, is_none, nat_le, option_map, option_and_then}
 use Rattle.std.specs.List.{flat_map, list_any}
 use Rattle.cq_base.specs.declared.name.Name.{Name}
 use Rattle.cq_base.specs.declared.raw.Raw.{Raw}
@@ -11,7 +12,8 @@ use Rattle.cq_theory.specs.declared.lookup.TermRefusal.TheVariants as term_refus
 use Rattle.cq_theory.specs.declared.lookup.TheoryRefusal.{TheoryRefusal}
 use Rattle.cq_theory.specs.declared.lookup.TheoryRefusal.TheVariants as theory_refusal
 use Rattle.cq_theory.specs.declared.lookup.ArrowRefusal.{ArrowRefusal}
-use Rattle.cq_theory.specs.declared.lookup.ArrowRefusal.TheVariants.{Duplicate, Unknown, WrongCount, WrongSort, Reserved, TooLarge, Missing, Memory}
+use Rattle.cq_theory.specs.declared.lookup.ArrowRefusal.TheVariants.{Duplicate, Unknown, WrongCount, WrongSort, Reserved, TooLarge, Missing}
+use Rattle.cq_theory.specs.declared.lookup.ArrowRefusal.TheVariants.{Memory}
 use Rattle.cq_theory.specs.declared.presentation.Sort.{Sort}
 use Rattle.cq_theory.specs.declared.presentation.Sort.TheVariants.{Plain, Entity}
 use Rattle.cq_theory.specs.declared.presentation.Equation.{Equation}
@@ -22,7 +24,8 @@ use Rattle.cq_theory.specs.declared.term.TypeTerm.{TypeTerm}
 use Rattle.cq_theory.specs.declared.term.TypeTerm.TheVariants.{Const}
 use Rattle.cq_theory.specs.SchemaData.{SchemaData as Schema}
 use Rattle.cq_theory.specs.Canonical.{below}
-use Rattle.cq_theory.specs.Resolve.{or_else, sort_named, symbol_of, entity_in, has_unknown, has_wrong_count, has_reserved, raw_sort, are_of_one_sort, is_too_large, in_part}
+use Rattle.cq_theory.specs.Resolve.{or_else, sort_named, symbol_of, entity_in, has_unknown, has_wrong_count, has_reserved, raw_sort}
+use Rattle.cq_theory.specs.Resolve.{are_of_one_sort, is_too_large, in_part}
 use Rattle.cq_theory.specs.Resolved.{resolved, type_term_in, entity_term_in}
 use Rattle.cq_theory.specs.Parts.{equation_of}
 use Rattle.cq_theory.specs.Paths.{is_among}
@@ -106,10 +109,12 @@ module _ (S : Schema) (entities : List ℕ) where
   abbrev pub scopes_of : ℕ → List (ℕ × Name × Name) → List (List (Name × ℕ))
   scopes_of count parts = map (λ entity. variables_in entity parts) (below count)
 
--- The name of variable n is one of these, which stand in its block already; or its entity is none; or the block has 16,000,000 variables already.
+-- The name of variable n is one of these, which stand in its block already; or its entity is none; or the block has 16,000,000 variables
+-- already.
 abbrev pub variable_fault_after : Schema → List Name → ℕ → ℕ × Name × Name → Option TheoryRefusal
 variable_fault_after S names n part =
-    duplicate_or names n part.1 (or_else (entity_fault S n part.2) (if nat_le 16000000 (length names) then Some (theory_refusal.TooLarge n) else None))
+    duplicate_or names n part.1 (or_else (entity_fault S n part.2)
+    (if nat_le 16000000 (length names) then Some (theory_refusal.TooLarge n) else None))
 
 module _ (S : Schema) (entities : List ℕ) where
   abbrev pub variable_fault : List (ℕ × Name × Name) → ℕ → ℕ × Name × Name → Option TheoryRefusal
@@ -167,7 +172,8 @@ variable_sort name variables = option_and_then (slice_get (sorts_of variables)) 
 
 -- the sort of a variable of the block to which a foreign key leads
 abbrev pub target_sort : Schema → List (List (Name × ℕ)) → Name → Name → Option Sort
-target_sort T scopes key variable = option_and_then (λ edge. option_and_then (variable_sort variable) (slice_get scopes edge.to)) (key_edge T (symbol_of T key))
+target_sort T scopes key variable = option_and_then (λ edge. option_and_then (variable_sort variable) (slice_get scopes edge.to))
+    (key_edge T (symbol_of T key))
 
 -- The rules of a clause, where the blocks have these variables.
 module _ (S T : Schema) (scopes : List (List (Name × ℕ))) where
@@ -182,14 +188,17 @@ module _ (S T : Schema) (scopes : List (List (Name × ℕ))) where
     abbrev pub clause_rule : ℕ → Clause → Option TermRefusal
     clause_rule entity (clause.Test left right) =
         least_rule (is_unknown left || is_unknown right) (has_wrong_count S left || has_wrong_count S right)
-        (not (are_of_one_sort (sort_in left) (sort_in right))) (has_reserved S left || has_reserved S right) (is_too_large left || is_too_large right)
+        (not (are_of_one_sort (sort_in left) (sort_in right))) (has_reserved S left || has_reserved S right)
+        (is_too_large left || is_too_large right)
     clause_rule entity (clause.Att name raw) =
         least_rule (is_none (symbol_of T name) || is_unknown raw) (has_wrong_count S raw)
         (not (is_right_attribute entity (attribute_edge T (symbol_of T name)) (sort_in raw))) (has_reserved S raw) (is_too_large raw)
-    clause_rule entity (clause.Key name) = least_rule (is_none (symbol_of T name)) false (not (is_from entity (key_edge T (symbol_of T name)))) false false
+    clause_rule entity (clause.Key name) = least_rule (is_none (symbol_of T name)) false
+        (not (is_from entity (key_edge T (symbol_of T name)))) false false
     clause_rule entity (clause.Assign key variable raw) =
         least_rule (is_none (target_sort T scopes key variable) || is_unknown raw) (has_wrong_count S raw)
-        (not (is_from entity (key_edge T (symbol_of T key)) && are_of_one_sort (sort_in raw) (target_sort T scopes key variable))) (has_reserved S raw) (is_too_large raw)
+        (not (is_from entity (key_edge T (symbol_of T key)) && are_of_one_sort (sort_in raw) (target_sort T scopes key variable)))
+        (has_reserved S raw) (is_too_large raw)
 
   -- where there is no such block, it is unknown
   abbrev pub rule_over : Option (List (Name × ℕ)) → ℕ → Clause → Option TermRefusal
@@ -284,7 +293,8 @@ module _ (T : Schema) (scopes : List (List (Name × ℕ))) (clauses : List (ℕ 
 
   -- the attributes, the foreign keys, and the variables of each foreign key
   unfoldable pub missing_in : List ℕ → List ℕ → Option ArrowRefusal
-  missing_in attributes keys = or_else (missing_attributes T clauses attributes) (or_else (missing_keys T clauses keys) (missing_assigned keys))
+  missing_in attributes keys = or_else (missing_attributes T clauses attributes)
+      (or_else (missing_keys T clauses keys) (missing_assigned keys))
 
   abbrev pub missing_at : ℕ → Option ArrowRefusal
   missing_at entity = missing_in (positions (edge_sources T.attributes) entity) (positions (edge_sources T.keys) entity)
@@ -304,7 +314,8 @@ entity_made S _ _ = alone 0
 module _ (S : Schema) (variables : List (Name × ℕ)) where
   abbrev pub test_made : Clause → List Equation
   test_made (clause.Test left right) =
-      equation_of (resolved S (names_of variables) (sorts_of variables) left) (resolved S (names_of variables) (sorts_of variables) right) ∷ []
+      equation_of (resolved S (names_of variables) (sorts_of variables) left)
+      (resolved S (names_of variables) (sorts_of variables) right) ∷ []
   test_made _ = []
 
 abbrev pub test_in : Schema → List ℕ → List (Name × ℕ) → ℕ → ℕ × Clause → List Equation
@@ -324,7 +335,8 @@ module _ (S T : Schema) (scopes : List (List (Name × ℕ))) (clauses : List (�
 
   abbrev pub key_made_at : ℕ → Option Edge → List EntTerm
   key_made_at k None = []
-  key_made_at k (Some edge) = map (λ v. entity_made S (slice_get scopes edge.from) (assigned_in T clauses k v.0)) (scope_or_none (slice_get scopes edge.to))
+  key_made_at k (Some edge) = map (λ v. entity_made S (slice_get scopes edge.from) (assigned_in T clauses k v.0))
+      (scope_or_none (slice_get scopes edge.to))
 
   abbrev pub key_made : ℕ → List EntTerm
   key_made k = key_made_at k (slice_get T.keys k)
@@ -355,7 +367,8 @@ variables_and_rest_fault S T entities n variables clauses =
     or_else (option_map of_query (variables_fault S entities n variables))
     (clauses_and_rest_fault S T entities (scopes_of S entities (length T.entities) variables) clauses (n + length variables))
 
--- The first fault: the entities of the blocks, then an entity without a block, then the variables, then the clauses, and then what no clause gives.
+-- The first fault: the entities of the blocks, then an entity without a block, then the variables, then the clauses, and then what no
+-- clause gives.
 abbrev pub query_fault : Schema → Schema → QueryParts → Option ArrowRefusal
 query_fault S T parts =
     or_else (option_map of_query (blocks_fault T parts.entities))
@@ -367,5 +380,6 @@ abbrev pub query_made : Schema → Schema → QueryParts → Query
 query_made S T parts = record {
   source = S;
   target = T;
-  blocks = blocks_made S T (block_entities T parts.entities) (scopes_of S (block_entities T parts.entities) (length T.entities) parts.vars) parts.clauses;
+  blocks = blocks_made S T (block_entities T parts.entities) (scopes_of S (block_entities T parts.entities) (length T.entities) parts.vars)
+      parts.clauses;
 }

@@ -69,7 +69,8 @@ module _ (Q : Query) where
   -- what stands at the place of an edge among those of its entity, in that entity's block
   abbrev pub at_edge : {X : Type 0} → List Edge → (Block → List X) → ℕ → Option X
   at_edge edges part n =
-      option_and_then (λ edge. option_and_then (λ block. option_and_then (slice_get (part block)) (slice_get (places (edge_sources edges)) n)) (slice_get Q.blocks edge.from)) (slice_get edges n)
+      option_and_then (λ edge. option_and_then (λ block. option_and_then (slice_get (part block))
+      (slice_get (places (edge_sources edges)) n)) (slice_get Q.blocks edge.from)) (slice_get edges n)
 
   abbrev pub found_terms : ℕ → Option (List EntTerm)
   found_terms k = at_edge Q.target.keys (λ block. block.keys) k

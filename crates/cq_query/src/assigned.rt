@@ -1,5 +1,6 @@
 //! The assignments of one foreign key, by the names of the variables.
-ghost use Rattle.std.specs.Prelude.{ℕ, List, ◌≡◌, ◌<◌, [], IfOk, OnOk, Some, None, if◌then◌else◌, option_copied, option_map, length};
+ghost use Rattle.std.specs.Prelude.{ℕ, List, ◌≡◌, ◌<◌, [], IfOk, OnOk, Some, None, if◌then◌else◌, option_copied};
+ghost use Rattle.std.specs.Prelude.{option_map, length};
 ghost use Rattle.std.specs.Map.{lookup};
 ghost use Rattle.cq_base.specs.Names.{same_name};
 ghost use Rattle.cq_theory.specs.Resolve.{or_else};
@@ -48,7 +49,8 @@ impl Assigned {
 
     /// Puts a place for a variable.
     fn put(&mut self, variable: Name, place: usize) -> Result<(), AllocError>
-        ensures { OnOk result ((q : List ℕ) → lookup (same_name q) self.new ≡ (if same_name variable q then Some place else lookup (same_name q) self.old)) }
+        ensures { OnOk result ((q : List ℕ) → lookup (same_name q) self.new
+            ≡ (if same_name variable q then Some place else lookup (same_name q) self.old)) }
     {
         self.places.insert(variable, place)?;
         Ok(())
@@ -56,7 +58,8 @@ impl Assigned {
 
     /// Puts a place for a variable that has none.
     fn add(&mut self, variable: &Name, place: usize) -> Result<(), AllocError>
-        ensures { OnOk result ((q : List ℕ) → lookup (same_name q) self.new ≡ or_else (lookup (same_name q) self.old) (if same_name q variable.now then Some place else None)) }
+        ensures { OnOk result ((q : List ℕ) → lookup (same_name q) self.new ≡ or_else (lookup (same_name q) self.old)
+            (if same_name q variable.now then Some place else None)) }
     {
         if self.place_of(variable).is_some() {
             return Ok(());
@@ -72,7 +75,8 @@ impl Assigned {
         part: &Clause,
         place: usize,
     ) -> Result<(), AllocError>
-        ensures { OnOk result ((q : List ℕ) → lookup (same_name q) self.new ≡ or_else (lookup (same_name q) self.old) (option_map (λ _. place) (given_assigned target.now key q part.now))) }
+        ensures { OnOk result ((q : List ℕ) → lookup (same_name q) self.new ≡ or_else (lookup (same_name q) self.old)
+            (option_map (λ _. place) (given_assigned target.now key q part.now))) }
     {
         match part {
             Clause::Test(_, _) => Ok(()),
@@ -96,7 +100,8 @@ impl Assigned {
         key: usize,
         place: usize,
     ) -> Result<(), AllocError>
-        ensures { OnOk result ((q : List ℕ) → lookup (same_name q) self.new ≡ or_else (lookup (same_name q) self.old) (option_map (λ _. place) (at_place (λ part. given_assigned target.now key q part.1) clauses.now place))) }
+        ensures { OnOk result ((q : List ℕ) → lookup (same_name q) self.new ≡ or_else (lookup (same_name q) self.old)
+            (option_map (λ _. place) (at_place (λ part. given_assigned target.now key q part.1) clauses.now place))) }
     {
         match clauses.get(place) {
             Some(part) => self.add_clause(target, key, &part.1, place),
@@ -113,7 +118,9 @@ fn assigned_among(
     places: &[usize],
     key: usize,
 ) -> Result<Assigned, AllocError>
-    ensures { IfOk result (λ made. (q : List ℕ) → lookup (same_name q) made ≡ first_of (λ place. option_map (λ _. place) (at_place (λ part. given_assigned target.now key q part.1) clauses.now place)) places.now) }
+    ensures { IfOk result (λ made. (q : List ℕ) → lookup (same_name q) made ≡ first_of
+        (λ place. option_map (λ _. place) (at_place (λ part. given_assigned target.now key q part.1) clauses.now place))
+        places.now) }
 {
     let mut made = Assigned::new(alloc);
     for place in places {
@@ -145,7 +152,8 @@ fn assigned_at<'a>(
     key: usize,
     variable: &Name,
 ) -> Option<&'a Raw>
-    ensures { option_copied result ≡ at_place (λ part. given_assigned target.now key variable.now part.1) clauses.now place }
+    ensures { option_copied result ≡ at_place (λ part. given_assigned target.now key variable.now part.1)
+        clauses.now place }
 {
     match clauses.get(place) {
         Some(part) => assigned_given(target, key, variable, &part.1),

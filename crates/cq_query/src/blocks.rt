@@ -1,5 +1,6 @@
 //! The blocks that the parts of a query give.
-ghost use Rattle.std.specs.Prelude.{ℕ, List, [], ◌≡◌, ◌++◌, ◌<◌, All, IfOk, OnOk, Some, length, map, option_copied, slice_get};
+ghost use Rattle.std.specs.Prelude.{ℕ, List, [], ◌≡◌, ◌++◌, ◌<◌, All, IfOk, OnOk, Some, length, map, option_copied};
+ghost use Rattle.std.specs.Prelude.{slice_get};
 ghost use Rattle.cq_theory.specs.Canonical.{below};
 ghost use Rattle.cq_theory.specs.Parts.{equation_of};
 ghost use Rattle.cq_theory.specs.Resolved.{entity_term_in, resolved};
@@ -8,7 +9,9 @@ ghost use Rattle.cq_query.specs.Assigned.{IsAssigned};
 ghost use Rattle.cq_query.specs.Index.{IsIndex};
 ghost use Rattle.cq_query.specs.Puts.{alone};
 ghost use Rattle.cq_query.specs.Translation.{edge_sources};
-ghost use Rattle.cq_query.specs.QueryParts.{names_of, sorts_of, type_made, entity_made, test_made, tests_made, scope_or_none, attribute_made, key_made, key_made_at, blocks_made, assigned_in};
+ghost use Rattle.cq_query.specs.QueryParts.{names_of, sorts_of, type_made, entity_made, test_made, tests_made};
+ghost use Rattle.cq_query.specs.QueryParts.{scope_or_none, attribute_made, key_made, key_made_at, blocks_made};
+ghost use Rattle.cq_query.specs.QueryParts.{assigned_in};
 
 use crate::assigned::{Assigned, find_assigned, make_assigned};
 use crate::groups::Groups;
@@ -86,7 +89,8 @@ fn make_entity(
     scope: Option<&Scope>,
     raw: Option<&Raw>,
 ) -> Result<EntTerm, AllocError>
-    ensures { IfOk result (λ term. term ≡ entity_made source.now (option_copied scope.entry) (option_copied raw.entry)) }
+    ensures { IfOk result (λ term. term ≡ entity_made source.now (option_copied scope.entry)
+        (option_copied raw.entry)) }
 {
     let Some(scope) = scope else {
         return Ok(first_variable(alloc));
@@ -131,7 +135,8 @@ fn push_test_in(
     made: &mut Vec<Equation>,
 ) -> Result<(), AllocError>
     requires { entity < length scopes.now }
-    ensures { OnOk result (made.new.items ≡ made.old.items ++ test_made source.now (scope_or_none (slice_get scopes.now entity)) part.now) }
+    ensures { OnOk result (made.new.items ≡ made.old.items
+        ++ test_made source.now (scope_or_none (slice_get scopes.now entity)) part.now) }
 {
     push_test(alloc, source, &scopes[entity], part, made)
 }
@@ -157,7 +162,8 @@ fn build_tests(
 ) -> Result<Vec<Vec<Equation>>, AllocError>
     requires entities { All (λ entity. entity < length scopes.now) entities.now }
     requires blocks { All (λ part. part.0 < length entities.now) clauses.now }
-    ensures { IfOk result (λ lists. map (λ list. list.items) lists.items ≡ map (tests_made source.now entities.now scopes.now clauses.now) (below (length scopes.now))) }
+    ensures { IfOk result (λ lists. map (λ list. list.items) lists.items ≡ map
+        (tests_made source.now entities.now scopes.now clauses.now) (below (length scopes.now))) }
 {
     let mut lists = empty_lists(alloc, scopes.len())?;
     for part in clauses {
@@ -199,7 +205,8 @@ fn build_attributes(
     attributes: &[usize],
 ) -> Result<Vec<TypeTerm>, AllocError>
     requires index { IsIndex target.now clauses.now index.now }
-    ensures { IfOk result (λ made. made.items ≡ map (attribute_made source.now target.now scopes.now clauses.now) attributes.now) }
+    ensures { IfOk result (λ made. made.items ≡ map (attribute_made source.now target.now scopes.now clauses.now)
+        attributes.now) }
 {
     let mut made = Vec::new(alloc);
     for attribute in attributes {
@@ -220,7 +227,9 @@ fn build_assigned(
     vars: &[(Name, u32)],
 ) -> Result<Vec<EntTerm>, AllocError>
     requires { IsAssigned target.now clauses.now key assigned.now }
-    ensures { IfOk result (λ made. made.items ≡ map (λ v. entity_made source.now (option_copied scope.entry) (assigned_in target.now clauses.now key v.0)) vars.now) }
+    ensures { IfOk result (λ made. made.items ≡ map
+        (λ v. entity_made source.now (option_copied scope.entry)
+        (assigned_in target.now clauses.now key v.0)) vars.now) }
 {
     let mut made = Vec::new(alloc);
     for var in vars {
@@ -242,7 +251,9 @@ fn build_assigned_to(
     key: usize,
 ) -> Result<Vec<EntTerm>, AllocError>
     requires { IsAssigned target.now clauses.now key assigned.now }
-    ensures { IfOk result (λ made. made.items ≡ map (λ v. entity_made source.now (option_copied from.entry) (assigned_in target.now clauses.now key v.0)) (scope_or_none (option_copied to.entry))) }
+    ensures { IfOk result (λ made. made.items ≡ map
+        (λ v. entity_made source.now (option_copied from.entry) (assigned_in target.now clauses.now key v.0))
+        (scope_or_none (option_copied to.entry))) }
 {
     match to {
         Some(to) => build_assigned(
@@ -279,7 +290,8 @@ fn make_key_at(
 ) -> Result<Vec<EntTerm>, AllocError>
     requires index { IsIndex target.now clauses.now index.now }
     requires key { key < length target.now.keys }
-    ensures { IfOk result (λ made. made.items ≡ key_made_at source.now target.now scopes.now clauses.now key (Some edge.now)) }
+    ensures { IfOk result (λ made. made.items ≡ key_made_at source.now target.now scopes.now clauses.now key
+        (Some edge.now)) }
 {
     let from = scope_at(scopes, edge.from);
     let to = scope_at(scopes, edge.to);
@@ -370,7 +382,13 @@ fn make_block(
 ) -> Result<Block, AllocError>
     requires index { IsIndex target.now clauses.now index.now }
     requires entity { entity < length scopes.now }
-    ensures { IfOk result (λ made. made ≡ record { vars = scope_or_none (slice_get scopes.now entity); tests = tests.items; attributes = map (attribute_made source.now target.now scopes.now clauses.now) attributes.now; keys = map (key_made source.now target.now scopes.now clauses.now) keys.now }) }
+    ensures { IfOk result (λ made. made ≡ record {
+      vars = scope_or_none (slice_get scopes.now entity);
+      tests = tests.items;
+      attributes = map (attribute_made source.now target.now scopes.now clauses.now)
+          attributes.now;
+      keys = map (key_made source.now target.now scopes.now clauses.now) keys.now;
+    }) }
 {
     let vars = build_variables(alloc, scopes, entity)?;
     let attributes = build_attributes(alloc, source, target, scopes, clauses, index, attributes)?;
@@ -401,7 +419,14 @@ fn make_block_at(
     requires keys { AreGroups (edge_sources target.now.keys) (length target.now.entities) keys.now }
     requires scopes { length scopes.now ≡ length target.now.entities }
     requires entity { entity < length target.now.entities }
-    ensures { IfOk result (λ made. made ≡ record { vars = scope_or_none (slice_get scopes.now entity); tests = tests.items; attributes = map (attribute_made source.now target.now scopes.now clauses.now) (positions (edge_sources target.now.attributes) entity); keys = map (key_made source.now target.now scopes.now clauses.now) (positions (edge_sources target.now.keys) entity) }) }
+    ensures { IfOk result (λ made. made ≡ record {
+      vars = scope_or_none (slice_get scopes.now entity);
+      tests = tests.items;
+      attributes = map (attribute_made source.now target.now scopes.now clauses.now)
+          (positions (edge_sources target.now.attributes) entity);
+      keys = map (key_made source.now target.now scopes.now clauses.now)
+          (positions (edge_sources target.now.keys) entity);
+    }) }
 {
     let attributes = attributes.of(entity);
     let keys = keys.of(entity);

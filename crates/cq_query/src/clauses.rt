@@ -1,12 +1,18 @@
 //! The rules of the clauses.
-ghost use Rattle.std.specs.Prelude.{ℕ, List, ◌≡◌, ◌&&◌, ◌==◌, ◌+◌, ◌<◌, ◌^◌, ◌⊎◌, IfOk, IfErr, Some, None, length, map, option_map, option_copied, slice_get, is_none};
+ghost use Rattle.std.specs.Prelude.{ℕ, List, ◌≡◌, ◌&&◌, ◌==◌, ◌+◌, ◌<◌, ◌^◌, ◌⊎◌, IfOk, IfErr, Some, None, length, map};
+ghost use Rattle.std.specs.Prelude.{option_map, option_copied, slice_get, is_none};
 ghost use Rattle.std.specs.List.{list_any};
 ghost use Rattle.cq_theory.specs.Resolve.{are_of_one_sort, has_unknown as unknown_in, in_part, raw_sort};
 ghost use Rattle.cq_theory.specs.SchemaData.{SchemaData};
 ghost use Rattle.cq_base.specs.declared.name.Name.{Name};
 ghost use Rattle.cq_query.specs.declared.parts.Clause.{Clause as ClausePart};
 ghost use Rattle.cq_query.specs.declared.parts.Clause.TheVariants as clause;
-ghost use Rattle.cq_query.specs.QueryParts.{of_query as refusal_of_query, least_rule as rule_least, is_from as from_entity, is_right_attribute as right_attribute, attribute_edge as edge_of_attribute, key_edge as edge_of_key, variable_sort as sort_of_variable, target_sort as sort_of_target, clause_rule, rule_over, rule_in, gives_same as same_given, clause_fault, clauses_fault, names_of, sorts_of};
+ghost use Rattle.cq_query.specs.QueryParts.{of_query as refusal_of_query, least_rule as rule_least};
+ghost use Rattle.cq_query.specs.QueryParts.{is_from as from_entity, is_right_attribute as right_attribute};
+ghost use Rattle.cq_query.specs.QueryParts.{attribute_edge as edge_of_attribute, key_edge as edge_of_key};
+ghost use Rattle.cq_query.specs.QueryParts.{variable_sort as sort_of_variable, target_sort as sort_of_target};
+ghost use Rattle.cq_query.specs.QueryParts.{clause_rule, rule_over, rule_in, gives_same as same_given, clause_fault};
+ghost use Rattle.cq_query.specs.QueryParts.{clauses_fault, names_of, sorts_of};
 
 use crate::given::add_clause;
 use crate::owners::{entity_at, of_query};
@@ -127,7 +133,8 @@ fn sort_in(source: &Schema, scope: &Scope, raw: &Raw) -> Option<Sort>
 
 /// The least rule that a where equation breaks.
 fn test_rule(source: &Schema, scope: &Scope, left: &Raw, right: &Raw) -> Option<TermRefusal>
-    ensures { (T : SchemaData) (scopes : List (List (Name × ℕ))) (entity : ℕ) → result ≡ clause_rule source.now T scopes scope.now entity (clause.Test left.now right.now) }
+    ensures { (T : SchemaData) (scopes : List (List (Name × ℕ))) (entity : ℕ)
+        → result ≡ clause_rule source.now T scopes scope.now entity (clause.Test left.now right.now) }
 {
     least_rule(
         is_unknown(source, scope, left) || is_unknown(source, scope, right),
@@ -147,7 +154,8 @@ fn attribute_rule(
     name: &Name,
     raw: &Raw,
 ) -> Option<TermRefusal>
-    ensures { (scopes : List (List (Name × ℕ))) → result ≡ clause_rule source.now target.now scopes scope.now entity (clause.Att name.now raw.now) }
+    ensures { (scopes : List (List (Name × ℕ))) → result ≡ clause_rule source.now target.now scopes scope.now entity
+        (clause.Att name.now raw.now) }
 {
     let symbol = target.find_symbol(name);
     let sort = sort_in(source, scope, raw);
@@ -162,7 +170,8 @@ fn attribute_rule(
 
 /// The least rule that a foreign key's clause breaks.
 fn key_rule(target: &Schema, entity: u32, name: &Name) -> Option<TermRefusal>
-    ensures { (S : SchemaData) (scopes : List (List (Name × ℕ))) (scope : List (Name × ℕ)) → result ≡ clause_rule S target.now scopes scope entity (clause.Key name.now) }
+    ensures { (S : SchemaData) (scopes : List (List (Name × ℕ))) (scope : List (Name × ℕ))
+        → result ≡ clause_rule S target.now scopes scope entity (clause.Key name.now) }
 {
     let symbol = target.find_symbol(name);
     least_rule(
@@ -185,7 +194,8 @@ fn assign_rule(
     variable: &Name,
     raw: &Raw,
 ) -> Option<TermRefusal>
-    ensures { result ≡ clause_rule source.now target.now scopes.now scope.now entity (clause.Assign key.now variable.now raw.now) }
+    ensures { result ≡ clause_rule source.now target.now scopes.now scope.now entity
+        (clause.Assign key.now variable.now raw.now) }
 {
     let wanted = target_sort(target, scopes, key, variable);
     let sort = sort_in(source, scope, raw);
@@ -247,7 +257,8 @@ fn fault_of_clause(
     number: u32,
     part: &(u32, Clause),
 ) -> Option<TheoryRefusal>
-    ensures { (earlier : List (ℕ × ClausePart)) → is_given ≡ list_any (λ c. same_given part.now.1 c.1) earlier → result ≡ clause_fault source.now target.now entities.now scopes.now earlier number part.now }
+    ensures { (earlier : List (ℕ × ClausePart)) → is_given ≡ list_any (λ c. same_given part.now.1 c.1) earlier
+        → result ≡ clause_fault source.now target.now entities.now scopes.now earlier number part.now }
 {
     if is_given {
         return Some(TheoryRefusal::Duplicate(number));
@@ -270,7 +281,8 @@ fn first_clause_fault(
     parts: &[(u32, Clause)],
 ) -> Result<Option<TheoryRefusal>, AllocError>
     requires { first + length parts.now < 2 ^ 32 }
-    ensures { IfOk result (λ fault. fault ≡ clauses_fault source.now target.now entities.now scopes.now first parts.now) }
+    ensures { IfOk result (λ fault. fault ≡ clauses_fault source.now target.now entities.now scopes.now first
+        parts.now) }
 {
     let mut symbols = HashSet::new(alloc);
     let mut assigned = HashSet::new(alloc);
@@ -297,8 +309,11 @@ pub(crate) fn check_clauses(
     parts: &[(u32, Clause)],
 ) -> Result<(), ArrowRefusal>
     requires { first + length parts.now < 2 ^ 32 }
-    ensures accepted { IfOk result (λ _. clauses_fault source.now target.now entities.now scopes.now first parts.now ≡ None) }
-    ensures refused { IfErr result (λ refusal. (refusal ≡ ArrowRefusal.Memory) ⊎ (option_map refusal_of_query (clauses_fault source.now target.now entities.now scopes.now first parts.now) ≡ Some refusal)) }
+    ensures accepted { IfOk result (λ _. clauses_fault source.now target.now entities.now scopes.now first
+        parts.now ≡ None) }
+    ensures refused { IfErr result (λ refusal. (refusal ≡ ArrowRefusal.Memory)
+        ⊎ (option_map refusal_of_query (clauses_fault source.now target.now entities.now scopes.now first parts.now)
+        ≡ Some refusal)) }
 {
     let Ok(fault) = first_clause_fault(alloc, source, target, entities, scopes, first, parts) else {
         return Err(ArrowRefusal::Memory);

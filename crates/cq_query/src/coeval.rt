@@ -1,11 +1,13 @@
 //! The presentation of coeval.
-ghost use Rattle.std.specs.Prelude.{ℕ, ◌≡◌, ◌+◌, ◌*◌, ◌++◌, ◌∷◌, ◌<◌, ◌≤◌, ◌^◌, ◌⊎◌, ◌||◌, [], true, false, IfOk, IfErr, OnOk, MatchOption, length, map, sum, nat_lt};
+ghost use Rattle.std.specs.Prelude.{ℕ, ◌≡◌, ◌+◌, ◌*◌, ◌++◌, ◌∷◌, ◌<◌, ◌≤◌, ◌^◌, ◌⊎◌, ◌||◌, [], true, false, IfOk};
+ghost use Rattle.std.specs.Prelude.{IfErr, OnOk, MatchOption, length, map, sum, nat_lt};
 ghost use Rattle.std.specs.List.{list_any};
 ghost use Rattle.cq_theory.specs.EntTerm as ent;
 ghost use Rattle.cq_theory.specs.TypeTerm.{symbols_of};
 ghost use Rattle.cq_theory.specs.Presentation.{IsPresentation};
 ghost use Rattle.cq_theory.specs.Tables.{Tables, IsWellFormed};
-ghost use Rattle.cq_query.specs.Coeval.{start_of, size_of, starts as starts_of, null_start, is_large as large, is_oversized, coeval_of};
+ghost use Rattle.cq_query.specs.Coeval.{start_of, size_of, starts as starts_of, null_start, is_large as large};
+ghost use Rattle.cq_query.specs.Coeval.{is_oversized, coeval_of};
 
 use crate::query::Query;
 use crate::rows::push_rows;
@@ -30,10 +32,14 @@ impl Query {
         algebra: &Algebra,
     ) -> Result<Presentation, SizeRefusal>
         requires { IsWellFormed self.now.target (record { sheet = sheet.now; algebra = algebra.now }) }
-        ensures accepted { IfOk result (λ _. is_oversized (coeval_of self.now (record { sheet = sheet.now; algebra = algebra.now })) ≡ false) }
-        ensures made { IfOk result (λ made. made ≡ coeval_of self.now (record { sheet = sheet.now; algebra = algebra.now })) }
+        ensures accepted { IfOk result (λ _. is_oversized
+            (coeval_of self.now (record { sheet = sheet.now; algebra = algebra.now })) ≡ false) }
+        ensures made { IfOk result (λ made. made ≡ coeval_of self.now
+            (record { sheet = sheet.now; algebra = algebra.now })) }
         ensures presentation { IfOk result (λ made. IsPresentation self.now.source made) }
-        ensures refused { IfErr result (λ refusal. (refusal ≡ SizeRefusal.Memory) ⊎ ((refusal ≡ SizeRefusal.TooLarge) × (is_oversized (coeval_of self.now (record { sheet = sheet.now; algebra = algebra.now })) ≡ true))) }
+        ensures refused { IfErr result (λ refusal. (refusal ≡ SizeRefusal.Memory)
+            ⊎ ((refusal ≡ SizeRefusal.TooLarge) × (is_oversized
+            (coeval_of self.now (record { sheet = sheet.now; algebra = algebra.now })) ≡ true))) }
     {
         self.is_well_sorted();
         match find_starts(alloc, self, sheet.counts.as_slice()) {
@@ -48,7 +54,8 @@ impl Query {
 /// The end of the generators of an entity's rows, where those of all rows up to there are not too many.
 fn end_of(start: u32, count: u32, width: u32) -> Option<u32>
     requires { start ≤ 16000000 }
-    ensures { MatchOption result (16000000 < start + count * width) (λ end. (end ≡ start + count * width) × (end ≤ 16000000)) }
+    ensures { MatchOption result (16000000 < start + count * width)
+        (λ end. (end ≡ start + count * width) × (end ≤ 16000000)) }
 {
     let size = count as u64 * width as u64;
     if size > (MOST_GENERATORS - start) as u64 {
@@ -71,8 +78,10 @@ fn push_start(starts: &mut Vec<u32>, start: u32) -> Result<(), SizeRefusal>
 /// The first generator of each entity's rows, and that of the nulls.
 fn find_starts(alloc: Global, query: &Query, counts: &[u32]) -> Result<(Vec<u32>, u32), SizeRefusal>
     ensures small { IfOk result (λ _. null_start query.now counts.now ≤ 16000000) }
-    ensures made { IfOk result (λ made. (made.0.items ≡ starts_of query.now counts.now) × (made.1 ≡ null_start query.now counts.now)) }
-    ensures refused { IfErr result (λ refusal. (refusal ≡ SizeRefusal.Memory) ⊎ ((refusal ≡ SizeRefusal.TooLarge) × (16000000 < null_start query.now counts.now))) }
+    ensures made { IfOk result (λ made. (made.0.items ≡ starts_of query.now counts.now)
+        × (made.1 ≡ null_start query.now counts.now)) }
+    ensures refused { IfErr result (λ refusal. (refusal ≡ SizeRefusal.Memory)
+        ⊎ ((refusal ≡ SizeRefusal.TooLarge) × (16000000 < null_start query.now counts.now))) }
 {
     let mut starts = Vec::new(alloc);
     let mut total = 0;
@@ -99,9 +108,13 @@ fn coeval_from(
     requires starts { starts.now ≡ starts_of query.now sheet.now.counts }
     requires first { first ≡ null_start query.now sheet.now.counts }
     requires small { first ≤ 16000000 }
-    ensures accepted { IfOk result (λ _. is_oversized (coeval_of query.now (record { sheet = sheet.now; algebra = algebra.now })) ≡ false) }
-    ensures made { IfOk result (λ made. made ≡ coeval_of query.now (record { sheet = sheet.now; algebra = algebra.now })) }
-    ensures refused { IfErr result (λ refusal. (refusal ≡ SizeRefusal.Memory) ⊎ ((refusal ≡ SizeRefusal.TooLarge) × (is_oversized (coeval_of query.now (record { sheet = sheet.now; algebra = algebra.now })) ≡ true))) }
+    ensures accepted { IfOk result (λ _. is_oversized
+        (coeval_of query.now (record { sheet = sheet.now; algebra = algebra.now })) ≡ false) }
+    ensures made { IfOk result (λ made. made ≡ coeval_of query.now
+        (record { sheet = sheet.now; algebra = algebra.now })) }
+    ensures refused { IfErr result (λ refusal. (refusal ≡ SizeRefusal.Memory)
+        ⊎ ((refusal ≡ SizeRefusal.TooLarge) × (is_oversized
+        (coeval_of query.now (record { sheet = sheet.now; algebra = algebra.now })) ≡ true))) }
 {
     let nulls = algebra.nulls.len();
     if nulls > (MOST_GENERATORS - first) as usize {
@@ -152,7 +165,8 @@ fn build_coeval(
 /// The presentation, where its terms are not too large.
 fn check_size(made: Presentation) -> Result<Presentation, SizeRefusal>
     ensures ok { IfOk result (λ same. (same ≡ made) × (list_any large made.equations ≡ false)) }
-    ensures refused { IfErr result (λ refusal. (refusal ≡ SizeRefusal.TooLarge) × (list_any large made.equations ≡ true)) }
+    ensures refused { IfErr result (λ refusal. (refusal ≡ SizeRefusal.TooLarge)
+        × (list_any large made.equations ≡ true)) }
 {
     if has_large(made.equations.as_slice()) {
         Err(SizeRefusal::TooLarge)

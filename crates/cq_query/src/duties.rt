@@ -4,8 +4,10 @@ ghost use Rattle.std.specs.List.{flat_map};
 ghost use Rattle.cq_theory.specs.declared.presentation.Sort.TheVariants.{Entity};
 ghost use Rattle.cq_theory.specs.Presentation.{IsPresentation};
 ghost use Rattle.cq_query.specs.Groups.{positions};
-ghost use Rattle.cq_query.specs.Translation.{key_sources, path_sources, observation_sources, variables_at, tests_at, assigned, variable_terms, along, translated};
-ghost use Rattle.cq_query.specs.Duties.{equal_terms, frozen as frozen_at, key_duties, path_duties, observation_duties, duties as duties_at};
+ghost use Rattle.cq_query.specs.Translation.{key_sources, path_sources, observation_sources, variables_at, tests_at};
+ghost use Rattle.cq_query.specs.Translation.{assigned, variable_terms, along, translated};
+ghost use Rattle.cq_query.specs.Duties.{equal_terms, frozen as frozen_at, key_duties, path_duties, observation_duties};
+ghost use Rattle.cq_query.specs.Duties.{duties as duties_at};
 ghost use Rattle.cq_query.specs.Puts.{put_equation};
 
 use crate::copies::{copy_entity_term, copy_equations};
@@ -79,7 +81,9 @@ fn push_key_duties(
     made: &mut Vec<Equation>,
 ) -> Result<(), AllocError>
     requires { entity < length query.now.target.entities }
-    ensures { OnOk result (made.new.items ≡ made.old.items ++ flat_map (λ k. key_duties query.now k (slice_get query.now.target.keys k)) (positions (key_sources query.now) entity)) }
+    ensures { OnOk result (made.new.items ≡ made.old.items
+        ++ flat_map (λ k. key_duties query.now k (slice_get query.now.target.keys k))
+        (positions (key_sources query.now) entity)) }
 {
     for key in query.keys_from(entity) {
         push_key_duty(alloc, query, *key, made)?;
@@ -93,7 +97,8 @@ fn push_key_duty(
     key: usize,
     made: &mut Vec<Equation>,
 ) -> Result<(), AllocError>
-    ensures { OnOk result (made.new.items ≡ made.old.items ++ key_duties query.now key (slice_get query.now.target.keys key)) }
+    ensures { OnOk result (made.new.items ≡ made.old.items
+        ++ key_duties query.now key (slice_get query.now.target.keys key)) }
 {
     match query.key(key) {
         Some(edge) => push_assigned_tests(alloc, query, key, edge.to as usize, made),
@@ -109,7 +114,8 @@ fn push_assigned_tests(
     entity: usize,
     made: &mut Vec<Equation>,
 ) -> Result<(), AllocError>
-    ensures { OnOk result (made.new.items ≡ made.old.items ++ map (put_equation (assigned query.now key)) (tests_at query.now entity)) }
+    ensures { OnOk result (made.new.items ≡ made.old.items
+        ++ map (put_equation (assigned query.now key)) (tests_at query.now entity)) }
 {
     match query.block(entity) {
         Some(block) => push_tests(alloc, query, key, block.tests.as_slice(), made),
@@ -140,7 +146,9 @@ fn push_path_duties(
     made: &mut Vec<Equation>,
 ) -> Result<(), AllocError>
     requires { entity < length query.now.target.entities }
-    ensures { OnOk result (made.new.items ≡ made.old.items ++ flat_map (λ n. path_duties query.now entity (slice_get query.now.target.path_eqs n)) (positions (path_sources query.now) entity)) }
+    ensures { OnOk result (made.new.items ≡ made.old.items
+        ++ flat_map (λ n. path_duties query.now entity (slice_get query.now.target.path_eqs n))
+        (positions (path_sources query.now) entity)) }
 {
     for number in query.path_eqs_from(entity) {
         push_path_duty(alloc, query, entity, *number, made)?;
@@ -155,7 +163,8 @@ fn push_path_duty(
     number: usize,
     made: &mut Vec<Equation>,
 ) -> Result<(), AllocError>
-    ensures { OnOk result (made.new.items ≡ made.old.items ++ path_duties query.now entity (slice_get query.now.target.path_eqs number)) }
+    ensures { OnOk result (made.new.items ≡ made.old.items
+        ++ path_duties query.now entity (slice_get query.now.target.path_eqs number)) }
 {
     match query.path_eq(number) {
         Some(path_eq) => push_sides(
@@ -179,7 +188,9 @@ fn push_sides(
     right: &[u32],
     made: &mut Vec<Equation>,
 ) -> Result<(), AllocError>
-    ensures { OnOk result (made.new.items ≡ made.old.items ++ equal_terms (along query.now (variable_terms query.now entity) left.now) (along query.now (variable_terms query.now entity) right.now)) }
+    ensures { OnOk result (made.new.items ≡ made.old.items
+        ++ equal_terms (along query.now (variable_terms query.now entity) left.now)
+        (along query.now (variable_terms query.now entity) right.now)) }
 {
     let left = terms_along(alloc, query, entity, left)?;
     let right = terms_along(alloc, query, entity, right)?;
@@ -212,7 +223,9 @@ fn push_observation_duties(
     made: &mut Vec<Equation>,
 ) -> Result<(), AllocError>
     requires { entity < length query.now.target.entities }
-    ensures { OnOk result (made.new.items ≡ made.old.items ++ flat_map (λ n. observation_duties query.now entity (slice_get query.now.target.obs_eqs n)) (positions (observation_sources query.now) entity)) }
+    ensures { OnOk result (made.new.items ≡ made.old.items
+        ++ flat_map (λ n. observation_duties query.now entity (slice_get query.now.target.obs_eqs n))
+        (positions (observation_sources query.now) entity)) }
 {
     for number in query.obs_eqs_from(entity) {
         push_observation_duty(alloc, query, entity, *number, made)?;
@@ -227,7 +240,8 @@ fn push_observation_duty(
     number: usize,
     made: &mut Vec<Equation>,
 ) -> Result<(), AllocError>
-    ensures { OnOk result (made.new.items ≡ made.old.items ++ observation_duties query.now entity (slice_get query.now.target.obs_eqs number)) }
+    ensures { OnOk result (made.new.items ≡ made.old.items
+        ++ observation_duties query.now entity (slice_get query.now.target.obs_eqs number)) }
 {
     match query.obs_eq(number) {
         Some(obs_eq) => push_translated(alloc, query, entity, &obs_eq.left, &obs_eq.right, made),
@@ -243,7 +257,9 @@ fn push_translated(
     right: &TypeTerm,
     made: &mut Vec<Equation>,
 ) -> Result<(), AllocError>
-    ensures { OnOk result (made.new.items ≡ made.old.items ++ Equation.Typ (translated query.now (variable_terms query.now entity) left.now) (translated query.now (variable_terms query.now entity) right.now) ∷ []) }
+    ensures { OnOk result (made.new.items ≡ made.old.items
+        ++ Equation.Typ (translated query.now (variable_terms query.now entity) left.now)
+        (translated query.now (variable_terms query.now entity) right.now) ∷ []) }
 {
     let left = translate(alloc, query, entity, left)?;
     let right = translate(alloc, query, entity, right)?;

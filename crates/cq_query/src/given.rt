@@ -15,7 +15,8 @@ use std::collections::HashSet;
 /// Adds the name of an attribute or foreign key, and tells whether it was there.
 fn add_symbol(symbols: &mut HashSet<Name>, name: &Name) -> Result<bool, AllocError>
     ensures taken { IfOk result (λ taken. taken ≡ list_any (same_name name.now) symbols.old.keys) }
-    ensures added { OnOk result ((q : List ℕ) → list_any (same_name q) symbols.new.keys ≡ cond (same_name name.now q) true (list_any (same_name q) symbols.old.keys)) }
+    ensures added { OnOk result ((q : List ℕ) → list_any (same_name q) symbols.new.keys ≡ cond
+        (same_name name.now q) true (list_any (same_name q) symbols.old.keys)) }
 {
     let is_new = symbols.insert(name.clone()?)?;
     Ok(!is_new)
@@ -28,7 +29,9 @@ fn add_assigned(
     variable: &Name,
 ) -> Result<bool, AllocError>
     ensures taken { IfOk result (λ taken. taken ≡ list_any (same_pair (key.now, variable.now)) assigned.old.keys) }
-    ensures added { OnOk result ((q : List ℕ × List ℕ) → list_any (same_pair q) assigned.new.keys ≡ cond (same_pair (key.now, variable.now) q) true (list_any (same_pair q) assigned.old.keys)) }
+    ensures added { OnOk result ((q : List ℕ × List ℕ)
+        → list_any (same_pair q) assigned.new.keys ≡ cond (same_pair (key.now, variable.now) q) true
+        (list_any (same_pair q) assigned.old.keys)) }
 {
     let is_new = assigned.insert((key.clone()?, variable.clone()?))?;
     Ok(!is_new)
@@ -40,8 +43,10 @@ pub(crate) fn add_clause(
     assigned: &mut HashSet<(Name, Name)>,
     part: &Clause,
 ) -> Result<bool, AllocError>
-    ensures taken { (earlier : List (ℕ × Clause)) → HasGiven earlier symbols.old.keys assigned.old.keys → IfOk result (λ taken. taken ≡ list_any (λ c. gives_same part.now c.1) earlier) }
-    ensures added { (earlier : List (ℕ × Clause)) (block : ℕ) → HasGiven earlier symbols.old.keys assigned.old.keys → OnOk result (HasGiven (earlier ++ (block, part.now) ∷ []) symbols.new.keys assigned.new.keys) }
+    ensures taken { (earlier : List (ℕ × Clause)) → HasGiven earlier symbols.old.keys assigned.old.keys
+        → IfOk result (λ taken. taken ≡ list_any (λ c. gives_same part.now c.1) earlier) }
+    ensures added { (earlier : List (ℕ × Clause)) (block : ℕ) → HasGiven earlier symbols.old.keys assigned.old.keys
+        → OnOk result (HasGiven (earlier ++ (block, part.now) ∷ []) symbols.new.keys assigned.new.keys) }
 {
     match part {
         Clause::Test(_, _) => Ok(false),

@@ -2,8 +2,11 @@
 ghost use Rattle.std.specs.Prelude.{◌≡◌, ◌+◌, ◌<◌, ◌≤◌, ◌^◌, All, IfOk, length, map, option_copied};
 ghost use Rattle.std.specs.List.{list_any};
 ghost use Rattle.cq_query.specs.Groups.{AreGroups};
-ghost use Rattle.cq_query.specs.QueryParts.{first_of, attribute_given as given_attribute, key_given as given_key, attribute_in, has_key as key_there};
-ghost use Rattle.cq_query.specs.Index.{IsIndex, at_place, is_at_place, attribute_number as number_of_attribute, key_number as number_of_key, attribute_owner as owner_attribute, key_owner as owner_key};
+ghost use Rattle.cq_query.specs.QueryParts.{first_of, attribute_given as given_attribute, key_given as given_key};
+ghost use Rattle.cq_query.specs.QueryParts.{attribute_in, has_key as key_there};
+ghost use Rattle.cq_query.specs.Index.{IsIndex, at_place, is_at_place, attribute_number as number_of_attribute};
+ghost use Rattle.cq_query.specs.Index.{key_number as number_of_key, attribute_owner as owner_attribute};
+ghost use Rattle.cq_query.specs.Index.{key_owner as owner_key};
 
 use crate::groups::Groups;
 use crate::missing::{attribute_given, key_given};
@@ -102,7 +105,8 @@ pub(crate) fn attribute_among<'a>(
     places: &[usize],
     attribute: usize,
 ) -> Option<&'a Raw>
-    ensures { option_copied result ≡ first_of (at_place (λ part. given_attribute target.now attribute part.1) clauses.now) places.now }
+    ensures { option_copied result ≡ first_of (at_place (λ part. given_attribute target.now attribute part.1)
+        clauses.now) places.now }
 {
     for place in places {
         let found = attribute_at(target, clauses, *place, attribute);
@@ -177,7 +181,8 @@ fn index_attributes(
     target: &Schema,
     clauses: &[(u32, Clause)],
 ) -> Result<Groups, AllocError>
-    ensures { IfOk result (λ made. AreGroups (map (λ c. owner_attribute target.now (length target.now.attributes) c.1) clauses.now) (length target.now.attributes + 1) made) }
+    ensures { IfOk result (λ made. AreGroups (map (λ c. owner_attribute target.now (length target.now.attributes) c.1)
+        clauses.now) (length target.now.attributes + 1) made) }
 {
     target.is_well_sorted();
     let count = target.attributes.len();
@@ -191,7 +196,8 @@ fn index_keys(
     target: &Schema,
     clauses: &[(u32, Clause)],
 ) -> Result<Groups, AllocError>
-    ensures { IfOk result (λ made. AreGroups (map (λ c. owner_key target.now (length target.now.keys) c.1) clauses.now) (length target.now.keys + 1) made) }
+    ensures { IfOk result (λ made. AreGroups (map (λ c. owner_key target.now (length target.now.keys) c.1) clauses.now)
+        (length target.now.keys + 1) made) }
 {
     target.is_well_sorted();
     let count = target.keys.len();

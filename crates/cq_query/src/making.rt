@@ -30,13 +30,20 @@ fn finish_blocks(
     requires scopes { length scopes.now ≡ length target.now.entities }
     requires entities { All (λ entity. entity < length target.now.entities) entities.now }
     requires blocks { All (λ part. part.0 < length entities.now) clauses.now }
-    ensures accepted { IfOk result (λ _. clauses_and_rest_fault source.now target.now entities.now scopes.now clauses.now first ≡ None) }
-    ensures made { IfOk result (λ made. made.0.items ≡ blocks_made source.now target.now entities.now scopes.now clauses.now) }
-    ensures keys { IfOk result (λ made. AreGroups (edge_sources target.now.keys) (length target.now.entities) made.1.keys) }
-    ensures attributes { IfOk result (λ made. AreGroups (edge_sources target.now.attributes) (length target.now.entities) made.1.attributes) }
-    ensures path_eqs { IfOk result (λ made. AreGroups (path_eq_sources target.now.path_eqs) (length target.now.entities) made.1.path_eqs) }
-    ensures obs_eqs { IfOk result (λ made. AreGroups (obs_eq_sources target.now.obs_eqs) (length target.now.entities) made.1.obs_eqs) }
-    ensures refused { IfErr result (λ refusal. (refusal ≡ ArrowRefusal.Memory) ⊎ (clauses_and_rest_fault source.now target.now entities.now scopes.now clauses.now first ≡ Some refusal)) }
+    ensures accepted { IfOk result (λ _. clauses_and_rest_fault source.now target.now entities.now scopes.now
+        clauses.now first ≡ None) }
+    ensures made { IfOk result (λ made. made.0.items ≡ blocks_made source.now target.now entities.now scopes.now
+        clauses.now) }
+    ensures keys { IfOk result (λ made. AreGroups (edge_sources target.now.keys) (length target.now.entities)
+        made.1.keys) }
+    ensures attributes { IfOk result (λ made. AreGroups (edge_sources target.now.attributes)
+        (length target.now.entities) made.1.attributes) }
+    ensures path_eqs { IfOk result (λ made. AreGroups (path_eq_sources target.now.path_eqs) (length target.now.entities)
+        made.1.path_eqs) }
+    ensures obs_eqs { IfOk result (λ made. AreGroups (obs_eq_sources target.now.obs_eqs) (length target.now.entities)
+        made.1.obs_eqs) }
+    ensures refused { IfErr result (λ refusal. (refusal ≡ ArrowRefusal.Memory)
+        ⊎ (clauses_and_rest_fault source.now target.now entities.now scopes.now clauses.now first ≡ Some refusal)) }
 {
     check_clauses(alloc, source, target, entities, scopes, first, clauses)?;
     let Ok(tables) = make_tables(alloc, target) else {
@@ -84,13 +91,20 @@ pub(crate) fn make_blocks(
     requires entities { All (λ entity. entity < length target.now.entities) entities.now }
     requires blocks { All (λ part. part.0 < length entities.now) vars.now }
     requires clauses { All (λ part. part.0 < length entities.now) clauses.now }
-    ensures accepted { IfOk result (λ _. variables_and_rest_fault source.now target.now entities.now first vars.now clauses.now ≡ None) }
-    ensures made { IfOk result (λ made. made.0.items ≡ blocks_made source.now target.now entities.now (scopes_of source.now entities.now (length target.now.entities) vars.now) clauses.now) }
-    ensures keys { IfOk result (λ made. AreGroups (edge_sources target.now.keys) (length target.now.entities) made.1.keys) }
-    ensures attributes { IfOk result (λ made. AreGroups (edge_sources target.now.attributes) (length target.now.entities) made.1.attributes) }
-    ensures path_eqs { IfOk result (λ made. AreGroups (path_eq_sources target.now.path_eqs) (length target.now.entities) made.1.path_eqs) }
-    ensures obs_eqs { IfOk result (λ made. AreGroups (obs_eq_sources target.now.obs_eqs) (length target.now.entities) made.1.obs_eqs) }
-    ensures refused { IfErr result (λ refusal. (refusal ≡ ArrowRefusal.Memory) ⊎ (variables_and_rest_fault source.now target.now entities.now first vars.now clauses.now ≡ Some refusal)) }
+    ensures accepted { IfOk result (λ _. variables_and_rest_fault source.now target.now entities.now first vars.now
+        clauses.now ≡ None) }
+    ensures made { IfOk result (λ made. made.0.items ≡ blocks_made source.now target.now entities.now
+        (scopes_of source.now entities.now (length target.now.entities) vars.now) clauses.now) }
+    ensures keys { IfOk result (λ made. AreGroups (edge_sources target.now.keys) (length target.now.entities)
+        made.1.keys) }
+    ensures attributes { IfOk result (λ made. AreGroups (edge_sources target.now.attributes)
+        (length target.now.entities) made.1.attributes) }
+    ensures path_eqs { IfOk result (λ made. AreGroups (path_eq_sources target.now.path_eqs) (length target.now.entities)
+        made.1.path_eqs) }
+    ensures obs_eqs { IfOk result (λ made. AreGroups (obs_eq_sources target.now.obs_eqs) (length target.now.entities)
+        made.1.obs_eqs) }
+    ensures refused { IfErr result (λ refusal. (refusal ≡ ArrowRefusal.Memory)
+        ⊎ (variables_and_rest_fault source.now target.now entities.now first vars.now clauses.now ≡ Some refusal)) }
 {
     target.is_well_sorted();
     let count = target.entities.len() as u32;

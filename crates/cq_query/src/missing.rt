@@ -1,5 +1,6 @@
 //! What no clause gives.
-ghost use Rattle.std.specs.Prelude.{ℕ, List, ◌≡◌, ◌<◌, ◌⊎◌, IfOk, IfErr, Some, None, length, map, option_copied, slice_get};
+ghost use Rattle.std.specs.Prelude.{ℕ, List, ◌≡◌, ◌<◌, ◌⊎◌, IfOk, IfErr, Some, None, length, map, option_copied};
+ghost use Rattle.std.specs.Prelude.{slice_get};
 ghost use Rattle.std.specs.List.{list_any};
 ghost use Rattle.cq_theory.specs.Canonical.{below};
 ghost use Rattle.cq_theory.specs.Resolve.{or_else};
@@ -7,7 +8,11 @@ ghost use Rattle.cq_query.specs.Groups.{positions, AreGroups};
 ghost use Rattle.cq_query.specs.Assigned.{IsAssigned};
 ghost use Rattle.cq_query.specs.Index.{IsIndex};
 ghost use Rattle.cq_query.specs.Translation.{edge_sources};
-ghost use Rattle.cq_query.specs.QueryParts.{is_attribute as is_the_attribute, is_key as is_the_key, attribute_given as given_attribute, key_given as given_key, assigned_given as given_assigned, first_of, missing_attribute, missing_key, missing_variable, missing_variables, missing_attributes, missing_keys, missing_assigned, missing_in, missing_at, missing_part};
+ghost use Rattle.cq_query.specs.QueryParts.{is_attribute as is_the_attribute, is_key as is_the_key};
+ghost use Rattle.cq_query.specs.QueryParts.{attribute_given as given_attribute, key_given as given_key};
+ghost use Rattle.cq_query.specs.QueryParts.{assigned_given as given_assigned, first_of, missing_attribute, missing_key};
+ghost use Rattle.cq_query.specs.QueryParts.{missing_variable, missing_variables, missing_attributes, missing_keys};
+ghost use Rattle.cq_query.specs.QueryParts.{missing_assigned, missing_in, missing_at, missing_part};
 
 use crate::assigned::{Assigned, find_assigned, make_assigned};
 use crate::groups::Groups;
@@ -105,8 +110,11 @@ fn check_attribute(
     attribute: usize,
 ) -> Result<(), ArrowRefusal>
     requires index { IsIndex target.now clauses.now index.now }
-    ensures accepted { IfOk result (λ _. missing_attribute target.now clauses.now attribute (slice_get target.now.attributes attribute) ≡ None) }
-    ensures refused { IfErr result (λ refusal. (refusal ≡ ArrowRefusal.Memory) ⊎ (missing_attribute target.now clauses.now attribute (slice_get target.now.attributes attribute) ≡ Some refusal)) }
+    ensures accepted { IfOk result (λ _. missing_attribute target.now clauses.now attribute
+        (slice_get target.now.attributes attribute) ≡ None) }
+    ensures refused { IfErr result (λ refusal. (refusal ≡ ArrowRefusal.Memory)
+        ⊎ (missing_attribute target.now clauses.now attribute (slice_get target.now.attributes attribute)
+        ≡ Some refusal)) }
 {
     let Some(edge) = target.attributes.as_slice().get(attribute) else {
         return Ok(());
@@ -124,8 +132,10 @@ fn check_key(
     key: usize,
 ) -> Result<(), ArrowRefusal>
     requires index { IsIndex target.now clauses.now index.now }
-    ensures accepted { IfOk result (λ _. missing_key target.now clauses.now key (slice_get target.now.keys key) ≡ None) }
-    ensures refused { IfErr result (λ refusal. (refusal ≡ ArrowRefusal.Memory) ⊎ (missing_key target.now clauses.now key (slice_get target.now.keys key) ≡ Some refusal)) }
+    ensures accepted { IfOk result (λ _. missing_key target.now clauses.now key
+        (slice_get target.now.keys key) ≡ None) }
+    ensures refused { IfErr result (λ refusal. (refusal ≡ ArrowRefusal.Memory)
+        ⊎ (missing_key target.now clauses.now key (slice_get target.now.keys key) ≡ Some refusal)) }
 {
     let Some(edge) = target.keys.as_slice().get(key) else {
         return Ok(());
@@ -146,7 +156,8 @@ fn check_variables(
 ) -> Result<(), ArrowRefusal>
     requires { IsAssigned target.now clauses.now key assigned.now }
     ensures accepted { IfOk result (λ _. first_of (missing_variable target.now clauses.now key) vars.now ≡ None) }
-    ensures refused { IfErr result (λ refusal. (refusal ≡ ArrowRefusal.Memory) ⊎ (first_of (missing_variable target.now clauses.now key) vars.now ≡ Some refusal)) }
+    ensures refused { IfErr result (λ refusal. (refusal ≡ ArrowRefusal.Memory)
+        ⊎ (first_of (missing_variable target.now clauses.now key) vars.now ≡ Some refusal)) }
 {
     for var in vars {
         if find_assigned(target, clauses, assigned, key, &var.0).is_none() {
@@ -168,7 +179,8 @@ fn check_variables_of(
     requires index { IsIndex target.now clauses.now index.now }
     requires key { key < length target.now.keys }
     ensures accepted { IfOk result (λ _. first_of (missing_variable target.now clauses.now key) vars.now ≡ None) }
-    ensures refused { IfErr result (λ refusal. (refusal ≡ ArrowRefusal.Memory) ⊎ (first_of (missing_variable target.now clauses.now key) vars.now ≡ Some refusal)) }
+    ensures refused { IfErr result (λ refusal. (refusal ≡ ArrowRefusal.Memory)
+        ⊎ (first_of (missing_variable target.now clauses.now key) vars.now ≡ Some refusal)) }
 {
     match make_assigned(alloc, target, clauses, index, key) {
         Ok(assigned) => check_variables(target, clauses, &assigned, key, vars),
@@ -185,8 +197,10 @@ fn check_assigned(
     key: usize,
 ) -> Result<(), ArrowRefusal>
     requires index { IsIndex target.now clauses.now index.now }
-    ensures accepted { IfOk result (λ _. missing_variables target.now scopes.now clauses.now key (slice_get target.now.keys key) ≡ None) }
-    ensures refused { IfErr result (λ refusal. (refusal ≡ ArrowRefusal.Memory) ⊎ (missing_variables target.now scopes.now clauses.now key (slice_get target.now.keys key) ≡ Some refusal)) }
+    ensures accepted { IfOk result (λ _. missing_variables target.now scopes.now clauses.now key
+        (slice_get target.now.keys key) ≡ None) }
+    ensures refused { IfErr result (λ refusal. (refusal ≡ ArrowRefusal.Memory)
+        ⊎ (missing_variables target.now scopes.now clauses.now key (slice_get target.now.keys key) ≡ Some refusal)) }
 {
     let Some(edge) = target.keys.as_slice().get(key) else {
         return Ok(());
@@ -205,7 +219,8 @@ fn check_attributes(
 ) -> Result<(), ArrowRefusal>
     requires index { IsIndex target.now clauses.now index.now }
     ensures accepted { IfOk result (λ _. missing_attributes target.now clauses.now attributes.now ≡ None) }
-    ensures refused { IfErr result (λ refusal. (refusal ≡ ArrowRefusal.Memory) ⊎ (missing_attributes target.now clauses.now attributes.now ≡ Some refusal)) }
+    ensures refused { IfErr result (λ refusal. (refusal ≡ ArrowRefusal.Memory)
+        ⊎ (missing_attributes target.now clauses.now attributes.now ≡ Some refusal)) }
 {
     for attribute in attributes {
         check_attribute(target, clauses, index, *attribute)?;
@@ -221,7 +236,8 @@ fn check_keys(
 ) -> Result<(), ArrowRefusal>
     requires index { IsIndex target.now clauses.now index.now }
     ensures accepted { IfOk result (λ _. missing_keys target.now clauses.now keys.now ≡ None) }
-    ensures refused { IfErr result (λ refusal. (refusal ≡ ArrowRefusal.Memory) ⊎ (missing_keys target.now clauses.now keys.now ≡ Some refusal)) }
+    ensures refused { IfErr result (λ refusal. (refusal ≡ ArrowRefusal.Memory)
+        ⊎ (missing_keys target.now clauses.now keys.now ≡ Some refusal)) }
 {
     for key in keys {
         check_key(target, clauses, index, *key)?;
@@ -240,7 +256,8 @@ fn check_all_assigned(
 ) -> Result<(), ArrowRefusal>
     requires index { IsIndex target.now clauses.now index.now }
     ensures accepted { IfOk result (λ _. missing_assigned target.now scopes.now clauses.now keys.now ≡ None) }
-    ensures refused { IfErr result (λ refusal. (refusal ≡ ArrowRefusal.Memory) ⊎ (missing_assigned target.now scopes.now clauses.now keys.now ≡ Some refusal)) }
+    ensures refused { IfErr result (λ refusal. (refusal ≡ ArrowRefusal.Memory)
+        ⊎ (missing_assigned target.now scopes.now clauses.now keys.now ≡ Some refusal)) }
 {
     for key in keys {
         check_assigned(alloc, target, scopes, clauses, index, *key)?;
@@ -264,7 +281,8 @@ fn check_entity(
     requires keys { AreGroups (edge_sources target.now.keys) (length target.now.entities) keys.now }
     requires entity { entity < length target.now.entities }
     ensures accepted { IfOk result (λ _. missing_at target.now scopes.now clauses.now entity ≡ None) }
-    ensures refused { IfErr result (λ refusal. (refusal ≡ ArrowRefusal.Memory) ⊎ (missing_at target.now scopes.now clauses.now entity ≡ Some refusal)) }
+    ensures refused { IfErr result (λ refusal. (refusal ≡ ArrowRefusal.Memory)
+        ⊎ (missing_at target.now scopes.now clauses.now entity ≡ Some refusal)) }
 {
     let attributes = attributes.of(entity);
     let keys = keys.of(entity);
@@ -284,7 +302,8 @@ fn check_lists(
 ) -> Result<(), ArrowRefusal>
     requires index { IsIndex target.now clauses.now index.now }
     ensures accepted { IfOk result (λ _. missing_in target.now scopes.now clauses.now attributes.now keys.now ≡ None) }
-    ensures refused { IfErr result (λ refusal. (refusal ≡ ArrowRefusal.Memory) ⊎ (missing_in target.now scopes.now clauses.now attributes.now keys.now ≡ Some refusal)) }
+    ensures refused { IfErr result (λ refusal. (refusal ≡ ArrowRefusal.Memory)
+        ⊎ (missing_in target.now scopes.now clauses.now attributes.now keys.now ≡ Some refusal)) }
 {
     check_attributes(target, clauses, index, attributes)?;
     check_keys(target, clauses, index, keys)?;
@@ -305,7 +324,8 @@ pub(crate) fn check_missing(
     requires attributes { AreGroups (edge_sources target.now.attributes) (length target.now.entities) attributes.now }
     requires keys { AreGroups (edge_sources target.now.keys) (length target.now.entities) keys.now }
     ensures accepted { IfOk result (λ _. missing_part target.now scopes.now clauses.now ≡ None) }
-    ensures refused { IfErr result (λ refusal. (refusal ≡ ArrowRefusal.Memory) ⊎ (missing_part target.now scopes.now clauses.now ≡ Some refusal)) }
+    ensures refused { IfErr result (λ refusal. (refusal ≡ ArrowRefusal.Memory)
+        ⊎ (missing_part target.now scopes.now clauses.now ≡ Some refusal)) }
 {
     for entity in 0..target.entities.len() {
         check_entity(

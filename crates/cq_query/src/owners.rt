@@ -1,7 +1,10 @@
 //! The entities of the blocks.
-ghost use Rattle.std.specs.Prelude.{◌≡◌, ◌-◌, ◌<◌, ◌^◌, ◌⊎◌, ◌++◌, ◌∷◌, [], IfOk, IfErr, Some, None, length, map, option_map, slice_index};
+ghost use Rattle.std.specs.Prelude.{◌≡◌, ◌-◌, ◌<◌, ◌^◌, ◌⊎◌, ◌++◌, ◌∷◌, [], IfOk, IfErr, Some, None, length, map};
+ghost use Rattle.std.specs.Prelude.{option_map, slice_index};
 ghost use Rattle.cq_theory.specs.Resolve.{or_else};
-ghost use Rattle.cq_query.specs.QueryParts.{of_query as refusal_of_query, first_missing, entity_fault as fault_of_entity, entity_named as number_named, block_fault, blocks_fault, block_entities};
+ghost use Rattle.cq_query.specs.QueryParts.{of_query as refusal_of_query, first_missing};
+ghost use Rattle.cq_query.specs.QueryParts.{entity_fault as fault_of_entity, entity_named as number_named, block_fault};
+ghost use Rattle.cq_query.specs.QueryParts.{blocks_fault, block_entities};
 
 use cq_base::{Name, Names};
 use cq_theory::lookup::{declare, entity_of_sort};
@@ -36,7 +39,8 @@ pub(crate) fn missing(name: &Name) -> ArrowRefusal
 /// Whether each name is given. Otherwise the first one that isn't.
 fn check_given(given: &Names, names: &[Name]) -> Result<(), ArrowRefusal>
     ensures accepted { IfOk result (λ _. first_missing given.now names.now ≡ None) }
-    ensures refused { IfErr result (λ refusal. (refusal ≡ ArrowRefusal.Memory) ⊎ (first_missing given.now names.now ≡ Some refusal)) }
+    ensures refused { IfErr result (λ refusal. (refusal ≡ ArrowRefusal.Memory)
+        ⊎ (first_missing given.now names.now ≡ Some refusal)) }
 {
     for name in names {
         if given.find(name).is_none() {
@@ -88,8 +92,10 @@ fn add_block(
     name: &Name,
 ) -> Result<(), TheoryRefusal>
     requires { length table.old < 2 ^ 32 - 1 }
-    ensures ok { IfOk result (λ _. (block_fault target.now table.old part name.now ≡ None) × (table.new ≡ table.old ++ name.now ∷ [])) }
-    ensures refused { IfErr result (λ refusal. (refusal ≡ TheoryRefusal.Memory) ⊎ (block_fault target.now table.old part name.now ≡ Some refusal)) }
+    ensures ok { IfOk result (λ _. (block_fault target.now table.old part name.now ≡ None)
+        × (table.new ≡ table.old ++ name.now ∷ [])) }
+    ensures refused { IfErr result (λ refusal. (refusal ≡ TheoryRefusal.Memory)
+        ⊎ (block_fault target.now table.old part name.now ≡ Some refusal)) }
 {
     declare(table, part, name)?;
     match entity_fault(target, part, name) {
@@ -103,7 +109,8 @@ fn add_blocks(alloc: Global, target: &Schema, names: &[Name]) -> Result<Names, T
     requires { length names.now < 2 ^ 32 }
     ensures accepted { IfOk result (λ _. blocks_fault target.now names.now ≡ None) }
     ensures made { IfOk result (λ table. table ≡ names.now) }
-    ensures refused { IfErr result (λ refusal. (refusal ≡ TheoryRefusal.Memory) ⊎ (blocks_fault target.now names.now ≡ Some refusal)) }
+    ensures refused { IfErr result (λ refusal. (refusal ≡ TheoryRefusal.Memory)
+        ⊎ (blocks_fault target.now names.now ≡ Some refusal)) }
 {
     let mut table = Names::new(alloc);
     let mut part = 0;
@@ -131,9 +138,12 @@ pub(crate) fn make_entities(
     names: &[Name],
 ) -> Result<Vec<u32>, ArrowRefusal>
     requires { length names.now < 2 ^ 32 }
-    ensures accepted { IfOk result (λ _. (blocks_fault target.now names.now ≡ None) × (first_missing names.now target.now.entities ≡ None)) }
+    ensures accepted { IfOk result (λ _. (blocks_fault target.now names.now ≡ None)
+        × (first_missing names.now target.now.entities ≡ None)) }
     ensures made { IfOk result (λ entities. entities.items ≡ block_entities target.now names.now) }
-    ensures refused { IfErr result (λ refusal. (refusal ≡ ArrowRefusal.Memory) ⊎ (or_else (option_map refusal_of_query (blocks_fault target.now names.now)) (first_missing names.now target.now.entities) ≡ Some refusal)) }
+    ensures refused { IfErr result (λ refusal. (refusal ≡ ArrowRefusal.Memory)
+        ⊎ (or_else (option_map refusal_of_query (blocks_fault target.now names.now))
+        (first_missing names.now target.now.entities) ≡ Some refusal)) }
 {
     match add_blocks(alloc, target, names) {
         Ok(given) => finish_entities(alloc, target, &given, names),
@@ -149,7 +159,8 @@ fn finish_entities(
 ) -> Result<Vec<u32>, ArrowRefusal>
     ensures accepted { IfOk result (λ _. first_missing given.now target.now.entities ≡ None) }
     ensures made { IfOk result (λ entities. entities.items ≡ block_entities target.now names.now) }
-    ensures refused { IfErr result (λ refusal. (refusal ≡ ArrowRefusal.Memory) ⊎ (first_missing given.now target.now.entities ≡ Some refusal)) }
+    ensures refused { IfErr result (λ refusal. (refusal ≡ ArrowRefusal.Memory)
+        ⊎ (first_missing given.now target.now.entities ≡ Some refusal)) }
 {
     check_given(given, target.entities.as_slice())?;
     match build_entities(alloc, target, names) {

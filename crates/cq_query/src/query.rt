@@ -1,8 +1,10 @@
 //! Queries.
-ghost use Rattle.std.specs.Prelude.{◌≡◌, ◌+◌, ◌<◌, ◌≤◌, ◌^◌, ◌⊎◌, All, IfOk, IfErr, Some, None, length, slice_get, option_copied};
+ghost use Rattle.std.specs.Prelude.{◌≡◌, ◌+◌, ◌<◌, ◌≤◌, ◌^◌, ◌⊎◌, All, IfOk, IfErr, Some, None, length, slice_get};
+ghost use Rattle.std.specs.Prelude.{option_copied};
 ghost use Rattle.cq_query.specs.QueryParts.{query_fault, query_made};
 ghost use Rattle.cq_query.specs.Groups.{positions, places};
-ghost use Rattle.cq_query.specs.Translation.{variables_at, key_sources, attribute_sources, path_sources, observation_sources};
+ghost use Rattle.cq_query.specs.Translation.{variables_at, key_sources, attribute_sources, path_sources};
+ghost use Rattle.cq_query.specs.Translation.{observation_sources};
 ghost use Rattle.cq_query.specs.IsQuery.{IsQuery};
 
 use crate::groups::Groups;
@@ -91,7 +93,8 @@ impl Query {
         requires clauses { All (λ part. part.0 < length parts.entities) parts.clauses }
         ensures accepted { IfOk result (λ _. query_fault source.value target.value parts ≡ None) }
         ensures made { IfOk result (λ made. made ≡ query_made source.value target.value parts) }
-        ensures refused { IfErr result (λ refusal. (refusal ≡ ArrowRefusal.Memory) ⊎ (query_fault source.value target.value parts ≡ Some refusal)) }
+        ensures refused { IfErr result (λ refusal. (refusal ≡ ArrowRefusal.Memory)
+            ⊎ (query_fault source.value target.value parts ≡ Some refusal)) }
     {
         let QueryParts {
             entities,

@@ -1,5 +1,6 @@
 //! The equations of the rows in the coeval presentation.
-ghost use Rattle.std.specs.Prelude.{ℕ, ◌≡◌, ◌+◌, ◌*◌, ◌++◌, ◌∷◌, ◌<◌, ◌≤◌, ◌^◌, [], IfOk, OnOk, Some, length, map, slice_get, slice_index, slice_index_or};
+ghost use Rattle.std.specs.Prelude.{ℕ, ◌≡◌, ◌+◌, ◌*◌, ◌++◌, ◌∷◌, ◌<◌, ◌≤◌, ◌^◌, [], IfOk, OnOk, Some, length, map};
+ghost use Rattle.std.specs.Prelude.{slice_get, slice_index, slice_index_or};
 ghost use Rattle.std.specs.List.{flat_map};
 ghost use Rattle.cq_theory.specs.declared.constant.Con.TheVariants.{Named};
 ghost use Rattle.cq_theory.specs.declared.value.Value.TheVariants as value_of;
@@ -8,7 +9,9 @@ ghost use Rattle.cq_query.specs.Groups.{positions};
 ghost use Rattle.cq_query.specs.Puts.{generators_from, put, put_equation, put_type};
 ghost use Rattle.cq_query.specs.Translation.{key_sources, attribute_sources, tests_at, assigned, attribute_term};
 ghost use Rattle.cq_query.specs.Duties.{equal_terms};
-ghost use Rattle.cq_query.specs.Coeval.{starts as starts_of, size_of, null_start, row_terms as terms_of_row, terms_from, key_equations, cell_equation, row_equations, entity_equations, value_term};
+ghost use Rattle.cq_query.specs.Coeval.{starts as starts_of, size_of, null_start, row_terms as terms_of_row};
+ghost use Rattle.cq_query.specs.Coeval.{terms_from, key_equations, cell_equation, row_equations, entity_equations};
+ghost use Rattle.cq_query.specs.Coeval.{value_term};
 
 use crate::duties::push_equal_terms;
 use crate::puts::{generators, push_equations};
@@ -111,7 +114,8 @@ fn push_key_terms(
 ) -> Result<(), AllocError>
     requires starts { starts.now ≡ starts_of query.now counts.now }
     requires small { null_start query.now counts.now ≤ 16000000 }
-    ensures { OnOk result (made.new.items ≡ made.old.items ++ equal_terms (terms_of_row query.now counts.now entity row) (map (put terms.now) (assigned query.now key))) }
+    ensures { OnOk result (made.new.items ≡ made.old.items
+        ++ equal_terms (terms_of_row query.now counts.now entity row) (map (put terms.now) (assigned query.now key))) }
 {
     let left = row_terms(alloc, query, counts, starts, entity, row)?;
     let right = put_assigned(alloc, query, terms, key)?;
@@ -166,7 +170,8 @@ fn push_row_keys(
     requires small { null_start query.now sheet.now.counts ≤ 16000000 }
     requires terms { terms.now ≡ terms_of_row query.now sheet.now.counts entity row }
     requires entity { entity < length query.now.target.entities }
-    ensures { OnOk result (made.new.items ≡ made.old.items ++ flat_map (key_equations query.now sheet.now entity row) (positions (key_sources query.now) entity)) }
+    ensures { OnOk result (made.new.items ≡ made.old.items
+        ++ flat_map (key_equations query.now sheet.now entity row) (positions (key_sources query.now) entity)) }
 {
     for key in query.keys_from(entity) {
         push_key_equations(alloc, query, sheet, starts, terms, entity, row, *key, made)?;
@@ -187,7 +192,9 @@ fn push_cell_equation(
     made: &mut Vec<Equation>,
 ) -> Result<(), AllocError>
     requires { first + nulls < 2 ^ 32 }
-    ensures { OnOk result (made.new.items ≡ made.old.items ++ Equation.Typ (put_type terms.now (attribute_term query.now attribute)) (value_term first nulls (slice_index_or column.now row (value_of.Const (Named 0)))) ∷ []) }
+    ensures { OnOk result (made.new.items ≡ made.old.items
+        ++ Equation.Typ (put_type terms.now (attribute_term query.now attribute))
+        (value_term first nulls (slice_index_or column.now row (value_of.Const (Named 0)))) ∷ []) }
 {
     let left = put_attribute(alloc, query, terms, attribute)?;
     let right = cell_term(alloc, first, nulls, column, row)?;
@@ -211,7 +218,8 @@ fn push_cell(
     requires first { first ≡ null_start query.now sheet.now.counts }
     requires small { first + nulls ≤ 16000000 }
     requires terms { terms.now ≡ terms_of_row query.now sheet.now.counts entity row }
-    ensures { OnOk result (made.new.items ≡ made.old.items ++ cell_equation query.now sheet.now nulls entity row attribute ∷ []) }
+    ensures { OnOk result (made.new.items ≡ made.old.items
+        ++ cell_equation query.now sheet.now nulls entity row attribute ∷ []) }
 {
     match sheet.cells.as_slice().get(attribute) {
         Some(column) => push_cell_equation(
@@ -245,7 +253,8 @@ fn push_row_cells(
     requires small { first + nulls ≤ 16000000 }
     requires terms { terms.now ≡ terms_of_row query.now sheet.now.counts entity row }
     requires entity { entity < length query.now.target.entities }
-    ensures { OnOk result (made.new.items ≡ made.old.items ++ map (cell_equation query.now sheet.now nulls entity row) (positions (attribute_sources query.now) entity)) }
+    ensures { OnOk result (made.new.items ≡ made.old.items
+        ++ map (cell_equation query.now sheet.now nulls entity row) (positions (attribute_sources query.now) entity)) }
 {
     for attribute in query.attributes_from(entity) {
         push_cell(
@@ -263,7 +272,8 @@ fn push_row_tests(
     entity: usize,
     made: &mut Vec<Equation>,
 ) -> Result<(), AllocError>
-    ensures { OnOk result (made.new.items ≡ made.old.items ++ map (put_equation terms.now) (tests_at query.now entity)) }
+    ensures { OnOk result (made.new.items ≡ made.old.items
+        ++ map (put_equation terms.now) (tests_at query.now entity)) }
 {
     match query.block(entity) {
         Some(block) => push_equations(alloc, terms, block.tests.as_slice(), made),
@@ -333,7 +343,8 @@ pub(crate) fn push_rows(
     requires starts { starts.now ≡ starts_of query.now sheet.now.counts }
     requires first { first ≡ null_start query.now sheet.now.counts }
     requires small { first + nulls ≤ 16000000 }
-    ensures { OnOk result (made.new.items ≡ made.old.items ++ flat_map (entity_equations query.now sheet.now nulls) (below (length query.now.target.entities))) }
+    ensures { OnOk result (made.new.items ≡ made.old.items
+        ++ flat_map (entity_equations query.now sheet.now nulls) (below (length query.now.target.entities))) }
 {
     for entity in 0..query.target.entities.len() {
         push_entity_rows(alloc, query, sheet, starts, first, nulls, entity, made)?;

@@ -1,7 +1,10 @@
 //! The variables of the blocks.
-ghost use Rattle.std.specs.Prelude.{ℕ, ◌≡◌, ◌+◌, ◌-◌, ◌<◌, ◌^◌, ◌⊎◌, ◌++◌, ◌∷◌, [], All, IfOk, OnOk, IfErr, Some, None, length, map, option_map};
+ghost use Rattle.std.specs.Prelude.{ℕ, ◌≡◌, ◌+◌, ◌-◌, ◌<◌, ◌^◌, ◌⊎◌, ◌++◌, ◌∷◌, [], All, IfOk, OnOk, IfErr, Some, None};
+ghost use Rattle.std.specs.Prelude.{length, map, option_map};
 ghost use Rattle.cq_theory.specs.Canonical.{below};
-ghost use Rattle.cq_query.specs.QueryParts.{of_query as refusal_of_query, entity_named as number_named, names_in, variables_in, scopes_of, variable_fault_after, variable_fault, variables_fault, names_of, sorts_of};
+ghost use Rattle.cq_query.specs.QueryParts.{of_query as refusal_of_query, entity_named as number_named, names_in};
+ghost use Rattle.cq_query.specs.QueryParts.{variables_in, scopes_of, variable_fault_after, variable_fault};
+ghost use Rattle.cq_query.specs.QueryParts.{variables_fault, names_of, sorts_of};
 
 use crate::owners::{entity_fault, entity_named, of_query};
 use cq_base::{Name, Names, Seq};
@@ -119,8 +122,10 @@ fn add_variable(
     number: u32,
     part: &(u32, Name, Name),
 ) -> Result<(), TheoryRefusal>
-    ensures ok { IfOk result (λ _. (variable_fault_after source.now table.old number part.now ≡ None) × (table.new ≡ table.old ++ part.now.1 ∷ [])) }
-    ensures refused { IfErr result (λ refusal. (refusal ≡ TheoryRefusal.Memory) ⊎ (variable_fault_after source.now table.old number part.now ≡ Some refusal)) }
+    ensures ok { IfOk result (λ _. (variable_fault_after source.now table.old number part.now ≡ None)
+        × (table.new ≡ table.old ++ part.now.1 ∷ [])) }
+    ensures refused { IfErr result (λ refusal. (refusal ≡ TheoryRefusal.Memory)
+        ⊎ (variable_fault_after source.now table.old number part.now ≡ Some refusal)) }
 {
     if table.find(&part.1).is_some() {
         return Err(TheoryRefusal::Duplicate(number));
@@ -150,7 +155,8 @@ fn check_variables(
     requires entities { All (λ entity. entity < count) entities.now }
     requires blocks { All (λ part. part.0 < length entities.now) parts.now }
     ensures accepted { IfOk result (λ _. variables_fault source.now entities.now first parts.now ≡ None) }
-    ensures refused { IfErr result (λ refusal. (refusal ≡ TheoryRefusal.Memory) ⊎ (variables_fault source.now entities.now first parts.now ≡ Some refusal)) }
+    ensures refused { IfErr result (λ refusal. (refusal ≡ TheoryRefusal.Memory)
+        ⊎ (variables_fault source.now entities.now first parts.now ≡ Some refusal)) }
 {
     let Ok(mut tables) = empty_tables(alloc, count) else {
         return Err(TheoryRefusal::Memory);
@@ -197,7 +203,8 @@ fn build_variables(
 ) -> Result<Vec<Vec<(Name, u32)>>, AllocError>
     requires entities { All (λ entity. entity < count) entities.now }
     requires blocks { All (λ part. part.0 < length entities.now) parts.now }
-    ensures { IfOk result (λ lists. map (λ list. list.items) lists.items ≡ scopes_of source.now entities.now count parts.now) }
+    ensures { IfOk result (λ lists. map (λ list. list.items) lists.items ≡ scopes_of source.now entities.now count
+        parts.now) }
 {
     let mut lists = empty_lists(alloc, count)?;
     for part in parts {
@@ -250,7 +257,8 @@ pub(crate) fn make_scopes(
     requires blocks { All (λ part. part.0 < length entities.now) parts.now }
     ensures accepted { IfOk result (λ _. variables_fault source.now entities.now first parts.now ≡ None) }
     ensures made { IfOk result (λ scopes. scopes.items ≡ scopes_of source.now entities.now count parts.now) }
-    ensures refused { IfErr result (λ refusal. (refusal ≡ ArrowRefusal.Memory) ⊎ (option_map refusal_of_query (variables_fault source.now entities.now first parts.now) ≡ Some refusal)) }
+    ensures refused { IfErr result (λ refusal. (refusal ≡ ArrowRefusal.Memory)
+        ⊎ (option_map refusal_of_query (variables_fault source.now entities.now first parts.now) ≡ Some refusal)) }
 {
     match check_variables(alloc, source, entities, count as usize, first, parts) {
         Ok(()) => match build_scopes(alloc, source, entities, count, parts) {

@@ -1,5 +1,6 @@
 //! The generators of the coeval presentation.
-ghost use Rattle.std.specs.Prelude.{ℕ, ◌≡◌, ◌+◌, ◌++◌, ◌∷◌, ◌<◌, ◌^◌, [], IfOk, OnOk, length, map, codes, decimal, slice_index};
+ghost use Rattle.std.specs.Prelude.{ℕ, ◌≡◌, ◌+◌, ◌++◌, ◌∷◌, ◌<◌, ◌^◌, [], IfOk, OnOk, length, map, codes, decimal};
+ghost use Rattle.std.specs.Prelude.{slice_index};
 ghost use Rattle.std.specs.List.{flat_map};
 ghost use Rattle.cq_theory.specs.declared.presentation.Sort.TheVariants.{Plain, Entity};
 ghost use Rattle.cq_theory.specs.Canonical.{below, named};
@@ -23,7 +24,8 @@ fn push_row_sorts(vars: &[(Name, u32)], made: &mut Vec<Sort>) -> Result<(), Allo
 
 /// Appends the sorts of the generators of that many rows.
 fn push_rows_sorts(vars: &[(Name, u32)], count: u32, made: &mut Vec<Sort>) -> Result<(), AllocError>
-    ensures { OnOk result (made.new.items ≡ made.old.items ++ flat_map (λ row. map (λ v. Entity v.1) vars.now) (below count)) }
+    ensures { OnOk result (made.new.items ≡ made.old.items
+        ++ flat_map (λ row. map (λ v. Entity v.1) vars.now) (below count)) }
 {
     for _row in 0..count {
         push_row_sorts(vars, made)?;
@@ -59,7 +61,8 @@ pub(crate) fn count_at(counts: &[u32], entity: usize) -> u32
 
 /// The sorts of the generators of all rows.
 fn push_all_sorts(query: &Query, counts: &[u32], made: &mut Vec<Sort>) -> Result<(), AllocError>
-    ensures { OnOk result (made.new.items ≡ made.old.items ++ flat_map (row_sorts query.now counts.now) (below (length query.now.target.entities))) }
+    ensures { OnOk result (made.new.items ≡ made.old.items
+        ++ flat_map (row_sorts query.now counts.now) (below (length query.now.target.entities))) }
 {
     for entity in 0..query.target.entities.len() {
         push_entity_sorts(query, counts, entity, made)?;
@@ -125,8 +128,10 @@ pub(crate) fn build_generators(
     counts: &[u32],
     nulls: &[u32],
 ) -> Result<Vec<(Name, Sort)>, AllocError>
-    requires { length (flat_map (row_sorts query.now counts.now) (below (length query.now.target.entities)) ++ map Plain nulls.now) < 2 ^ 32 }
-    ensures { IfOk result (λ made. made.items ≡ named (flat_map (row_sorts query.now counts.now) (below (length query.now.target.entities)) ++ map Plain nulls.now)) }
+    requires { length (flat_map (row_sorts query.now counts.now) (below (length query.now.target.entities))
+        ++ map Plain nulls.now) < 2 ^ 32 }
+    ensures { IfOk result (λ made. made.items ≡ named
+        (flat_map (row_sorts query.now counts.now) (below (length query.now.target.entities)) ++ map Plain nulls.now)) }
 {
     let mut sorts = Vec::new(alloc);
     push_all_sorts(query, counts, &mut sorts)?;

@@ -1,7 +1,8 @@
 //! What begins at each entity of the target of a query.
 ghost use Rattle.std.specs.Prelude.{ℕ, ◌≡◌, ◌<◌, All, IfOk, length, map};
 ghost use Rattle.cq_query.specs.Groups.{AreGroups};
-ghost use Rattle.cq_query.specs.Translation.{edge_sources as sources_of_edges, path_eq_sources as sources_of_path_eqs, obs_eq_sources as sources_of_obs_eqs};
+ghost use Rattle.cq_query.specs.Translation.{edge_sources as sources_of_edges, path_eq_sources as sources_of_path_eqs};
+ghost use Rattle.cq_query.specs.Translation.{obs_eq_sources as sources_of_obs_eqs};
 
 use crate::groups::Groups;
 use cq_theory::{Edge, ObsEq, PathEq, Schema};
@@ -75,10 +76,14 @@ fn group_obs_eqs(alloc: Global, count: usize, obs_eqs: &[ObsEq]) -> Result<Group
 
 /// The tables of a target.
 pub(crate) fn make_tables(alloc: Global, target: &Schema) -> Result<Tables, AllocError>
-    ensures keys { IfOk result (λ made. AreGroups (sources_of_edges target.now.keys) (length target.now.entities) made.keys) }
-    ensures attributes { IfOk result (λ made. AreGroups (sources_of_edges target.now.attributes) (length target.now.entities) made.attributes) }
-    ensures path_eqs { IfOk result (λ made. AreGroups (sources_of_path_eqs target.now.path_eqs) (length target.now.entities) made.path_eqs) }
-    ensures obs_eqs { IfOk result (λ made. AreGroups (sources_of_obs_eqs target.now.obs_eqs) (length target.now.entities) made.obs_eqs) }
+    ensures keys { IfOk result (λ made. AreGroups (sources_of_edges target.now.keys) (length target.now.entities)
+        made.keys) }
+    ensures attributes { IfOk result (λ made. AreGroups (sources_of_edges target.now.attributes)
+        (length target.now.entities) made.attributes) }
+    ensures path_eqs { IfOk result (λ made. AreGroups (sources_of_path_eqs target.now.path_eqs)
+        (length target.now.entities) made.path_eqs) }
+    ensures obs_eqs { IfOk result (λ made. AreGroups (sources_of_obs_eqs target.now.obs_eqs)
+        (length target.now.entities) made.obs_eqs) }
 {
     target.is_well_sorted();
     let count = target.entities.len();

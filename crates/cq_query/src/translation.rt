@@ -1,7 +1,8 @@
 //! What a query makes of the keys, attributes and terms of its target.
 ghost use Rattle.std.specs.Prelude.{◌≡◌, ◌<◌, length, IfOk, option_copied, slice_get, map};
 ghost use Rattle.cq_query.specs.Puts.{put, put_type, generators_from};
-ghost use Rattle.cq_query.specs.Translation.{variable_terms, found_terms as found_terms_of, found_term as found_term_of, assigned, attribute_term, along, translated};
+ghost use Rattle.cq_query.specs.Translation.{variable_terms, found_terms as found_terms_of};
+ghost use Rattle.cq_query.specs.Translation.{found_term as found_term_of, assigned, attribute_term, along, translated};
 
 use crate::puts::{generators, put_each, put_into_type};
 use crate::query::Query;

@@ -1,5 +1,6 @@
 //! Values as terms, in which nulls stand as generators.
-ghost use Rattle.std.specs.Prelude.{◌≡◌, ◌+◌, ◌++◌, ◌<◌, ◌≤◌, ◌^◌, [], IfOk, OnOk, length, map, slice_index, slice_index_or};
+ghost use Rattle.std.specs.Prelude.{◌≡◌, ◌+◌, ◌++◌, ◌<◌, ◌≤◌, ◌^◌, [], IfOk, OnOk, length, map, slice_index};
+ghost use Rattle.std.specs.Prelude.{slice_index_or};
 ghost use Rattle.std.specs.List.{range_with_len};
 ghost use Rattle.cq_theory.specs.declared.constant.Con.TheVariants.{Named};
 ghost use Rattle.cq_theory.specs.declared.value.Value.TheVariants as value_of;
@@ -69,7 +70,8 @@ pub(crate) fn cell_term(
     row: u32,
 ) -> Result<TypeTerm, AllocError>
     requires { first + count < 2 ^ 32 }
-    ensures { IfOk result (λ made. made ≡ term_of_value first count (slice_index_or column.now row (value_of.Const (Named 0)))) }
+    ensures { IfOk result (λ made. made ≡ term_of_value first count
+        (slice_index_or column.now row (value_of.Const (Named 0)))) }
 {
     match column.get(row as usize) {
         Some(value) => value_term(alloc, first, count, value),

@@ -1,5 +1,6 @@
 -- What the rows of a term model say of terms.
-use Rattle.std.specs.Prelude.{◌≡◌, ◌≢◌, ℕ, zero, suc, ◌+◌, ◌-◌, ◌^◌, ◌<◌, ◌≤◌, Bool, true, false, List, [], ◌∷◌, length, Option, Some, None, IsSome, slice_get, slice_index, if◌then◌else◌, ◌==◌, ◌⊎◌}
+use Rattle.std.specs.Prelude.{◌≡◌, ◌≢◌, ℕ, zero, suc, ◌+◌, ◌-◌, ◌^◌, ◌<◌, ◌≤◌, Bool, true, false, List, [], ◌∷◌, length, Option, Some, None}
+use Rattle.std.specs.Prelude.{IsSome, slice_get, slice_index, if◌then◌else◌, ◌==◌, ◌⊎◌}
 use Rattle.cq_tables.specs.Content.{Content, made_of, live_of, entity_of, cell_of, step_of, trace_of, IsWhole, keys_of, entities_of}
 use Rattle.cq_tables.specs.Changes.{moved}
 use Rattle.cq_rows.specs.Theory.{Term, Rule, Theory, along, generator_term, sort_of, Derives, Within, Closes, IsWide}
@@ -90,10 +91,12 @@ pub record GivenJoins (s : Theory) (m : Content) (rows : List ℕ) (a b : ℕ) :
 
 -- no path equation joins two rows, and no equation of the presentation
 abbrev pub RulesHold : Theory → Content → Type 0
-RulesHold s m = (r i : ℕ) (u : Rule) → live_of m r ≡ true → slice_get s.rules i ≡ Some u → entity_of m r ≡ u.entity → Agree m r u.left r u.right
+RulesHold s m = (r i : ℕ) (u : Rule) → live_of m r ≡ true → slice_get s.rules i ≡ Some u → entity_of m r ≡ u.entity
+    → Agree m r u.left r u.right
 
 abbrev pub GivenHold : Theory → Content → List ℕ → Type 0
-GivenHold s m rows = (i : ℕ) (t u : Term) → slice_get s.given i ≡ Some (Some (t, u)) → Agree m (slice_index rows t.generator) t.path (slice_index rows u.generator) u.path
+GivenHold s m rows = (i : ℕ) (t u : Term) → slice_get s.given i ≡ Some (Some (t, u))
+    → Agree m (slice_index rows t.generator) t.path (slice_index rows u.generator) u.path
 
 -- every cell of a live row is filled
 abbrev pub AllFilled : Content → Type 0
@@ -101,7 +104,8 @@ AllFilled m = (r k d : ℕ) → live_of m r ≡ true → step_of (keys_of m) (en
 
 -- each generator has a live row of its entity
 abbrev pub HaveRows : Theory → Content → List ℕ → Type 0
-HaveRows s m rows = (g e : ℕ) → slice_get s.generators g ≡ Some (Some e) → (live_of m (slice_index rows g) ≡ true) × (entity_of m (slice_index rows g) ≡ e)
+HaveRows s m rows = (g e : ℕ) → slice_get s.generators g ≡ Some (Some e) → (live_of m (slice_index rows g) ≡ true)
+    × (entity_of m (slice_index rows g) ≡ e)
 
 -- a pair of rows after a renaming
 abbrev pub moved_pair : ℕ → ℕ → ℕ × ℕ → ℕ × ℕ
@@ -132,7 +136,8 @@ pub record Extends (old new : Content) : Type 0 where
 
 -- it stays true that rows have terms, whatever the rows of the generators are
 abbrev pub KeepsSound : Content → Content → Type 0
-KeepsSound old new = (s : Theory) (rows : List ℕ) (terms : ℕ → Term) → IsSound s old rows terms → (after : ℕ → Term) × IsSound s new rows after
+KeepsSound old new = (s : Theory) (rows : List ℕ) (terms : ℕ → Term) → IsSound s old rows terms → (after : ℕ → Term)
+    × IsSound s new rows after
 
 -- a cell is filled with a new row
 pub record FillsCell (old new : Content) (row key to : ℕ) : Type 0 where
@@ -160,7 +165,8 @@ pub record FillsAll (old new : Content) : Type 0 where
 
 -- two terms of one row are derivably equal
 abbrev pub OneRowIsEqual : Theory → Content → List ℕ → Type 0
-OneRowIsEqual s m rows = (t u : Term) (d e a : ℕ) → sort_of s t ≡ Some d → sort_of s u ≡ Some e → row_of_term m rows t ≡ Some a → row_of_term m rows u ≡ Some a → Derives s t u
+OneRowIsEqual s m rows = (t u : Term) (d e a : ℕ) → sort_of s t ≡ Some d → sort_of s u ≡ Some e → row_of_term m rows t ≡ Some a
+    → row_of_term m rows u ≡ Some a → Derives s t u
 
 -- each term of depth at most k can be traced
 abbrev pub AllTraced : Theory → Content → List ℕ → ℕ → Type 0
@@ -233,7 +239,9 @@ pub record Continues (s : Theory) (old m : Content) (e_old e : Entries) : Type 0
 
 -- one path equation at one row, and one equation of the presentation
 abbrev pub RuleHolds : Theory → Content → ℕ → ℕ → Type 0
-RuleHolds s m row i = live_of m row ≡ true → (u : Rule) → slice_get s.rules i ≡ Some u → entity_of m row ≡ u.entity → Agree m row u.left row u.right
+RuleHolds s m row i = live_of m row ≡ true → (u : Rule) → slice_get s.rules i ≡ Some u → entity_of m row ≡ u.entity
+    → Agree m row u.left row u.right
 
 abbrev pub GivenHolds : Theory → Content → List ℕ → ℕ → Type 0
-GivenHolds s m rows i = (t u : Term) → slice_get s.given i ≡ Some (Some (t, u)) → Agree m (slice_index rows t.generator) t.path (slice_index rows u.generator) u.path
+GivenHolds s m rows i = (t u : Term) → slice_get s.given i ≡ Some (Some (t, u))
+    → Agree m (slice_index rows t.generator) t.path (slice_index rows u.generator) u.path

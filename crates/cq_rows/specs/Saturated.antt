@@ -17,7 +17,8 @@ use Rattle.cq_rows.specs.Rows.{row_of_term, Agree}
 -- each generator has an entry: that of an entity a live row of it, that of a type the number 2^64 - 1
 pub record HasEntries (P : Presentation) (m : Content) (rows : List ℕ) : Type 0 where
   pub count : length rows ≡ length P.generators
-  pub entity : (g e : ℕ) → entity_at (slice_get P.generators g) ≡ Some e → (live_of m (slice_index rows g) ≡ true) × (row_entity m (slice_index rows g) ≡ e)
+  pub entity : (g e : ℕ) → entity_at (slice_get P.generators g) ≡ Some e → (live_of m (slice_index rows g) ≡ true)
+      × (row_entity m (slice_index rows g) ≡ e)
   pub type : (g t : ℕ) → type_at (slice_get P.generators g) ≡ Some t → slice_index rows g ≡ 2 ^ 64 - 1
 
 -- two terms of one row are derivably equal
@@ -45,7 +46,8 @@ AllNamed S P m rows k = (r : ℕ) → live_of m r ≡ true → (t : EntTerm) × 
 
 -- from each live row of its entity both paths of a path equation lead to one row, where no cell on the way is empty
 abbrev pub PathEquationsHold : Schema → Content → Type 0
-PathEquationsHold S m = (r n : ℕ) (e : PathEq) → live_of m r ≡ true → slice_get S.path_eqs n ≡ Some e → row_entity m r ≡ e.entity → Agree m r e.left r e.right
+PathEquationsHold S m = (r n : ℕ) (e : PathEq) → live_of m r ≡ true → slice_get S.path_eqs n ≡ Some e → row_entity m r ≡ e.entity
+    → Agree m r e.left r e.right
 
 -- both sides of an equation between entity terms lead to one row, where no cell on the way is empty
 abbrev pub EntityEquationsHold : Presentation → Content → List ℕ → Type 0

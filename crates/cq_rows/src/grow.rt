@@ -154,8 +154,10 @@ pub fn saturate(
     ensures sound { IfOk result (λ p. saturated.OneRowIsEqual schema.now presentation.now p.tables p.generator_rows) }
 
     // Terms within the depth have rows, one for those that are equal within it, and each row is named by such a term.
-    ensures traced { IfOk result (λ p. saturated.AllTraced schema.now presentation.now p.tables p.generator_rows depth) }
-    ensures within { IfOk result (λ p. saturated.WithinIsOneRow schema.now presentation.now p.tables p.generator_rows depth) }
+    ensures traced { IfOk result (λ p. saturated.AllTraced schema.now presentation.now p.tables
+        p.generator_rows depth) }
+    ensures within { IfOk result (λ p. saturated.WithinIsOneRow schema.now presentation.now p.tables
+        p.generator_rows depth) }
     ensures named { IfOk result (λ p. saturated.AllNamed schema.now presentation.now p.tables p.generator_rows depth) }
 
     // It is closed exactly where all cells are filled. The equations hold at all rows, also where it is not closed.

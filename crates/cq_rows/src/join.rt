@@ -18,7 +18,8 @@ fn apart(tables: &Tables, row: u64, left: &[u32], other: u64, right: &[u32]) -> 
     requires row { live_of tables.now row ≡ true }
     requires other { live_of tables.now other ≡ true }
     requires left { IsSome (end_of (keys_of tables.now) (entity_of tables.now row) left.now) }
-    requires right { end_of (keys_of tables.now) (entity_of tables.now other) right.now ≡ end_of (keys_of tables.now) (entity_of tables.now row) left.now }
+    requires right { end_of (keys_of tables.now) (entity_of tables.now other) right.now ≡ end_of (keys_of tables.now)
+        (entity_of tables.now row) left.now }
     ensures apart { IfSome result (λ p. IsApart tables.now row left.now other right.now p.0 p.1) }
     ensures agree { IfNone result (Agree tables.now row left.now other right.now) }
 {
@@ -55,7 +56,8 @@ fn list(
     requires row { live_of tables.now row ≡ true }
     requires other { live_of tables.now other ≡ true }
     requires left { IsSome (end_of (keys_of tables.now) (entity_of tables.now row) left.now) }
-    requires right { end_of (keys_of tables.now) (entity_of tables.now other) right.now ≡ end_of (keys_of tables.now) (entity_of tables.now row) left.now }
+    requires right { end_of (keys_of tables.now) (entity_of tables.now other) right.now ≡ end_of (keys_of tables.now)
+        (entity_of tables.now row) left.now }
 {
     if !waits.is_open() {
         return Ok(());
@@ -94,7 +96,8 @@ pub fn join_rule(
     requires count { length (rows_of rows.old) ≡ length (theory_of schema.now presentation.now).generators }
     requires row { row < made_of tables.old }
     requires place { place < length schema.now.path_eqs }
-    ensures { IfOk result (λ merged. Passes (theory_of schema.now presentation.now) tables.old tables.new rows.old rows.new merged (RuleHolds (theory_of schema.now presentation.now) tables.old row place)) }
+    ensures { IfOk result (λ merged. Passes (theory_of schema.now presentation.now) tables.old tables.new rows.old
+        rows.new merged (RuleHolds (theory_of schema.now presentation.now) tables.old row place)) }
 {
     let rule = &path_equations(schema)[place];
     if !tables.live(row) {
@@ -131,7 +134,8 @@ pub fn join_given(
     requires count { length (rows_of rows.old) ≡ length (theory_of schema.now presentation.now).generators }
     requires rows { HaveRows (theory_of schema.now presentation.now) tables.old (rows_of rows.old) }
     requires place { place < length presentation.now.equations }
-    ensures { IfOk result (λ merged. Passes (theory_of schema.now presentation.now) tables.old tables.new rows.old rows.new merged (GivenHolds (theory_of schema.now presentation.now) tables.old (rows_of rows.old) place)) }
+    ensures { IfOk result (λ merged. Passes (theory_of schema.now presentation.now) tables.old tables.new rows.old
+        rows.new merged (GivenHolds (theory_of schema.now presentation.now) tables.old (rows_of rows.old) place)) }
 {
     let Equation::Ent(left, right) = &presentation.equations.as_slice()[place] else {
         return Ok(false);

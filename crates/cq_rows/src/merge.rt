@@ -46,9 +46,11 @@ pub fn merge(
     requires differ { a ≢ b }
     ensures whole { OnOk result (IsWhole tables.new) }
     ensures current { OnOk result (IsCurrent tables.new rows.new) }
-    ensures image { OnOk result ((rep : ℕ → ℕ) × IsImage tables.old tables.new (rows_of rows.old) (rows_of rows.new) rep IsSame) }
+    ensures image { OnOk result ((rep : ℕ → ℕ) × IsImage tables.old tables.new (rows_of rows.old)
+        (rows_of rows.new) rep IsSame) }
     ensures sound { OnOk result ((s : Theory) (terms : ℕ → Term) → IsSound s tables.old (rows_of rows.old) terms
-        → length s.generators ≡ length (rows_of rows.old) → Derives s (terms a) (terms b) → IsSound s tables.new (rows_of rows.new) terms) }
+        → length s.generators ≡ length (rows_of rows.old) → Derives s (terms a) (terms b)
+        → IsSound s tables.new (rows_of rows.new) terms) }
     ensures fewer { OnOk result (live_count tables.new < live_count tables.old) }
 {
     let mut pending = Vec::new(alloc);

@@ -4,7 +4,8 @@ ghost use Rattle.cq_tables.specs.Content.{keys_of, made_of, IsWhole};
 ghost use Rattle.cq_rows.specs.Theory.{Term, IsTheory};
 ghost use Rattle.cq_rows.specs.Plain.{theory_of};
 ghost use Rattle.cq_rows.specs.Entries.{rows_of, IsCurrent, IsBehind};
-ghost use Rattle.cq_rows.specs.Rows.{no_row, IsSound, IsImage, IsSame, RulesHold, GivenHold, HaveRows, IsSettling, Passes, Continues, HoldIfLive};
+ghost use Rattle.cq_rows.specs.Rows.{no_row, IsSound, IsImage, IsSame, RulesHold, GivenHold, HaveRows, IsSettling};
+ghost use Rattle.cq_rows.specs.Rows.{Passes, Continues, HoldIfLive};
 
 use crate::entries::Entries;
 use crate::join::{join_given, join_rule, path_equations};
@@ -137,7 +138,8 @@ fn pass_row(
     requires current { IsCurrent tables.old rows.old }
     requires count { length (rows_of rows.old) ≡ length (theory_of schema.now presentation.now).generators }
     requires row { row < made_of tables.old }
-    ensures { IfOk result (λ merged. Passes (theory_of schema.now presentation.now) tables.old tables.new rows.old rows.new merged (HoldIfLive (theory_of schema.now presentation.now) tables.old row)) }
+    ensures { IfOk result (λ merged. Passes (theory_of schema.now presentation.now) tables.old tables.new rows.old
+        rows.new merged (HoldIfLive (theory_of schema.now presentation.now) tables.old row)) }
 {
     let mut merged = false;
     for place in 0..path_equations(schema).len() {
@@ -165,7 +167,8 @@ fn pass_rules(
     requires current { IsCurrent tables.old rows.old }
     requires count { length (rows_of rows.old) ≡ length (theory_of schema.now presentation.now).generators }
     requires rows { HaveRows (theory_of schema.now presentation.now) tables.old (rows_of rows.old) }
-    ensures { IfOk result (λ merged. Passes (theory_of schema.now presentation.now) tables.old tables.new rows.old rows.new merged (RulesHold (theory_of schema.now presentation.now) tables.old)) }
+    ensures { IfOk result (λ merged. Passes (theory_of schema.now presentation.now) tables.old tables.new rows.old
+        rows.new merged (RulesHold (theory_of schema.now presentation.now) tables.old)) }
 {
     let mut merged = false;
     for row in 0..tables.made() {
@@ -194,7 +197,8 @@ fn pass_given(
     requires current { IsCurrent tables.old rows.old }
     requires count { length (rows_of rows.old) ≡ length (theory_of schema.now presentation.now).generators }
     requires rows { HaveRows (theory_of schema.now presentation.now) tables.old (rows_of rows.old) }
-    ensures { IfOk result (λ merged. Passes (theory_of schema.now presentation.now) tables.old tables.new rows.old rows.new merged (GivenHold (theory_of schema.now presentation.now) tables.old (rows_of rows.old))) }
+    ensures { IfOk result (λ merged. Passes (theory_of schema.now presentation.now) tables.old tables.new rows.old
+        rows.new merged (GivenHold (theory_of schema.now presentation.now) tables.old (rows_of rows.old))) }
 {
     let mut merged = false;
     for place in 0..presentation.equations.len() {
@@ -246,7 +250,8 @@ fn merge_all(
     requires current { IsCurrent tables.old rows.old }
     requires count { length (rows_of rows.old) ≡ length (theory_of schema.now presentation.now).generators }
     requires rows { HaveRows (theory_of schema.now presentation.now) tables.old (rows_of rows.old) }
-    ensures settling { OnOk result (IsSettling (theory_of schema.now presentation.now) tables.old tables.new rows.old rows.new) }
+    ensures settling { OnOk result (IsSettling (theory_of schema.now presentation.now) tables.old tables.new
+        rows.old rows.new) }
     ensures rules { OnOk result (RulesHold (theory_of schema.now presentation.now) tables.new) }
     ensures given { OnOk result (GivenHold (theory_of schema.now presentation.now) tables.new (rows_of rows.new)) }
 {
@@ -280,8 +285,10 @@ pub fn settle(
     ensures made { OnOk result (made_of tables.old ≤ no_row) }
     ensures whole { OnOk result (IsWhole tables.new) }
     ensures current { OnOk result (IsCurrent tables.new rows.new) }
-    ensures image { OnOk result ((rep : ℕ → ℕ) × IsImage tables.old tables.new (rows_of rows.old) (rows_of rows.new) rep IsSame) }
-    ensures sound { OnOk result ((terms : ℕ → Term) → IsSound (theory_of schema.now presentation.now) tables.old (rows_of rows.old) terms
+    ensures image { OnOk result ((rep : ℕ → ℕ) × IsImage tables.old tables.new (rows_of rows.old)
+        (rows_of rows.new) rep IsSame) }
+    ensures sound { OnOk result ((terms : ℕ → Term)
+        → IsSound (theory_of schema.now presentation.now) tables.old (rows_of rows.old) terms
         → IsSound (theory_of schema.now presentation.now) tables.new (rows_of rows.new) terms) }
     ensures rules { OnOk result (RulesHold (theory_of schema.now presentation.now) tables.new) }
     ensures given { OnOk result (GivenHold (theory_of schema.now presentation.now) tables.new (rows_of rows.new)) }

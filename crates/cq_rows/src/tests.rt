@@ -24,7 +24,8 @@ enum Outcome {
 
 // Each constructor is called by a function that says no more than what is needed of it.
 fn new_typeside(alloc: Global, parts: TypesideParts) -> Result<Typeside, TheoryRefusal>
-    requires { length parts.types + literals_count parts.literals + length parts.constants + length parts.functions < 2 ^ 32 }
+    requires { length parts.types + literals_count parts.literals + length parts.constants + length
+        parts.functions < 2 ^ 32 }
 {
     Typeside::new(alloc, parts)
 }
@@ -34,7 +35,8 @@ fn new_schema(
     typeside: Rc<Typeside>,
     parts: SchemaParts,
 ) -> Result<Schema, TheoryRefusal>
-    requires { length parts.entities + length parts.keys + length parts.path_eqs + length parts.attributes + length parts.obs_eqs < 2 ^ 32 }
+    requires { length parts.entities + length parts.keys + length parts.path_eqs + length parts.attributes + length
+        parts.obs_eqs < 2 ^ 32 }
 {
     Schema::new(alloc, typeside, parts)
 }
@@ -68,7 +70,8 @@ fn shared_typeside(alloc: Global) -> Result<Rc<Typeside>, AllocError> {
 }
 
 fn is_small(parts: &SchemaParts) -> bool
-    ensures { result ≡ true → length parts.now.entities + length parts.now.keys + length parts.now.path_eqs + length parts.now.attributes + length parts.now.obs_eqs < 2 ^ 32 }
+    ensures { result ≡ true → length parts.now.entities + length parts.now.keys + length parts.now.path_eqs + length
+        parts.now.attributes + length parts.now.obs_eqs < 2 ^ 32 }
 {
     if parts.entities.len() > 1_000 || parts.keys.len() > 1_000 || parts.path_eqs.len() > 1_000 {
         return false;

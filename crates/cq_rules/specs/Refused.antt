@@ -16,7 +16,8 @@ RefusedAt R D pre t (BadOption p) = Viable R (pre ++ t ∷ []) × D pre t (BadOp
 
 -- no token before is a word that is left out, too deep, or the value of an option that isn't allowed
 abbrev pub NoneBefore : Halts → List Token → List Token → Type 0
-NoneBefore D ts pre = (us : List Token) (u : Token) (vs : List Token) (v : Why) → ts ≡ us ++ u ∷ vs → length us < length pre → IsNamed v → D us u v → ⊥
+NoneBefore D ts pre = (us : List Token) (u : Token) (vs : List Token) (v : Why) → ts ≡ us ++ u ∷ vs → length us < length pre → IsNamed v
+    → D us u v → ⊥
 
 -- the first token that decides, and why
 pub record Refused {A : Type 0} (R : List Token → A → Type 0) (D : Halts) (ts : List Token) (t : Token) (w : Why) : Type 0 where

@@ -67,7 +67,8 @@ Enters s [] t w = OfLeftOut (s t ≡ true) w
 Enters s (v ∷ vs) t w = Unit {0}
 
 abbrev pub InBothBy : {A : Type 0} → (List Token → A → Type 0) → Halts → (A → Halts) → Halts
-InBothBy P D E pre t w = D pre t w ⊎ ((a : _) × (us : List Token) × (vs : List Token) × (pre ≡ us ++ vs) × P us a × E a vs t w × NotOnward P us vs t w)
+InBothBy P D E pre t w = D pre t w ⊎ ((a : _) × (us : List Token) × (vs : List Token) × (pre ≡ us ++ vs) × P us a × E a vs t w
+    × NotOnward P us vs t w)
 
 abbrev pub InBoth : {A : Type 0} → (List Token → A → Type 0) → Halts → Halts → Halts
 InBoth P D E pre t w = InBothBy P D (λ a. E) pre t w
@@ -95,7 +96,8 @@ AtGuard f s ok v pre t w = (pre ≡ []) × ((w ≡ Wanted) ⊎ ((w ≡ v) × (s 
 -- names behind dots
 abbrev pub Chain : List Token → List (List ℕ) → Type 0
 Chain ts [] = ts ≡ []
-Chain ts (n ∷ ns) = (d : Token) × (t : Token) × (us : List Token) × (ts ≡ d ∷ t ∷ us) × (dot d ≡ true) × (name t ≡ true) × (n ≡ name_of t) × Chain us ns
+Chain ts (n ∷ ns) = (d : Token) × (t : Token) × (us : List Token) × (ts ≡ d ∷ t ∷ us) × (dot d ≡ true) × (name t ≡ true) × (n ≡ name_of t)
+    × Chain us ns
 
 -- the token is a name past the k-th
 abbrev pub OverChain : ℕ → Halts

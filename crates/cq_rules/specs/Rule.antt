@@ -7,8 +7,10 @@ use Rattle.cq_rules.specs.declared.class.Class.{Class}
 use Rattle.cq_rules.specs.declared.class.Class.TheVariants as classes
 use Rattle.cq_rules.specs.Class.{class_of, Set, both, every, all_classes, is_name, same}
 use Rattle.cq_rules.specs.declared.why.Why.TheVariants.{BadOption}
-use Rattle.cq_rules.specs.Outcome.{nothing_kept, Out, Tokens, Outs, either, when, name, name_of, read_keep, read_seq, read_bind, read_alt, read_many, read_none, read_or, read_placed, mapped, read_chain, read_guard}
-use Rattle.cq_rules.specs.Relations.{One, Both, Either, Each, None, Made, Placed, Halts, AtOne, InBoth, InBothBy, InEither, InEach, InOr, Nowhere, Chain, OverChain, AtGuard}
+use Rattle.cq_rules.specs.Outcome.{nothing_kept, Out, Tokens, Outs, either, when, name, name_of, read_keep, read_seq, read_bind, read_alt}
+use Rattle.cq_rules.specs.Outcome.{read_many, read_none, read_or, read_placed, mapped, read_chain, read_guard}
+use Rattle.cq_rules.specs.Relations.{One, Both, Either, Each, None, Made, Placed, Halts, AtOne, InBoth, InBothBy, InEither, InEach, InOr}
+use Rattle.cq_rules.specs.Relations.{Nowhere, Chain, OverChain, AtGuard}
 use Rattle.cq_rules.specs.Tree.{Tree, levels, Term, OverTerm, read_term}
 
 -- how many levels a term, and how many names a path may have
@@ -213,7 +215,9 @@ Refuses (some g) = InBoth (Spells g) (Refuses g) (InEach (set (first g)) (Spells
 Refuses (separated s g) = InBoth (Spells g) (Refuses g) (InEach (set s) (Behind s (Spells g)) (InBehind s (Refuses g)))
 Refuses (section s g) = InOrEmpty s (Behind s (Each (Spells g))) (InBehind s (InEach (set (first g)) (Spells g) (Refuses g)))
 Refuses (braces o s g l e) =
-    InOrEmpty o (Behind o (Before (OrEmpty (Behind s (Each (Spells g)))) e)) (InBehind o (InBefore (OrEmpty (Behind s (Each (Spells g)))) (InOrEmpty s (Behind s (Each (Spells g))) (InBehind s (InEach (set (first g)) (Spells g) (Refuses g)))) l))
+    InOrEmpty o (Behind o (Before (OrEmpty (Behind s (Each (Spells g)))) e))
+    (InBehind o (InBefore (OrEmpty (Behind s (Each (Spells g))))
+    (InOrEmpty s (Behind s (Each (Spells g))) (InBehind s (InEach (set (first g)) (Spells g) (Refuses g)))) l))
 Refuses (checked g f s ok at) = InBothBy (Spells g) (Refuses g) (λ a. AtGuard f (set s) (ok a) (BadOption (at a)))
 Refuses (or_left_out l g) = InOr (outs l) (Refuses g)
 Refuses (placed g) = Refuses g
@@ -290,7 +294,8 @@ decides (some g) = both (decides g) (item_decides g)
 decides (separated s g) = both (decides g) (both (one_in s) (both (not (empty g)) (apart (more g) s)))
 decides (section s g) = both (one_in s) (both (decides g) (item_decides g))
 decides (braces o s g l e) =
-    both (one_in o) (both (both (one_in s) (both (decides g) (item_decides g))) (both (one_in e) (both (none_out l e) (apart (more (section s g)) e))))
+    both (one_in o) (both (both (one_in s) (both (decides g) (item_decides g)))
+    (both (one_in e) (both (none_out l e) (apart (more (section s g)) e))))
 decides (checked g f s ok at) = both (decides g) (both (one_in s) (apart (more g) s))
 decides (or_left_out l g) = both (decides g) (both (not (empty g)) (none_out l (first g)))
 decides (placed g) = both (decides g) (not (empty g))

@@ -5,7 +5,8 @@ use Rattle.cq_lex.specs.declared.token.Token.{Token}
 use Rattle.cq_rules.specs.declared.class.Class.TheVariants as classes
 use Rattle.cq_rules.specs.Class.{class_of, same}
 use Rattle.cq_rules.specs.declared.why.Why.TheVariants.{Wanted, LeftOut, Deep, BadOption}
-use Rattle.cq_rules.specs.Outcome.{nothing_kept, Out, Took, Stop, Tokens, either, pick, then, dot, name, name_of, read_keep, read_seq, read_bind, read_alt, read_many, read_none, mapped, read_chain}
+use Rattle.cq_rules.specs.Outcome.{nothing_kept, Out, Took, Stop, Tokens, either, pick, then, dot, name, name_of, read_keep, read_seq}
+use Rattle.cq_rules.specs.Outcome.{read_bind, read_alt, read_many, read_none, mapped, read_chain}
 use Rattle.cq_rules.specs.Relations.{Halts}
 
 mutual
@@ -45,18 +46,21 @@ abbrev mutual
   pub Term : Tree → List Token → Type 0
   Term (Word n) ts = (t : Token) × (ts ≡ t ∷ []) × (name t ≡ true) × (n ≡ name_of t)
   Term (Text n) ts = (t : Token) × (ts ≡ t ∷ []) × (text t ≡ true) × (n ≡ name_of t)
-  Term (App f vs) ts = ((t : Token) × (o : Token) × (us : List Token) × (c : Token) × (ts ≡ t ∷ o ∷ (us ++ c ∷ [])) × (name t ≡ true) × (f ≡ name_of t) × (opens o ≡ true) × Args vs us × (closes c ≡ true)) ⊎ Dotted vs f ts
+  Term (App f vs) ts = ((t : Token) × (o : Token) × (us : List Token) × (c : Token) × (ts ≡ t ∷ o ∷ (us ++ c ∷ [])) × (name t ≡ true)
+      × (f ≡ name_of t) × (opens o ≡ true) × Args vs us × (closes c ≡ true)) ⊎ Dotted vs f ts
 
   -- one or more, with commas between them
   pub Args : Trees → List Token → Type 0
   Args end ts = ⊥
   Args (more v end) ts = Term v ts
-  Args (more v (more w ws)) ts = (us : List Token) × (c : Token) × (vs : List Token) × (ts ≡ us ++ c ∷ vs) × Term v us × (comma c ≡ true) × Args (more w ws) vs
+  Args (more v (more w ws)) ts = (us : List Token) × (c : Token) × (vs : List Token) × (ts ≡ us ++ c ∷ vs) × Term v us × (comma c ≡ true)
+      × Args (more w ws) vs
 
   -- v.f is f(v)
   pub Dotted : Trees → List ℕ → List Token → Type 0
   Dotted end f ts = ⊥
-  Dotted (more v end) f ts = (us : List Token) × (d : Token) × (n : Token) × (ts ≡ us ++ d ∷ n ∷ []) × Term v us × (dot d ≡ true) × (name n ≡ true) × (f ≡ name_of n)
+  Dotted (more v end) f ts = (us : List Token) × (d : Token) × (n : Token) × (ts ≡ us ++ d ∷ n ∷ []) × Term v us × (dot d ≡ true)
+      × (name n ≡ true) × (f ≡ name_of n)
   Dotted (more v (more w ws)) f ts = ⊥
 
 -- a term begins with a name or a text

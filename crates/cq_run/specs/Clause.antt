@@ -116,7 +116,8 @@ pub record Exports (ask : Ask) (before after : Scene) (ended : Handed) : Type 0 
   pub listings : List Listing
   pub means : Means text listings
   pub written : Appends before.out.held after.out.held (transcripts_of listings)
-  pub hands : HandsOver (files_of listings) (kept_of (Some ask) before.outlets.exporters) after.outlets.exporters before.outlets.spoiled after.outlets.spoiled ended
+  pub hands : HandsOver (files_of listings) (kept_of (Some ask) before.outlets.exporters) after.outlets.exporters before.outlets.spoiled
+      after.outlets.spoiled ended
 
 abbrev pub ExportsSome : Option Ask → Scene → Scene → Handed → Type 0
 ExportsSome None before after ended = ⊥
@@ -154,8 +155,8 @@ abbrev pub AreSteady : List Account → Type 0
 AreSteady [] = Unit {0}
 AreSteady (exporter ∷ exporters) = (exporter.steady ≡ true) × AreSteady exporters
 
--- the words are read, the text is there, has a meaning, breaks no rule and passes no limit at their depth, no device fails, and the sink has room for
--- the transcripts
+-- the words are read, the text is there, has a meaning, breaks no rule and passes no limit at their depth, no device fails, and the sink
+-- has room for the transcripts
 pub record CanSucceed (ask : Option Ask) (before : Scene) : Type 0 where
   pub wanted : Ask
   pub asked : ask ≡ Some wanted

@@ -38,8 +38,20 @@ pub fn answer_to<F: Folder>(alloc: Global, order: Order<'_>, folder: &mut F) -> 
     requires { order.depth ≤ 64 }
     ensures files { F.files folder.new ≡ F.files folder.old }
     ensures answers { Answers (ask_of order.entry)
-        (record { files = F.files folder.old; faults = F.faults folder.old; absences = F.absences folder.old; overruns = F.overruns folder.old; steady = F.steady folder.old })
-        (record { files = F.files folder.new; faults = F.faults folder.new; absences = F.absences folder.new; overruns = F.overruns folder.new; steady = F.steady folder.new })
+        (record {
+          files = F.files folder.old;
+          faults = F.faults folder.old;
+          absences = F.absences folder.old;
+          overruns = F.overruns folder.old;
+          steady = F.steady folder.old;
+        })
+        (record {
+          files = F.files folder.new;
+          faults = F.faults folder.new;
+          absences = F.absences folder.new;
+          overruns = F.overruns folder.new;
+          steady = F.steady folder.new;
+        })
         result }
 {
     let file = order.file;

@@ -25,8 +25,10 @@ pub fn files_of(alloc: Global, instances: &[Named]) -> Result<FileLists, AllocEr
 
 /// Appends the files of an instance, to the list of each format.
 fn push_files(alloc: Global, named: &Named, lists: &mut FileLists) -> Result<(), AllocError>
-    ensures csv { OnOk result (map file_of lists.new.csv.items ≡ map file_of lists.old.csv.items ++ csv_files (listed_as named.now)) }
-    ensures cql { OnOk result (map file_of lists.new.cql.items ≡ map file_of lists.old.cql.items ++ cql_files (listed_as named.now)) }
+    ensures csv { OnOk result (map file_of lists.new.csv.items ≡ map file_of lists.old.csv.items
+        ++ csv_files (listed_as named.now)) }
+    ensures cql { OnOk result (map file_of lists.new.cql.items ≡ map file_of lists.old.cql.items
+        ++ cql_files (listed_as named.now)) }
 {
     push_csv(alloc, named, &mut lists.csv)?;
     push_cql(alloc, named, &mut lists.cql)?;
@@ -39,7 +41,8 @@ fn push_csv(
     named: &Named,
     files: &mut Vec<(String, Vec<u8>)>,
 ) -> Result<(), AllocError>
-    ensures { OnOk result (map file_of files.new.items ≡ map file_of files.old.items ++ csv_files (listed_as named.now)) }
+    ensures { OnOk result (map file_of files.new.items ≡ map file_of files.old.items
+        ++ csv_files (listed_as named.now)) }
 {
     let mut own = cq_csv::files(alloc, &named.name, &named.instance)?;
     files.append(&mut own)?;
@@ -52,7 +55,8 @@ fn push_cql(
     named: &Named,
     files: &mut Vec<(String, Vec<u8>)>,
 ) -> Result<(), AllocError>
-    ensures { OnOk result (map file_of files.new.items ≡ map file_of files.old.items ++ cql_files (listed_as named.now)) }
+    ensures { OnOk result (map file_of files.new.items ≡ map file_of files.old.items
+        ++ cql_files (listed_as named.now)) }
 {
     let name = literal_name(alloc, &named.name)?;
     let text = literal(alloc, &named.name, &named.schema, &named.instance)?;

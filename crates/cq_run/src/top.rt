@@ -70,7 +70,8 @@ pub fn run<F: Folder, K: Sink>(
 
 /// Writes the line that is due, with the status that the run then has.
 fn tell<K: Sink>(out: &mut K, line: &[u8], wanted: Status) -> Status
-    ensures { Tells wanted result (record { held = K.held out.old; faults = K.faults out.old; spare = K.spare out.old }) (record { held = K.held out.new; faults = K.faults out.new; spare = K.spare out.new }) line.now }
+    ensures { Tells wanted result (record { held = K.held out.old; faults = K.faults out.old; spare = K.spare out.old })
+        (record { held = K.held out.new; faults = K.faults out.new; spare = K.spare out.new }) line.now }
 {
     match out.write_all(line) {
         Ok(()) => wanted,
@@ -87,7 +88,8 @@ fn export<K: Sink>(
     output: &Output,
 ) -> Status
     ensures { Stage (files_held output.now.files) output.now.transcript.items
-        (record { held = K.held out.old; faults = K.faults out.old; spare = K.spare out.old }) (record { held = K.held out.new; faults = K.faults out.new; spare = K.spare out.new })
+        (record { held = K.held out.old; faults = K.faults out.old; spare = K.spare out.old })
+        (record { held = K.held out.new; faults = K.faults out.new; spare = K.spare out.new })
         (record { exporters = map account exporters.old.items; spoiled = map account spoiled.old.items })
         (record { exporters = map account exporters.new.items; spoiled = map account spoiled.new.items })
         result }

@@ -84,7 +84,8 @@ mapping_exp_back (inr (inr x)) = refl
 abbrev pub Imported : Type 0
 Imported = Name × (Spot × List Opt)
 
-abbrev pub instance_exp_of : InstanceLit ⊎ ((Spot × Spot) ⊎ ((Spot × Spot) ⊎ ((Spot × Spot) ⊎ ((Spot × Spot) ⊎ ((List Spot × Spot) ⊎ ((Spot × Spot) ⊎ (Imported ⊎ Imported))))))) → InstanceExp
+abbrev pub instance_exp_of : InstanceLit ⊎ ((Spot × Spot) ⊎ ((Spot × Spot)
+    ⊎ ((Spot × Spot) ⊎ ((Spot × Spot) ⊎ ((List Spot × Spot) ⊎ ((Spot × Spot) ⊎ (Imported ⊎ Imported))))))) → InstanceExp
 instance_exp_of (inl x) = instances.Literal x
 instance_exp_of (inr (inl x)) = instances.Delta x.0 x.1
 instance_exp_of (inr (inr (inl x))) = instances.Sigma x.0 x.1
@@ -95,7 +96,8 @@ instance_exp_of (inr (inr (inr (inr (inr (inr (inl x))))))) = instances.Pushout 
 instance_exp_of (inr (inr (inr (inr (inr (inr (inr (inl x)))))))) = instances.ImportCsv x.0 x.1.0 x.1.1
 instance_exp_of (inr (inr (inr (inr (inr (inr (inr (inr x)))))))) = instances.ImportCsv2 x.0 x.1.0 x.1.1
 
-abbrev pub instance_exp_parts : InstanceExp → InstanceLit ⊎ ((Spot × Spot) ⊎ ((Spot × Spot) ⊎ ((Spot × Spot) ⊎ ((Spot × Spot) ⊎ ((List Spot × Spot) ⊎ ((Spot × Spot) ⊎ (Imported ⊎ Imported)))))))
+abbrev pub instance_exp_parts : InstanceExp → InstanceLit ⊎ ((Spot × Spot)
+    ⊎ ((Spot × Spot) ⊎ ((Spot × Spot) ⊎ ((Spot × Spot) ⊎ ((List Spot × Spot) ⊎ ((Spot × Spot) ⊎ (Imported ⊎ Imported)))))))
 instance_exp_parts (instances.Literal a) = inl a
 instance_exp_parts (instances.Delta a b) = inr (inl (a, b))
 instance_exp_parts (instances.Sigma a b) = inr (inr (inl (a, b)))
@@ -106,7 +108,9 @@ instance_exp_parts (instances.Pushout a b) = inr (inr (inr (inr (inr (inr (inl (
 instance_exp_parts (instances.ImportCsv a b c) = inr (inr (inr (inr (inr (inr (inr (inl (a, (b, c)))))))))
 instance_exp_parts (instances.ImportCsv2 a b c) = inr (inr (inr (inr (inr (inr (inr (inr (a, (b, c)))))))))
 
-pub instance_exp_back : (x : InstanceLit ⊎ ((Spot × Spot) ⊎ ((Spot × Spot) ⊎ ((Spot × Spot) ⊎ ((Spot × Spot) ⊎ ((List Spot × Spot) ⊎ ((Spot × Spot) ⊎ (Imported ⊎ Imported)))))))) → instance_exp_parts (instance_exp_of x) ≡ x
+pub instance_exp_back : (x : InstanceLit ⊎ ((Spot × Spot) ⊎ ((Spot × Spot)
+    ⊎ ((Spot × Spot) ⊎ ((Spot × Spot) ⊎ ((List Spot × Spot) ⊎ ((Spot × Spot) ⊎ (Imported ⊎ Imported))))))))
+    → instance_exp_parts (instance_exp_of x) ≡ x
 instance_exp_back (inl x) = refl
 instance_exp_back (inr (inl x)) = refl
 instance_exp_back (inr (inr (inl x))) = refl
@@ -131,7 +135,8 @@ transform_exp_back (inr x) = refl
 
 -- a declaration's name, and what it declares
 abbrev pub Declared : Type 0
-Declared = (Spot × TypesideLit) ⊎ ((Spot × SchemaExp) ⊎ ((Spot × ColimitLit) ⊎ ((Spot × MappingExp) ⊎ ((Spot × QueryLit) ⊎ ((Spot × InstanceExp) ⊎ (Spot × TransformExp))))))
+Declared = (Spot × TypesideLit) ⊎ ((Spot × SchemaExp) ⊎ ((Spot × ColimitLit)
+    ⊎ ((Spot × MappingExp) ⊎ ((Spot × QueryLit) ⊎ ((Spot × InstanceExp) ⊎ (Spot × TransformExp))))))
 
 abbrev pub declared : Place → Name → Place → Body → Decl
 declared place name name_place body = record { place = place; name = name; name_place = name_place; body = body }

@@ -9,7 +9,8 @@ use Rattle.cq_rules.specs.declared.class.Class.{Class}
 use Rattle.cq_rules.specs.declared.class.Class.TheVariants as classes
 use Rattle.cq_rules.specs.Class.{Set, is, is_name}
 use Rattle.cq_rules.specs.Outcome.{either, when, name_of}
-use Rattle.cq_rules.specs.Rule.{Rule, none, keep, skip, ends, seq, alt, many, some, separated, section, braces, checked, or_left_out, placed, made, term, path, none_left}
+use Rattle.cq_rules.specs.Rule.{Rule, none, keep, skip, ends, seq, alt, many, some, separated, section, braces, checked, or_left_out}
+use Rattle.cq_rules.specs.Rule.{placed, made, term, path, none_left}
 use Rattle.cq_syntax.specs.LeftOut.{head_words, operation_words, typeside_words, section_words}
 use Rattle.cq_syntax.specs.Terms.{term_of, term_parts, term_back}
 use Rattle.cq_syntax.specs.Parts as parts
@@ -67,14 +68,16 @@ value = keep spot_of is_value
 
 -- the options that are allowed
 abbrev pub is_allowed : Spot → Spot → Bool
-is_allowed n v = either (bytes_eq n.name (codes "prover")) (either (bytes_eq n.name (codes "timeout")) (when (bytes_eq n.name (codes "require_consistency")) (bytes_eq v.name (codes "true"))))
+is_allowed n v = either (bytes_eq n.name (codes "prover")) (either (bytes_eq n.name (codes "timeout"))
+    (when (bytes_eq n.name (codes "require_consistency")) (bytes_eq v.name (codes "true"))))
 
 abbrev pub place_of_spot : Spot → Place
 place_of_spot n = n.place
 
 -- NAME "=" (NAME | TEXT)
 unfoldable pub setting : Rule Opt
-setting = made parts.opt_of parts.opt_parts (λ p. refl) (checked (ends spot none_left (is classes.Equals)) spot_of is_value is_allowed place_of_spot)
+setting = made parts.opt_of parts.opt_parts (λ p. refl) (checked (ends spot none_left (is classes.Equals)) spot_of is_value is_allowed
+    place_of_spot)
 
 -- ["options" {setting}]
 unfoldable pub options : Rule (List Opt)
@@ -99,7 +102,8 @@ constants = made parts.group_of parts.group_parts (λ p. refl) (seq (some value)
 -- NAME {NAME} ":" NAME {"," NAME} "->" NAME
 unfoldable pub functions : Rule FunSyn
 functions =
-    made parts.fun_of parts.fun_parts (λ p. refl) (seq (some spot) (skip (is classes.Colon) (seq (separated (is classes.Comma) name) (skip (is classes.Arrow) name))))
+    made parts.fun_of parts.fun_parts (λ p. refl) (seq (some spot)
+    (skip (is classes.Colon) (seq (separated (is classes.Comma) name) (skip (is classes.Arrow) name))))
 
 -- NAME {NAME} ":" NAME "->" NAME
 unfoldable pub edge : Rule EdgeSyn
@@ -120,7 +124,8 @@ of_entity = made exps.option_of exps.option_parts exps.option_back (alt (skip (i
 -- "forall" NAME [":" NAME] "." term "=" term
 unfoldable pub observation : Rule ObsSyn
 observation =
-    made parts.obs_of parts.obs_parts (λ p. refl) (placed (skip (is classes.Forall) (seq name (seq of_entity (skip (is classes.Dot) (seq placed_term (skip (is classes.Equals) placed_term)))))))
+    made parts.obs_of parts.obs_parts (λ p. refl) (placed (skip (is classes.Forall)
+    (seq name (seq of_entity (skip (is classes.Dot) (seq placed_term (skip (is classes.Equals) placed_term)))))))
 
 -- NAME "." NAME
 unfoldable pub member : Rule (Name × Name)
@@ -171,7 +176,8 @@ schema = made exps.schema_exp_of exps.schema_exp_parts exps.schema_exp_back (alt
 -- ["observation_equations" {observation}] options "}"
 unfoldable pub colimit : Rule ColimitLit
 colimit =
-    made parts.colimit_of parts.colimit_parts (λ p. refl) (skip (is classes.Quotient) (seq (separated (is classes.Plus) spot) (skip (is classes.Colon) (seq spot (in_braces
+    made parts.colimit_of parts.colimit_parts (λ p. refl) (skip (is classes.Quotient)
+    (seq (separated (is classes.Plus) spot) (skip (is classes.Colon) (seq spot (in_braces
     (seq (section (is classes.EntityEquations) pair)
     (seq (section (is classes.PathEquations) path_equation)
     (seq (section (is classes.ObservationEquations) observation) options))))))))
@@ -183,7 +189,8 @@ key_image = made parts.key_image_of parts.key_image_parts (λ p. refl) (placed (
 -- path | "lambda" NAME [":" NAME] "." term
 unfoldable pub att_value : Rule AttSyn
 att_value =
-    made exps.att_of exps.att_parts exps.att_back (alt placed_path (skip (is classes.Lambda) (seq name (seq of_entity (skip (is classes.Dot) placed_term)))))
+    made exps.att_of exps.att_parts exps.att_back (alt placed_path
+    (skip (is classes.Lambda) (seq name (seq of_entity (skip (is classes.Dot) placed_term)))))
 
 -- NAME "->" att_value
 unfoldable pub att_image : Rule AttImage
@@ -198,12 +205,14 @@ map_block =
 -- "literal" ":" NAME "->" NAME "{" {map_block} options "}"
 unfoldable pub mapping_literal : Rule MappingLit
 mapping_literal =
-    made parts.mapping_of parts.mapping_parts (λ p. refl) (skip (is classes.Literal) (skip (is classes.Colon) (seq spot (skip (is classes.Arrow) (seq spot (in_braces (seq (many map_block) options)))))))
+    made parts.mapping_of parts.mapping_parts (λ p. refl) (skip (is classes.Literal)
+    (skip (is classes.Colon) (seq spot (skip (is classes.Arrow) (seq spot (in_braces (seq (many map_block) options)))))))
 
 -- mapping_literal | "identity" NAME | "getMapping" NAME NAME
 unfoldable pub mapping : Rule MappingExp
 mapping =
-    made exps.mapping_exp_of exps.mapping_exp_parts exps.mapping_exp_back (alt mapping_literal (alt (skip (is classes.Identity) spot) (skip (is classes.GetMapping) (seq spot spot))))
+    made exps.mapping_exp_of exps.mapping_exp_parts exps.mapping_exp_back
+    (alt mapping_literal (alt (skip (is classes.Identity) spot) (skip (is classes.GetMapping) (seq spot spot))))
 
 -- NAME "->" "{" {bind} "}"
 unfoldable pub query_key : Rule QueryKey
@@ -213,7 +222,8 @@ query_key = made parts.query_key_of parts.query_key_parts (λ p. refl) (placed (
 -- ["foreign_keys" {query_key}] "}"
 unfoldable pub query_block : Rule QueryBlock
 query_block =
-    made parts.query_block_of parts.query_block_parts (λ p. refl) (placed (skip (is classes.Entity) (seq name (skip (is classes.Arrow) (in_braces
+    made parts.query_block_of parts.query_block_parts (λ p. refl)
+    (placed (skip (is classes.Entity) (seq name (skip (is classes.Arrow) (in_braces
     (seq (section (is classes.From) group)
     (seq (section (is classes.Where) equation)
     (seq (section (is classes.Attributes) bind)
@@ -222,7 +232,8 @@ query_block =
 -- "literal" ":" NAME "->" NAME "{" {query_block} options "}"
 unfoldable pub query : Rule QueryLit
 query =
-    made parts.query_of parts.query_parts (λ p. refl) (skip (is classes.Literal) (skip (is classes.Colon) (seq spot (skip (is classes.Arrow) (seq spot (in_braces (seq (many query_block) options)))))))
+    made parts.query_of parts.query_parts (λ p. refl) (skip (is classes.Literal)
+    (skip (is classes.Colon) (seq spot (skip (is classes.Arrow) (seq spot (in_braces (seq (many query_block) options)))))))
 
 -- "literal" ":" NAME "{" ["generators" {group}] ["equations" {equation}] options "}"
 unfoldable pub instance_literal : Rule InstanceLit
@@ -242,22 +253,29 @@ coproduct = skip (is classes.Coproduct) (seq (separated (is classes.Plus) spot) 
 -- a word, TEXT ":" NAME ["{" options "}"]
 unfoldable pub import : Class → Rule exps.Imported
 import c =
-    skip (is c) (seq text (skip (is classes.Colon) (seq spot (braces (is classes.LeftBrace) (is classes.Options) setting section_words (is classes.RightBrace)))))
+    skip (is c) (seq text (skip (is classes.Colon) (seq spot (braces (is classes.LeftBrace) (is classes.Options) setting section_words
+    (is classes.RightBrace)))))
 
 -- instance_literal | "delta" NAME NAME | "sigma" NAME NAME | "eval" NAME NAME | "coeval" NAME NAME
 -- | coproduct | "pushout" NAME NAME | import of "import_csv" | import of "import_csv2"
 unfoldable pub instance : Rule InstanceExp
 instance =
-    made exps.instance_exp_of exps.instance_exp_parts exps.instance_exp_back (alt instance_literal (alt (of_two classes.Delta) (alt (of_two classes.Sigma) (alt (of_two classes.Eval) (alt (of_two classes.Coeval) (alt coproduct (alt (of_two classes.Pushout) (alt (import classes.ImportCsv) (import classes.ImportCsv2)))))))))
+    made exps.instance_exp_of exps.instance_exp_parts exps.instance_exp_back
+    (alt instance_literal (alt (of_two classes.Delta) (alt (of_two classes.Sigma)
+    (alt (of_two classes.Eval) (alt (of_two classes.Coeval)
+    (alt coproduct (alt (of_two classes.Pushout) (alt (import classes.ImportCsv) (import classes.ImportCsv2)))))))))
 
 -- "literal" ":" NAME "->" NAME "{" ["generators" {bind}] options "}"
 unfoldable pub transform_literal : Rule TransformLit
 transform_literal =
-    made parts.transform_of parts.transform_parts (λ p. refl) (skip (is classes.Literal) (skip (is classes.Colon) (seq spot (skip (is classes.Arrow) (seq spot (in_braces (seq (section (is classes.Generators) bind) options)))))))
+    made parts.transform_of parts.transform_parts (λ p. refl)
+    (skip (is classes.Literal) (skip (is classes.Colon) (seq spot
+    (skip (is classes.Arrow) (seq spot (in_braces (seq (section (is classes.Generators) bind) options)))))))
 
 -- transform_literal | "identity" NAME
 unfoldable pub transform : Rule TransformExp
-transform = made exps.transform_exp_of exps.transform_exp_parts exps.transform_exp_back (alt transform_literal (skip (is classes.Identity) spot))
+transform = made exps.transform_exp_of exps.transform_exp_parts exps.transform_exp_back
+    (alt transform_literal (skip (is classes.Identity) spot))
 
 -- a declaration of a kind: its word, a name, "=" and what it declares
 abbrev pub kind : {A : Type 0} → Class → Rule A → Rule (Spot × A)
@@ -265,7 +283,10 @@ kind c g = skip (is c) (seq spot (skip (is classes.Equals) (or_left_out operatio
 
 unfoldable pub declaration : Rule Decl
 declaration =
-    made exps.decl_of exps.decl_parts exps.decl_back (placed (alt (kind classes.Typeside typeside) (alt (kind classes.Schema schema) (alt (kind classes.SchemaColimit colimit) (alt (kind classes.Mapping mapping) (alt (kind classes.Query query) (alt (kind classes.Instance instance) (kind classes.Transform transform))))))))
+    made exps.decl_of exps.decl_parts exps.decl_back (placed (alt (kind classes.Typeside typeside)
+    (alt (kind classes.Schema schema) (alt (kind classes.SchemaColimit colimit)
+    (alt (kind classes.Mapping mapping) (alt (kind classes.Query query)
+    (alt (kind classes.Instance instance) (kind classes.Transform transform))))))))
 
 -- a term, and the end
 unfoldable pub lone_term : Rule TermSyn

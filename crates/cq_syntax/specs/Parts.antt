@@ -95,7 +95,15 @@ abbrev pub typeside_parts : TypesideLit → List Spot × (Option Spot × (List G
 typeside_parts x = (x.types, (x.literals, (x.constants, (x.functions, x.options))))
 
 abbrev pub schema_of : Spot × (List Spot × (List EdgeSyn × (List PathEqSyn × (List EdgeSyn × (List ObsSyn × List Opt))))) → SchemaLit
-schema_of p = record { typeside = p.0; entities = p.1.0; keys = p.1.1.0; path_eqs = p.1.1.1.0; attributes = p.1.1.1.1.0; obs_eqs = p.1.1.1.1.1.0; options = p.1.1.1.1.1.1 }
+schema_of p = record {
+  typeside = p.0;
+  entities = p.1.0;
+  keys = p.1.1.0;
+  path_eqs = p.1.1.1.0;
+  attributes = p.1.1.1.1.0;
+  obs_eqs = p.1.1.1.1.1.0;
+  options = p.1.1.1.1.1.1;
+}
 
 abbrev pub schema_parts : SchemaLit → Spot × (List Spot × (List EdgeSyn × (List PathEqSyn × (List EdgeSyn × (List ObsSyn × List Opt)))))
 schema_parts x = (x.typeside, (x.entities, (x.keys, (x.path_eqs, (x.attributes, (x.obs_eqs, x.options))))))

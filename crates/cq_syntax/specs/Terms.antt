@@ -48,7 +48,8 @@ mutual
 
   pub trees_of-raws_of : (vs : Trees) → trees (map tree_of (raws_of vs)) ≡ vs
   trees_of-raws_of end = refl
-  trees_of-raws_of (more v vs) = ap (λ z. more z (trees (map tree_of (raws_of vs)))) (tree_of-raw_of v) ∙ ap (λ z. more v z) (trees_of-raws_of vs)
+  trees_of-raws_of (more v vs) = ap (λ z. more z (trees (map tree_of (raws_of vs)))) (tree_of-raw_of v)
+      ∙ ap (λ z. more v z) (trees_of-raws_of vs)
 
 abbrev pub term_of : Place × Tree → TermSyn
 term_of p = record { place = p.0; raw = raw_of p.1 }

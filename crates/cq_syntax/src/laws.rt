@@ -13,5 +13,6 @@ pub fn next_token_decides()
 
 /// Tokens are at most one program that keeps the limits.
 pub fn one_program()
-    ensures { (tokens : List Token) (tree other : Program) → IsProgram tokens tree → FitsLimits tree → IsProgram tokens other → FitsLimits other → tree ≡ other }
+    ensures { (tokens : List Token) (tree other : Program) → IsProgram tokens tree → FitsLimits tree
+        → IsProgram tokens other → FitsLimits other → tree ≡ other }
 {}

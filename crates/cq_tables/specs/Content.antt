@@ -1,5 +1,6 @@
 -- What callers see of `Tables`: numbered rows and their cells. Clauses name only what is observed of them here.
-use Rattle.std.specs.Prelude.{◌≡◌, ℕ, ◌<◌, Bool, true, false, List, [], ◌∷◌, length, Option, Some, None, option_and_then, slice_index_or, slice_get, ◌==◌, if◌then◌else◌}
+use Rattle.std.specs.Prelude.{◌≡◌, ℕ, ◌<◌, Bool, true, false, List, [], ◌∷◌, length, Option, Some, None, option_and_then, slice_index_or}
+use Rattle.std.specs.Prelude.{slice_get, ◌==◌, if◌then◌else◌}
 
 -- rows by number: their entities, which of them are live, and their cells, of each row by key
 pub record Content : Type 0 where

@@ -14,7 +14,8 @@ pub record IsMention (cells : List (Option ℕ)) (spots : List ℕ) (s p i : ℕ
 pub record IsInverse (cells : List (Option ℕ)) (spots : List ℕ) (lists : List (List ℕ)) : Type 0 where
   pub count : length spots ≡ length cells
   pub listed : (i s : ℕ) → slice_index_or cells i None ≡ Some s → IsListed lists spots i s
-  pub mention : (s p : ℕ) → p < length (slice_index_or lists s []) → IsMention cells spots s p (slice_index_or (slice_index_or lists s []) p 0)
+  pub mention : (s p : ℕ) → p < length (slice_index_or lists s [])
+      → IsMention cells spots s p (slice_index_or (slice_index_or lists s []) p 0)
 
 -- the list has each place that holds a row once, and no other
 pub record ListsPlaces (cells : List (Option ℕ)) (row : ℕ) (places : List ℕ) : Type 0 where

@@ -14,7 +14,8 @@ content_of t = content t.plan.entities t.plan.keys t.kinds.items t.alive.items t
 
 -- there is one flag, one start and one count of mentions a row, the cells of each row begin at its start, and all cells are
 -- those of the rows
-pub record IsLaid (keys : List (ℕ × ℕ)) (kinds : List ℕ) (alive : List Bool) (starts : List ℕ) (cells : List (Option ℕ)) (counts : List ℕ) : Type 0 where
+pub record IsLaid (keys : List (ℕ × ℕ)) (kinds : List ℕ) (alive : List Bool) (starts : List ℕ) (cells : List (Option ℕ))
+    (counts : List ℕ) : Type 0 where
   pub one_flag : length alive ≡ length kinds
   pub one_start : length starts ≡ length kinds
   pub one_count : length counts ≡ length kinds

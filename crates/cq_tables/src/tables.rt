@@ -1,6 +1,8 @@
 //! Rows, their entities and their cells.
-ghost use Rattle.std.specs.Prelude.{◌≡◌, ◌≢◌, ℕ, ◌+◌, ◌^◌, ◌<◌, ◌≤◌, ◌⊎◌, true, All, length, IfOk, OnOk, OnErr, IsSome, IfSome, Some, None, ◌++◌, vec_len, vec_capacity, slice_index_or, slice_index};
-ghost use Rattle.cq_tables.specs.Content.{entities_of, keys_of, made_of, live_of, entity_of, cell_of, step_of, end_of, trace_of, IsHeld, IsEnd, IsWhole};
+ghost use Rattle.std.specs.Prelude.{◌≡◌, ◌≢◌, ℕ, ◌+◌, ◌^◌, ◌<◌, ◌≤◌, ◌⊎◌, true, All, length, IfOk, OnOk, OnErr, IsSome};
+ghost use Rattle.std.specs.Prelude.{IfSome, Some, None, ◌++◌, vec_len, vec_capacity, slice_index_or, slice_index};
+ghost use Rattle.cq_tables.specs.Content.{entities_of, keys_of, made_of, live_of, entity_of, cell_of, step_of, end_of};
+ghost use Rattle.cq_tables.specs.Content.{trace_of, IsHeld, IsEnd, IsWhole};
 ghost use Rattle.cq_tables.specs.Changes.{AddsRow, SetsCell, Renames, given_pairs, moved_cell, first_of, pair_of};
 ghost use Rattle.cq_tables.specs.Mentions.{CountsMentions};
 ghost use Rattle.cq_tables.specs.Places.{start_of, place_of, pairs_at};
@@ -191,7 +193,8 @@ fn rename_cells(cells: &mut Cells, from: u64, to: u64)
     requires from { from < length cells.old.counts }
     requires to { to < length cells.old.counts }
     requires room { slice_index cells.old.counts from ≤ slice_index cells.old.room to }
-    ensures cells { (i : ℕ) → slice_index_or cells.new.cells i None ≡ moved_cell from to (slice_index_or cells.old.cells i None) }
+    ensures cells { (i : ℕ) → slice_index_or cells.new.cells i None ≡ moved_cell from to
+        (slice_index_or cells.old.cells i None) }
     ensures len { length cells.new.cells ≡ length cells.old.cells }
     ensures counts { length cells.new.counts ≡ length cells.old.counts }
 {
@@ -234,7 +237,8 @@ fn move_cell(cells: &mut Cells, into: usize, out: usize)
     ensures joined { slice_index_or cells.new.cells into None
         ≡ first_of (slice_index_or cells.old.cells into None) (slice_index_or cells.old.cells out None) }
     ensures emptied { slice_index_or cells.new.cells out None ≡ None }
-    ensures others { (i : ℕ) → i ≢ into → i ≢ out → slice_index_or cells.new.cells i None ≡ slice_index_or cells.old.cells i None }
+    ensures others { (i : ℕ) → i ≢ into → i ≢ out → slice_index_or cells.new.cells i None
+        ≡ slice_index_or cells.old.cells i None }
     ensures len { length cells.new.cells ≡ length cells.old.cells }
     ensures counts { length cells.new.counts ≡ length cells.old.counts }
 {

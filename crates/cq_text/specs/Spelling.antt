@@ -1,5 +1,6 @@
 -- The lines of a literal by the numbers of rows, attributes and keys.
-use Rattle.std.specs.Prelude.{ℕ, List, ◌++◌, ◌+◌, ◌≡◌, ◌<◌, Option, Some, None, IfSome, map, take, sum, length, slice_get, slice_index, codes}
+use Rattle.std.specs.Prelude.{ℕ, List, ◌++◌, ◌+◌, ◌≡◌, ◌<◌, Option, Some, None, IfSome, map, take, sum, length, slice_get, slice_index}
+use Rattle.std.specs.Prelude.{codes}
 use Rattle.cq_theory.specs.declared.presentation.Sort.TheVariants.{Entity}
 use Rattle.cq_theory.specs.declared.schema.Edge.{Edge}
 use Rattle.cq_theory.specs.SchemaData.{SchemaData as Schema}
@@ -55,7 +56,8 @@ module _ (S : Schema) (M : Tables) where
   -- an attribute at a row with this generator
   abbrev pub cell_equation_line : ℕ → ℕ → ℕ → List ℕ
   cell_equation_line generator row a =
-      equals_line (applied_text (edge_name (slice_get S.attributes a)) (generator_text generator)) (spelled S.typeside (sum M.sheet.counts) (cell_at M a row))
+      equals_line (applied_text (edge_name (slice_get S.attributes a)) (generator_text generator))
+      (spelled S.typeside (sum M.sheet.counts) (cell_at M a row))
 
   -- a foreign key at a row with this generator
   abbrev pub key_equation_line : ℕ → ℕ → ℕ → List ℕ

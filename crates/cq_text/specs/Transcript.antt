@@ -1,5 +1,6 @@
 -- Transcripts of instances.
-use Rattle.std.specs.Prelude.{ℕ, List, [], ◌++◌, ◌+◌, ◌≡◌, ◌<◌, true, Option, Some, None, map, length, slice_get, slice_index, codes, decimal}
+use Rattle.std.specs.Prelude.{ℕ, List, [], ◌++◌, ◌+◌, ◌≡◌, ◌<◌, true, Option, Some, None, map, length, slice_get, slice_index, codes}
+use Rattle.std.specs.Prelude.{decimal}
 use Rattle.std.specs.List.{flat_map, list_all}
 use Rattle.cq_base.specs.declared.name.Name.{Name}
 use Rattle.cq_theory.specs.declared.presentation.Sort.{Sort}
@@ -90,7 +91,8 @@ module _ (i : InstanceData) where
   abbrev pub null_lines : List ℕ
   null_lines =
       heading (codes "nulls") (length i.tables.algebra.nulls)
-      ++ flat_map (λ label. null_line i.schema.typeside label (slice_index i.tables.algebra.nulls label)) (below (length i.tables.algebra.nulls))
+      ++ flat_map (λ label. null_line i.schema.typeside label (slice_index i.tables.algebra.nulls label))
+      (below (length i.tables.algebra.nulls))
 
   abbrev pub entry_lines : List ℕ
   entry_lines =

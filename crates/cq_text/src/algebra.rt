@@ -21,7 +21,8 @@ pub fn push_nulls(instance: &Instance, text: &mut Vec<u8>) -> Result<(), AllocEr
 
 fn push_null_lines(typeside: &Typeside, sorts: &[u32], text: &mut Vec<u8>) -> Result<(), AllocError>
     requires { All (λ sort. sort < length typeside.now.types) sorts.now }
-    ensures { OnOk result (text.new.items ≡ text.old.items ++ flat_map (λ label. null_line typeside.now label (slice_index sorts.now label)) (below (length sorts.now))) }
+    ensures { OnOk result (text.new.items ≡ text.old.items
+        ++ flat_map (λ label. null_line typeside.now label (slice_index sorts.now label)) (below (length sorts.now))) }
 {
     for label in 0..sorts.len() {
         push_null_line(typeside, label as u64, sorts[label], text)?;

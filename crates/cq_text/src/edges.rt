@@ -8,7 +8,8 @@ use std::alloc::{AllocError, Global};
 
 /// The numbers of the attributes of each entity, in their order.
 pub fn attributes_by_entity(alloc: Global, instance: &Instance) -> Result<Vec<Vec<u32>>, AllocError>
-    ensures { IfOk result (λ groups. IsGrouped instance.now.schema.attributes (length instance.now.schema.entities) groups.items) }
+    ensures { IfOk result (λ groups. IsGrouped instance.now.schema.attributes (length instance.now.schema.entities)
+        groups.items) }
 {
     let schema = instance.schema();
     group_by_source(alloc, schema.attributes.as_slice(), schema.entities.len())
@@ -16,7 +17,8 @@ pub fn attributes_by_entity(alloc: Global, instance: &Instance) -> Result<Vec<Ve
 
 /// The numbers of the foreign keys of each entity, in their order.
 pub fn keys_by_entity(alloc: Global, instance: &Instance) -> Result<Vec<Vec<u32>>, AllocError>
-    ensures { IfOk result (λ groups. IsGrouped instance.now.schema.keys (length instance.now.schema.entities) groups.items) }
+    ensures { IfOk result (λ groups. IsGrouped instance.now.schema.keys (length instance.now.schema.entities)
+        groups.items) }
 {
     let schema = instance.schema();
     group_by_source(alloc, schema.keys.as_slice(), schema.entities.len())

@@ -20,7 +20,8 @@ pub fn push_equations(
     text: &mut Vec<u8>,
 ) -> Result<(), AllocError>
     requires { IsPlan instance.now plan.now }
-    ensures { OnOk result (text.new.items ≡ text.old.items ++ flat_map (equation_line instance.now.schema) (canonical instance.now.schema instance.now.tables).equations) }
+    ensures { OnOk result (text.new.items ≡ text.old.items
+        ++ flat_map (equation_line instance.now.schema) (canonical instance.now.schema instance.now.tables).equations) }
 {
     push_row_equations(instance, plan, text)?;
     push_entries(instance, plan, text)?;
@@ -33,7 +34,10 @@ fn push_row_equations(
     text: &mut Vec<u8>,
 ) -> Result<(), AllocError>
     requires { IsPlan instance.now plan.now }
-    ensures { OnOk result (text.new.items ≡ text.old.items ++ flat_map (λ entity. flat_map (λ row. flat_map (equation_line instance.now.schema) (row_equations instance.now.schema instance.now.tables entity row)) (below (count_of instance.now.tables entity))) (below (length instance.now.schema.entities))) }
+    ensures { OnOk result (text.new.items ≡ text.old.items
+        ++ flat_map (λ entity. flat_map (λ row. flat_map (equation_line instance.now.schema)
+        (row_equations instance.now.schema instance.now.tables entity row))
+        (below (count_of instance.now.tables entity))) (below (length instance.now.schema.entities))) }
 {
     let count = instance.schema().entities.len() as u32;
     for entity in 0..count {
@@ -50,7 +54,10 @@ fn push_entity_equations(
 ) -> Result<(), AllocError>
     requires plan { IsPlan instance.now plan.now }
     requires entity { entity < length instance.now.schema.entities }
-    ensures { OnOk result (text.new.items ≡ text.old.items ++ flat_map (λ row. flat_map (equation_line instance.now.schema) (row_equations instance.now.schema instance.now.tables entity row)) (below (count_of instance.now.tables entity))) }
+    ensures { OnOk result (text.new.items ≡ text.old.items
+        ++ flat_map (λ row. flat_map (equation_line instance.now.schema)
+        (row_equations instance.now.schema instance.now.tables entity row))
+        (below (count_of instance.now.tables entity))) }
 {
     for row in 0..instance.count(entity) {
         push_equations_at(instance, plan, entity, row, text)?;
@@ -69,7 +76,9 @@ fn push_equations_at(
     requires plan { IsPlan instance.now plan.now }
     requires entity { entity < length instance.now.schema.entities }
     requires row { row < count_of instance.now.tables entity }
-    ensures { OnOk result (text.new.items ≡ text.old.items ++ flat_map (equation_line instance.now.schema) (row_equations instance.now.schema instance.now.tables entity row)) }
+    ensures { OnOk result (text.new.items ≡ text.old.items
+        ++ flat_map (equation_line instance.now.schema)
+        (row_equations instance.now.schema instance.now.tables entity row)) }
 {
     let number = row_number(instance, plan, entity, row)?;
     let attributes = plan.attributes[entity as usize].as_slice();
@@ -89,7 +98,8 @@ fn push_cells(
 ) -> Result<(), AllocError>
     requires plan { IsPlan instance.now plan.now }
     requires row { All (LeavesRow instance.now.tables instance.now.schema.attributes row) attributes.now }
-    ensures { OnOk result (text.new.items ≡ text.old.items ++ flat_map (cell_equation_line instance.now.schema instance.now.tables generator row) attributes.now) }
+    ensures { OnOk result (text.new.items ≡ text.old.items
+        ++ flat_map (cell_equation_line instance.now.schema instance.now.tables generator row) attributes.now) }
 {
     for attribute in attributes {
         push_cell(instance, plan, row, generator, *attribute, text)?;
@@ -107,7 +117,8 @@ fn push_cell(
 ) -> Result<(), AllocError>
     requires plan { IsPlan instance.now plan.now }
     requires row { LeavesRow instance.now.tables instance.now.schema.attributes row attribute }
-    ensures { OnOk result (text.new.items ≡ text.old.items ++ cell_equation_line instance.now.schema instance.now.tables generator row attribute) }
+    ensures { OnOk result (text.new.items ≡ text.old.items
+        ++ cell_equation_line instance.now.schema instance.now.tables generator row attribute) }
 {
     let schema = instance.schema();
     let value = instance.cell(attribute, row);
@@ -128,7 +139,8 @@ fn push_keys(
 ) -> Result<(), AllocError>
     requires plan { IsPlan instance.now plan.now }
     requires row { All (LeavesRow instance.now.tables instance.now.schema.keys row) keys.now }
-    ensures { OnOk result (text.new.items ≡ text.old.items ++ flat_map (key_equation_line instance.now.schema instance.now.tables generator row) keys.now) }
+    ensures { OnOk result (text.new.items ≡ text.old.items
+        ++ flat_map (key_equation_line instance.now.schema instance.now.tables generator row) keys.now) }
 {
     for key in keys {
         push_key(instance, plan, row, generator, *key, text)?;
@@ -146,7 +158,8 @@ fn push_key(
 ) -> Result<(), AllocError>
     requires plan { IsPlan instance.now plan.now }
     requires row { LeavesRow instance.now.tables instance.now.schema.keys row key }
-    ensures { OnOk result (text.new.items ≡ text.old.items ++ key_equation_line instance.now.schema instance.now.tables generator row key) }
+    ensures { OnOk result (text.new.items ≡ text.old.items
+        ++ key_equation_line instance.now.schema instance.now.tables generator row key) }
 {
     let target = target_number(instance, plan, key, row)?;
     push_edge_at(instance.schema().keys.as_slice(), key, generator, text)?;
@@ -158,7 +171,9 @@ fn push_key(
 
 fn push_entries(instance: &Instance, plan: &Plan, text: &mut Vec<u8>) -> Result<(), AllocError>
     requires { IsPlan instance.now plan.now }
-    ensures { OnOk result (text.new.items ≡ text.old.items ++ flat_map (entry_equation_line instance.now.schema.typeside (sum instance.now.tables.sheet.counts)) instance.now.tables.algebra.entries) }
+    ensures { OnOk result (text.new.items ≡ text.old.items
+        ++ flat_map (entry_equation_line instance.now.schema.typeside (sum instance.now.tables.sheet.counts))
+        instance.now.tables.algebra.entries) }
 {
     let entries = instance.algebra().entries.as_slice();
     push_entry_equations(&instance.schema().typeside, plan.first_null, entries, text)?;
@@ -172,7 +187,8 @@ fn push_entry_equations(
     text: &mut Vec<u8>,
 ) -> Result<(), AllocError>
     requires { All (IsNamedEntry typeside.now) entries.now }
-    ensures { OnOk result (text.new.items ≡ text.old.items ++ flat_map (entry_equation_line typeside.now first_null) entries.now) }
+    ensures { OnOk result (text.new.items ≡ text.old.items
+        ++ flat_map (entry_equation_line typeside.now first_null) entries.now) }
 {
     for entry in entries {
         push_entry_equation(typeside, first_null, entry, text)?;

@@ -21,7 +21,9 @@ pub fn push_generators(
     text: &mut Vec<u8>,
 ) -> Result<(), AllocError>
     requires { IsPlan instance.now plan.now }
-    ensures { OnOk result (text.new.items ≡ text.old.items ++ flat_map (generator_line instance.now.schema) (canonical instance.now.schema instance.now.tables).generators) }
+    ensures { OnOk result (text.new.items ≡ text.old.items
+        ++ flat_map (generator_line instance.now.schema)
+        (canonical instance.now.schema instance.now.tables).generators) }
 {
     push_row_generators(instance, plan, text)?;
     push_null_generators(instance, plan, text)?;
@@ -34,7 +36,9 @@ fn push_row_generators(
     text: &mut Vec<u8>,
 ) -> Result<(), AllocError>
     requires { IsPlan instance.now plan.now }
-    ensures { OnOk result (text.new.items ≡ text.old.items ++ flat_map (λ entity. flat_map (row_generator_line instance.now.schema instance.now.tables entity) (below (count_of instance.now.tables entity))) (below (length instance.now.schema.entities))) }
+    ensures { OnOk result (text.new.items ≡ text.old.items
+        ++ flat_map (λ entity. flat_map (row_generator_line instance.now.schema instance.now.tables entity)
+        (below (count_of instance.now.tables entity))) (below (length instance.now.schema.entities))) }
 {
     let count = instance.schema().entities.len() as u32;
     for entity in 0..count {
@@ -51,7 +55,9 @@ fn push_entity_generators(
 ) -> Result<(), AllocError>
     requires plan { IsPlan instance.now plan.now }
     requires entity { entity < length instance.now.schema.entities }
-    ensures { OnOk result (text.new.items ≡ text.old.items ++ flat_map (row_generator_line instance.now.schema instance.now.tables entity) (below (count_of instance.now.tables entity))) }
+    ensures { OnOk result (text.new.items ≡ text.old.items
+        ++ flat_map (row_generator_line instance.now.schema instance.now.tables entity)
+        (below (count_of instance.now.tables entity))) }
 {
     for row in 0..instance.count(entity) {
         push_row_generator(instance, plan, entity, row, text)?;
@@ -68,7 +74,8 @@ fn push_row_generator(
 ) -> Result<(), AllocError>
     requires plan { IsPlan instance.now plan.now }
     requires entity { entity < length instance.now.schema.entities }
-    ensures { OnOk result (text.new.items ≡ text.old.items ++ row_generator_line instance.now.schema instance.now.tables entity row) }
+    ensures { OnOk result (text.new.items ≡ text.old.items
+        ++ row_generator_line instance.now.schema instance.now.tables entity row) }
 {
     let number = row_number(instance, plan, entity, row)?;
     push_generator(number, text)?;
@@ -84,7 +91,9 @@ fn push_null_generators(
     text: &mut Vec<u8>,
 ) -> Result<(), AllocError>
     requires { IsPlan instance.now plan.now }
-    ensures { OnOk result (text.new.items ≡ text.old.items ++ flat_map (null_generator_line instance.now.schema instance.now.tables) (below (length instance.now.tables.algebra.nulls))) }
+    ensures { OnOk result (text.new.items ≡ text.old.items
+        ++ flat_map (null_generator_line instance.now.schema instance.now.tables)
+        (below (length instance.now.tables.algebra.nulls))) }
 {
     let sorts = instance.algebra().nulls.as_slice();
     push_plain_generators(&instance.schema().typeside, plan.first_null, sorts, text)?;
@@ -98,7 +107,9 @@ fn push_plain_generators(
     text: &mut Vec<u8>,
 ) -> Result<(), AllocError>
     requires { All (λ sort. sort < length typeside.now.types) sorts.now }
-    ensures { OnOk result (text.new.items ≡ text.old.items ++ flat_map (λ label. plain_line typeside.now (first_null + label) (slice_index sorts.now label)) (below (length sorts.now))) }
+    ensures { OnOk result (text.new.items ≡ text.old.items
+        ++ flat_map (λ label. plain_line typeside.now (first_null + label) (slice_index sorts.now label))
+        (below (length sorts.now))) }
 {
     for label in 0..sorts.len() {
         push_plain_generator(

@@ -35,7 +35,8 @@ pub fn transcript(
 }
 
 fn push_first_line(name: &Name, schema: &Name, text: &mut Vec<u8>) -> Result<(), AllocError>
-    ensures { OnOk result (text.new.items ≡ text.old.items ++ line (codes "instance " ++ name.now ++ codes " : " ++ schema.now)) }
+    ensures { OnOk result (text.new.items ≡ text.old.items
+        ++ line (codes "instance " ++ name.now ++ codes " : " ++ schema.now)) }
 {
     text.extend_from_slice(b"instance ")?;
     push_name(name, text)?;
@@ -47,7 +48,8 @@ fn push_first_line(name: &Name, schema: &Name, text: &mut Vec<u8>) -> Result<(),
 
 /// Appends the lines of all entities and rows.
 fn push_tables(alloc: Global, instance: &Instance, text: &mut Vec<u8>) -> Result<(), AllocError>
-    ensures { OnOk result (text.new.items ≡ text.old.items ++ flat_map (entity_lines instance.now) (below (length instance.now.schema.entities))) }
+    ensures { OnOk result (text.new.items ≡ text.old.items
+        ++ flat_map (entity_lines instance.now) (below (length instance.now.schema.entities))) }
 {
     let attributes = attributes_by_entity(alloc, instance)?;
     let keys = keys_by_entity(alloc, instance)?;

@@ -38,7 +38,8 @@ pub fn literal(
 /// Appends the generators and the equations of the canonical presentation.
 fn push_presentation(instance: &Instance, plan: &Plan, text: &mut Vec<u8>) -> Result<(), AllocError>
     requires { IsPlan instance.now plan.now }
-    ensures { OnOk result (text.new.items ≡ text.old.items ++ presentation_lines instance.now.schema (canonical instance.now.schema instance.now.tables)) }
+    ensures { OnOk result (text.new.items ≡ text.old.items
+        ++ presentation_lines instance.now.schema (canonical instance.now.schema instance.now.tables)) }
 {
     text.extend_from_slice(b"generators\n")?;
     push_generators(instance, plan, text)?;
@@ -48,7 +49,8 @@ fn push_presentation(instance: &Instance, plan: &Plan, text: &mut Vec<u8>) -> Re
 }
 
 fn push_first_line(name: &Name, schema: &Name, text: &mut Vec<u8>) -> Result<(), AllocError>
-    ensures { OnOk result (text.new.items ≡ text.old.items ++ line (codes "instance " ++ name.now ++ codes " = literal : " ++ schema.now ++ codes " {")) }
+    ensures { OnOk result (text.new.items ≡ text.old.items
+        ++ line (codes "instance " ++ name.now ++ codes " = literal : " ++ schema.now ++ codes " {")) }
 {
     text.extend_from_slice(b"instance ")?;
     push_name(name, text)?;

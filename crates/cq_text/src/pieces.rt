@@ -1,8 +1,10 @@
 //! Small texts of which a transcript is made, each appended to what stands before it.
-ghost use Rattle.std.specs.Prelude.{◌≡◌, ◌++◌, ◌+◌, ◌<◌, ◌^◌, ◌∷◌, true, decimal, codes, length, map, OnOk, slice_get, All};
+ghost use Rattle.std.specs.Prelude.{◌≡◌, ◌++◌, ◌+◌, ◌<◌, ◌^◌, ◌∷◌, true, decimal, codes, length, map, OnOk, slice_get};
+ghost use Rattle.std.specs.Prelude.{All};
 ghost use Rattle.std.specs.List.{flat_map};
 ghost use Rattle.cq_theory.specs.ValueText.{value_text, is_named};
-ghost use Rattle.cq_text.specs.Transcript.{name_text, step_text, field_text, heading, null_line, entry_line, edge_name, generator_name, name_or_empty, IsNamedEntry};
+ghost use Rattle.cq_text.specs.Transcript.{name_text, step_text, field_text, heading, null_line, entry_line, edge_name};
+ghost use Rattle.cq_text.specs.Transcript.{generator_name, name_or_empty, IsNamedEntry};
 
 use cq_base::Name;
 use cq_theory::value_text::{push_application, push_null, push_value};
@@ -48,7 +50,8 @@ pub fn push_cell(
 ) -> Result<(), AllocError>
     requires attribute { attribute < length attributes.now }
     requires value { is_named typeside.now value.now ≡ true }
-    ensures { OnOk result (text.new.items ≡ text.old.items ++ field_text (edge_name (slice_get attributes.now attribute)) (value_text typeside.now value.now)) }
+    ensures { OnOk result (text.new.items ≡ text.old.items
+        ++ field_text (edge_name (slice_get attributes.now attribute)) (value_text typeside.now value.now)) }
 {
     text.extend_from_slice(b" ")?;
     push_edge_name(attributes, attribute, text)?;
@@ -65,7 +68,8 @@ pub fn push_reference(
     text: &mut Vec<u8>,
 ) -> Result<(), AllocError>
     requires { key < length keys.now }
-    ensures { OnOk result (text.new.items ≡ text.old.items ++ field_text (edge_name (slice_get keys.now key)) (decimal (row + 1))) }
+    ensures { OnOk result (text.new.items ≡ text.old.items
+        ++ field_text (edge_name (slice_get keys.now key)) (decimal (row + 1))) }
 {
     text.extend_from_slice(b" ")?;
     push_edge_name(keys, key, text)?;

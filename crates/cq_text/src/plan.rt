@@ -79,7 +79,8 @@ pub fn target_number(
 ) -> Result<u64, AllocError>
     requires plan { IsPlan instance.now plan.now }
     requires row { LeavesRow instance.now.tables instance.now.schema.keys row key }
-    ensures { IfOk result (λ number. number ≡ row_generator instance.now.schema instance.now.tables (target_of (slice_get instance.now.schema.keys key)) (key_at instance.now.tables key row)) }
+    ensures { IfOk result (λ number. number ≡ row_generator instance.now.schema instance.now.tables
+        (target_of (slice_get instance.now.schema.keys key)) (key_at instance.now.tables key row)) }
 {
     row_number(
         instance,

@@ -5,7 +5,8 @@ ghost use Rattle.cq_theory.specs.Tables.{count_of};
 ghost use Rattle.cq_theory.specs.Canonical.{below};
 ghost use Rattle.cq_text.specs.Grouped.{IsGrouped, numbers_from};
 ghost use Rattle.cq_model.specs.InstanceData.{name_at};
-ghost use Rattle.cq_text.specs.Transcript.{attribute_text, attribute_texts, key_text, key_texts, name_text, name_or_empty, heading, row_line, entity_lines};
+ghost use Rattle.cq_text.specs.Transcript.{attribute_text, attribute_texts, key_text, key_texts, name_text};
+ghost use Rattle.cq_text.specs.Transcript.{name_or_empty, heading, row_line, entity_lines};
 
 use crate::pieces::{push_cell, push_name, push_number, push_reference, push_term};
 use cq_model::Instance;
@@ -18,9 +19,11 @@ pub fn push_entities(
     keys: &[Vec<u32>],
     text: &mut Vec<u8>,
 ) -> Result<(), AllocError>
-    requires attributes { IsGrouped instance.now.schema.attributes (length instance.now.schema.entities) attributes.now }
+    requires attributes { IsGrouped instance.now.schema.attributes (length instance.now.schema.entities)
+        attributes.now }
     requires keys { IsGrouped instance.now.schema.keys (length instance.now.schema.entities) keys.now }
-    ensures { OnOk result (text.new.items ≡ text.old.items ++ flat_map (entity_lines instance.now) (below (length instance.now.schema.entities))) }
+    ensures { OnOk result (text.new.items ≡ text.old.items
+        ++ flat_map (entity_lines instance.now) (below (length instance.now.schema.entities))) }
 {
     let count = instance.schema().entities.len() as u32;
     for entity in 0..count {
@@ -53,7 +56,9 @@ fn push_entity_heading(
     text: &mut Vec<u8>,
 ) -> Result<(), AllocError>
     requires { entity < length instance.now.schema.entities }
-    ensures { OnOk result (text.new.items ≡ text.old.items ++ heading (codes "entity " ++ name_or_empty (slice_get instance.now.schema.entities entity)) (count_of instance.now.tables entity)) }
+    ensures { OnOk result (text.new.items ≡ text.old.items
+        ++ heading (codes "entity " ++ name_or_empty (slice_get instance.now.schema.entities entity))
+        (count_of instance.now.tables entity)) }
 {
     text.extend_from_slice(b"entity ")?;
     push_entity_name(instance, entity, text)?;
@@ -70,7 +75,8 @@ pub fn push_entity_name(
     text: &mut Vec<u8>,
 ) -> Result<(), AllocError>
     requires { entity < length instance.now.schema.entities }
-    ensures { OnOk result (text.new.items ≡ text.old.items ++ name_or_empty (slice_get instance.now.schema.entities entity)) }
+    ensures { OnOk result (text.new.items ≡ text.old.items
+        ++ name_or_empty (slice_get instance.now.schema.entities entity)) }
 {
     let entities = instance.schema().entities.as_slice();
     push_name(&entities[entity as usize], text)?;
@@ -87,7 +93,8 @@ fn push_rows(
     requires entity { entity < length instance.now.schema.entities }
     requires attributes { attributes.now ≡ numbers_from entity instance.now.schema.attributes }
     requires keys { keys.now ≡ numbers_from entity instance.now.schema.keys }
-    ensures { OnOk result (text.new.items ≡ text.old.items ++ flat_map (row_line instance.now entity) (below (count_of instance.now.tables entity))) }
+    ensures { OnOk result (text.new.items ≡ text.old.items
+        ++ flat_map (row_line instance.now entity) (below (count_of instance.now.tables entity))) }
 {
     for row in 0..instance.count(entity) {
         push_row(instance, entity, row, attributes, keys, text)?;
@@ -126,7 +133,9 @@ fn push_row_name(
 ) -> Result<(), AllocError>
     requires entity { entity < length instance.now.schema.entities }
     requires row { row < count_of instance.now.tables entity }
-    ensures { OnOk result (text.new.items ≡ text.old.items ++ name_text instance.now.schema.keys instance.now.presentation.generators (name_at instance.now.names entity row)) }
+    ensures { OnOk result (text.new.items ≡ text.old.items
+        ++ name_text instance.now.schema.keys instance.now.presentation.generators
+        (name_at instance.now.names entity row)) }
 {
     let schema = instance.schema();
     let generators = instance.presentation().generators.as_slice();
@@ -163,7 +172,8 @@ fn push_attribute(
     text: &mut Vec<u8>,
 ) -> Result<(), AllocError>
     requires attribute { attribute < length instance.now.schema.attributes }
-    requires row { IfSome (slice_get instance.now.schema.attributes attribute) (λ edge. row < count_of instance.now.tables edge.from) }
+    requires row { IfSome (slice_get instance.now.schema.attributes attribute)
+        (λ edge. row < count_of instance.now.tables edge.from) }
     ensures { OnOk result (text.new.items ≡ text.old.items ++ attribute_text instance.now row attribute) }
 {
     let schema = instance.schema();
@@ -192,7 +202,8 @@ fn push_keys(
 
 fn push_key(instance: &Instance, key: u32, row: u32, text: &mut Vec<u8>) -> Result<(), AllocError>
     requires key { key < length instance.now.schema.keys }
-    requires row { IfSome (slice_get instance.now.schema.keys key) (λ edge. row < count_of instance.now.tables edge.from) }
+    requires row { IfSome (slice_get instance.now.schema.keys key)
+        (λ edge. row < count_of instance.now.tables edge.from) }
     ensures { OnOk result (text.new.items ≡ text.old.items ++ key_text instance.now row key) }
 {
     let keys = instance.schema().keys.as_slice();

@@ -1,7 +1,8 @@
 //! The terms of a literal, each appended to what stands before it.
 ghost use Rattle.std.specs.Prelude.{◌≡◌, ◌++◌, ◌<◌, true, map, length, OnOk, slice_get};
 ghost use Rattle.std.specs.List.{list_all};
-ghost use Rattle.cq_theory.specs.ValueText.{application_text, function_name, is_named, is_named_con, quoted, with_commas};
+ghost use Rattle.cq_theory.specs.ValueText.{application_text, function_name, is_named, is_named_con, quoted};
+ghost use Rattle.cq_theory.specs.ValueText.{with_commas};
 ghost use Rattle.cq_text.specs.Transcript.{edge_name, IsNamedEntry};
 ghost use Rattle.cq_text.specs.Literal.{applied_text, content_of, generator_text};
 ghost use Rattle.cq_text.specs.Spelling.{entry_equation_line, spelled};
@@ -41,7 +42,8 @@ pub fn push_edge_at(
     text: &mut Vec<u8>,
 ) -> Result<(), AllocError>
     requires { edge < length edges.now }
-    ensures { OnOk result (text.new.items ≡ text.old.items ++ applied_text (edge_name (slice_get edges.now edge)) (generator_text generator)) }
+    ensures { OnOk result (text.new.items ≡ text.old.items
+        ++ applied_text (edge_name (slice_get edges.now edge)) (generator_text generator)) }
 {
     push_edge_name(edges, edge, text)?;
     text.extend_from_slice(b"(")?;
@@ -88,7 +90,9 @@ fn push_spelled_application(
 ) -> Result<(), AllocError>
     requires known { function < length typeside.now.functions }
     requires named { list_all (is_named typeside.now) args.now ≡ true }
-    ensures { OnOk result (text.new.items ≡ text.old.items ++ application_text (function_name (slice_get typeside.now.functions function)) (map (spelled typeside.now first_null) args.now)) }
+    ensures { OnOk result (text.new.items ≡ text.old.items
+        ++ application_text (function_name (slice_get typeside.now.functions function))
+        (map (spelled typeside.now first_null) args.now)) }
 {
     push_function_name(typeside, function, text)?;
     text.extend_from_slice(b"(")?;
@@ -105,7 +109,8 @@ fn push_spelled_args(
     text: &mut Vec<u8>,
 ) -> Result<(), AllocError>
     requires { list_all (is_named typeside.now) args.now ≡ true }
-    ensures { OnOk result (text.new.items ≡ text.old.items ++ with_commas (map (spelled typeside.now first_null) args.now)) }
+    ensures { OnOk result (text.new.items ≡ text.old.items
+        ++ with_commas (map (spelled typeside.now first_null) args.now)) }
 {
     if let Some((first, rest)) = args.split_first() {
         push_spelled(typeside, first_null, first, text)?;
@@ -131,7 +136,8 @@ fn push_function_name(
     text: &mut Vec<u8>,
 ) -> Result<(), AllocError>
     requires { function < length typeside.now.functions }
-    ensures { OnOk result (text.new.items ≡ text.old.items ++ function_name (slice_get typeside.now.functions function)) }
+    ensures { OnOk result (text.new.items ≡ text.old.items
+        ++ function_name (slice_get typeside.now.functions function)) }
 {
     let functions = typeside.functions.as_slice();
     push_name(&functions[function as usize].name, text)?;

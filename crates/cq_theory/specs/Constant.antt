@@ -59,7 +59,8 @@ by_parts-is (Open s) (Named n) = refl
 by_parts-is (Open s) (Open t) = refl
 
 pub con_total : IsTotalOrder con_cmp
-con_total = subst IsTotalOrder (λ i c d. by_parts-is c d i) (then_total (on_total kind_of nat_cmp_total) (then_total (on_total number_in nat_cmp_total) (on_total text_in nat_list_cmp_total)))
+con_total = subst IsTotalOrder (λ i c d. by_parts-is c d i) (then_total (on_total kind_of nat_cmp_total)
+    (then_total (on_total number_in nat_cmp_total) (on_total text_in nat_list_cmp_total)))
 
 -- equal constants are those that the order doesn't tell apart
 pub con_ties : (c d : Con) → same_con c d ≡ eq_by_cmp con_cmp c d

@@ -8,9 +8,11 @@ use Rattle.cq_theory.specs.Resolve.{or_else}
 
 -- The first of the parts, counted from n, that breaks a rule, with the least rule that it breaks.
 -- The fault of a part is given by the names of the table before it and by its number.
-abbrev pub first_part_fault : {X : Type 0} → (X → Name) → (List Name → ℕ → X → Option TheoryRefusal) → List Name → ℕ → List X → Option TheoryRefusal
+abbrev pub first_part_fault : {X : Type 0} → (X → Name) → (List Name → ℕ → X → Option TheoryRefusal) → List Name → ℕ → List X
+    → Option TheoryRefusal
 first_part_fault name fault earlier n [] = None
-first_part_fault name fault earlier n (x ∷ xs) = or_else (fault earlier n x) (first_part_fault name fault (earlier ++ name x ∷ []) (n + 1) xs)
+first_part_fault name fault earlier n (x ∷ xs) = or_else (fault earlier n x)
+    (first_part_fault name fault (earlier ++ name x ∷ []) (n + 1) xs)
 
 -- part n declares a name that stands already in its table, or it breaks another rule
 abbrev pub duplicate_or : List Name → ℕ → Name → Option TheoryRefusal → Option TheoryRefusal

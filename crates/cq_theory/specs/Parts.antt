@@ -56,5 +56,6 @@ equation_of _ _ = TypEquation (Const (Named 0)) (Const (Named 0))
 abbrev pub presented : Schema → List (Name × Name) → List (Raw × Raw) → Presentation
 presented S generators equations = record {
   generators = map (λ part. (part.0, sort_or_first (sort_named S part.1))) generators;
-  equations = map (λ e. equation_of (resolved S (generator_names generators) (generator_sorts S generators) e.0) (resolved S (generator_names generators) (generator_sorts S generators) e.1)) equations;
+  equations = map (λ e. equation_of (resolved S (generator_names generators) (generator_sorts S generators) e.0)
+      (resolved S (generator_names generators) (generator_sorts S generators) e.1)) equations;
 }

@@ -1,6 +1,7 @@
 -- Paths as they are written. In a path the name of a foreign key is that key. In the last place the name of an attribute is that attribute.
 -- Any other name of an entity stays at that entity.
-use Rattle.std.specs.Prelude.{ℕ, Bool, false, not, List, [], ◌∷◌, ◌+◌, ◌-◌, ◌==◌, ◌&&◌, ◌||◌, if◌then◌else◌, length, Option, Some, None, is_some, nat_lt, slice_get, option_map, option_and_then}
+use Rattle.std.specs.Prelude.{ℕ, Bool, false, not, List, [], ◌∷◌, ◌+◌, ◌-◌, ◌==◌, ◌&&◌, ◌||◌, if◌then◌else◌, length, Option, Some, None}
+use Rattle.std.specs.Prelude.{is_some, nat_lt, slice_get, option_map, option_and_then}
 use Rattle.std.specs.List.{list_any, filter_map}
 use Rattle.cq_base.specs.declared.name.Name.{Name}
 use Rattle.cq_base.specs.Names.{number_of}
@@ -35,7 +36,8 @@ module _ (S : Schema) where
   -- the entity from which a name leads, and the one to which it leads
   abbrev pub path_step : Name → Option (ℕ × ℕ)
   path_step name =
-      or_else (option_map (λ key. (key.from, key.to)) (key_named name)) (option_map (λ entity. (entity, entity)) (number_of S.entities name))
+      or_else (option_map (λ key. (key.from, key.to)) (key_named name))
+      (option_map (λ entity. (entity, entity)) (number_of S.entities name))
 
   -- where the names lead from an entity
   abbrev pub path_end : List Name → ℕ → Option ℕ

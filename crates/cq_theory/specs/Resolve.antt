@@ -1,5 +1,6 @@
 -- Looking up the names of a term as it is written.
-use Rattle.std.specs.Prelude.{ℕ, Bool, true, false, not, List, [], ◌∷◌, ◌+◌, ◌<◌, ◌==◌, ◌&&◌, ◌||◌, if◌then◌else◌, length, sum, Option, Some, None, is_none, is_some, nat_lt, slice_get, option_map, option_and_then}
+use Rattle.std.specs.Prelude.{ℕ, Bool, true, false, not, List, [], ◌∷◌, ◌+◌, ◌<◌, ◌==◌, ◌&&◌, ◌||◌, if◌then◌else◌, length, sum, Option}
+use Rattle.std.specs.Prelude.{Some, None, is_none, is_some, nat_lt, slice_get, option_map, option_and_then}
 use Rattle.std.specs.List.{list_any}
 use Rattle.cq_base.specs.declared.name.Name.{Name}
 use Rattle.cq_base.specs.declared.raw.Raw.{Raw}
@@ -15,7 +16,9 @@ use Rattle.cq_theory.specs.declared.lookup.Symbol.TheVariants.{Function, Key, At
 use Rattle.cq_theory.specs.declared.lookup.TermRefusal.{TermRefusal}
 use Rattle.cq_theory.specs.declared.lookup.TermRefusal.TheVariants.{Unknown, WrongCount, WrongSort, Reserved, TooLarge, Memory}
 use Rattle.cq_theory.specs.declared.lookup.TheoryRefusal.{TheoryRefusal}
-use Rattle.cq_theory.specs.declared.lookup.TheoryRefusal.TheVariants.{Unknown as UnknownIn, WrongCount as WrongCountIn, WrongSort as WrongSortIn, Reserved as ReservedIn, TooLarge as TooLargeIn, Memory as OutOfMemory}
+use Rattle.cq_theory.specs.declared.lookup.TheoryRefusal.TheVariants.{Unknown as UnknownIn, WrongCount as WrongCountIn}
+use Rattle.cq_theory.specs.declared.lookup.TheoryRefusal.TheVariants.{WrongSort as WrongSortIn, Reserved as ReservedIn}
+use Rattle.cq_theory.specs.declared.lookup.TheoryRefusal.TheVariants.{TooLarge as TooLargeIn, Memory as OutOfMemory}
 use Rattle.cq_theory.specs.SchemaData.{SchemaData as Schema}
 use Rattle.cq_theory.specs.TypesideData.{TypesideData as Typeside}
 use Rattle.cq_theory.specs.declared.typeside.Fun.{Fun}

@@ -1,5 +1,6 @@
 -- Paths with their names looked up.
-use Rattle.std.specs.Prelude.{ℕ, Bool, false, List, [], ◌∷◌, ◌+◌, ◌-◌, ◌==◌, if◌then◌else◌, take, length, Option, Some, None, is_some, is_none, nat_lt, slice_get, option_map, option_and_then}
+use Rattle.std.specs.Prelude.{ℕ, Bool, false, List, [], ◌∷◌, ◌+◌, ◌-◌, ◌==◌, if◌then◌else◌, take, length, Option, Some, None, is_some}
+use Rattle.std.specs.Prelude.{is_none, nat_lt, slice_get, option_map, option_and_then}
 use Rattle.cq_base.specs.declared.name.Name.{Name}
 use Rattle.cq_base.specs.Names.{number_of}
 use Rattle.cq_theory.specs.declared.lookup.TermRefusal.{TermRefusal}
@@ -43,7 +44,8 @@ module _ (S : Schema) where
   abbrev pub attribute_ends : Option Edge → List Name → Option (ℕ × Sort)
   attribute_ends None before = None
   attribute_ends (Some edge) before =
-      option_and_then (λ start. if is_at edge.from (path_end S before start) then Some (start, Plain edge.to) else None) (start_before edge.from before)
+      option_and_then (λ start. if is_at edge.from (path_end S before start) then Some (start, Plain edge.to) else None)
+      (start_before edge.from before)
 
   abbrev pub ends_with : Option ℕ → List Name → Option (ℕ × Sort)
   ends_with None names = entity_ends names

@@ -1,5 +1,6 @@
 -- The first fault of the parts of a schema, and the schema that they give.
-use Rattle.std.specs.Prelude.{ℕ, Bool, false, not, List, [], ◌∷◌, ◌++◌, ◌+◌, ◌==◌, ◌||◌, if◌then◌else◌, map, length, Option, Some, None, is_none, slice_get, option_map}
+use Rattle.std.specs.Prelude.{ℕ, Bool, false, not, List, [], ◌∷◌, ◌++◌, ◌+◌, ◌==◌, ◌||◌, if◌then◌else◌, map, length, Option, Some, None}
+use Rattle.std.specs.Prelude.{is_none, slice_get, option_map}
 use Rattle.cq_base.specs.declared.name.Name.{Name}
 use Rattle.cq_base.specs.Names.{same_name}
 use Rattle.cq_base.specs.declared.raw.Raw.{Raw}
@@ -22,7 +23,8 @@ use Rattle.cq_theory.specs.SchemaData.{SchemaData as Schema}
 use Rattle.cq_theory.specs.TypesideData.{TypesideData as Typeside}
 use Rattle.cq_theory.specs.Typeside.{function_names}
 use Rattle.cq_theory.specs.Schema.{edge_names}
-use Rattle.cq_theory.specs.Resolve.{or_else, symbol_of, sort_in, sort_named, entity_in, type_in, has_unknown, has_wrong_count, has_reserved, raw_sort, is_too_large, first_fault}
+use Rattle.cq_theory.specs.Resolve.{or_else, symbol_of, sort_in, sort_named, entity_in, type_in, has_unknown, has_wrong_count, has_reserved}
+use Rattle.cq_theory.specs.Resolve.{raw_sort, is_too_large, first_fault}
 use Rattle.cq_theory.specs.Resolved.{resolved, type_term_in}
 use Rattle.cq_theory.specs.Declaring.{first_part_fault, duplicate_or, number_or_zero}
 use Rattle.cq_theory.specs.Paths.{is_among, path_eq_fault, made_path_eq}
@@ -128,7 +130,8 @@ module _ (S : Schema) where
   -- the sides are type terms of one type over a variable of the entity
   abbrev pub have_one_type : List Name → Option ℕ → Raw → Raw → Bool
   have_one_type names None left right = false
-  have_one_type names (Some entity) left right = are_of_one_type (raw_sort S names (Entity entity ∷ []) left) (raw_sort S names (Entity entity ∷ []) right)
+  have_one_type names (Some entity) left right = are_of_one_type (raw_sort S names (Entity entity ∷ []) left)
+      (raw_sort S names (Entity entity ∷ []) right)
 
   -- the least rule that an observation equation breaks, where the variable is the one name
   abbrev pub observation_fault_over : List Name → ObsPart → Option TermRefusal
@@ -165,7 +168,14 @@ module _ (T : Typeside) where
 
   -- the schema of the entities and foreign keys
   abbrev pub started : List Name → List (Name × Name × Name) → Schema
-  started entities keys = record { typeside = T; entities = entities; keys = map (made_key T entities) keys; attributes = []; path_eqs = []; obs_eqs = [] }
+  started entities keys = record {
+    typeside = T;
+    entities = entities;
+    keys = map (made_key T entities) keys;
+    attributes = [];
+    path_eqs = [];
+    obs_eqs = [];
+  }
 
 -- Of the schema so far: the first fault of each further list, whose first part is n, and the schema with that list.
 module _ (S : Schema) where
@@ -173,7 +183,8 @@ module _ (S : Schema) where
   path_eqs_fault attributes n path_eqs = first_fault (path_eq_fault S (is_among (part_names attributes))) n path_eqs
 
   abbrev pub attributes_fault : ℕ → List (Name × Name × Name) → Option TheoryRefusal
-  attributes_fault n attributes = first_part_fault (λ part. part.0) (attribute_fault S.typeside S.entities) (function_names S.typeside ++ edge_names S.keys) n attributes
+  attributes_fault n attributes = first_part_fault (λ part. part.0) (attribute_fault S.typeside S.entities)
+      (function_names S.typeside ++ edge_names S.keys) n attributes
 
   abbrev pub with_path_eqs : List (List Name × List Name) → Schema
   with_path_eqs path_eqs = record {
@@ -228,7 +239,8 @@ abbrev pub schema_fault : Typeside → SchemaParts → Option TheoryRefusal
 schema_fault T parts =
     or_else (entities_fault T parts.entities)
     (or_else (keys_fault T parts.entities (length parts.entities) parts.keys)
-    (rest_fault (started T parts.entities parts.keys) parts.path_eqs parts.attributes parts.obs_eqs (length parts.entities + length parts.keys)))
+    (rest_fault (started T parts.entities parts.keys) parts.path_eqs parts.attributes parts.obs_eqs
+    (length parts.entities + length parts.keys)))
 
 -- the schema that the parts give, where they break no rule
 abbrev pub schema_made : Typeside → SchemaParts → Schema

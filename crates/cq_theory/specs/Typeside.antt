@@ -1,5 +1,6 @@
 -- Well-sorted typesides, and the types of constants.
-use Rattle.std.specs.Prelude.{ℕ, Bool, true, false, List, [], ◌∷◌, Option, None, ◌≡◌, ◌<◌, ◌^◌, ◌==◌, ◌||◌, if◌then◌else◌, is_some, option_map, slice_get, map, length, All, IfSome}
+use Rattle.std.specs.Prelude.{ℕ, Bool, true, false, List, [], ◌∷◌, Option, None, ◌≡◌, ◌<◌, ◌^◌, ◌==◌, ◌||◌, if◌then◌else◌, is_some}
+use Rattle.std.specs.Prelude.{option_map, slice_get, map, length, All, IfSome}
 use Rattle.cq_base.specs.declared.name.Name.{Name}
 use Rattle.cq_base.specs.Names.{AreDistinct, number_of}
 use Rattle.cq_theory.specs.declared.constant.Con.{Con}
@@ -17,7 +18,8 @@ abbrev pub is_reserved : Name → Bool
 is_reserved [] = true
 is_reserved (byte ∷ bytes) = (byte == 63) || (byte == 61)
 
--- The type of a constant. A text is a constant of the open type, where there is one, the text isn't reserved and no declared constant has it.
+-- The type of a constant. A text is a constant of the open type, where there is one, the text isn't reserved and no declared constant has
+-- it.
 -- As a name it has at most 255 bytes of UTF-8.
 abbrev pub constant_type : Typeside → Con → Option ℕ
 constant_type T (Named n) = option_map (λ constant. constant.1) (slice_get T.constants n)

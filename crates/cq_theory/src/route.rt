@@ -1,6 +1,9 @@
 //! Paths with their names looked up.
 ghost use Rattle.std.specs.Prelude.{◌≡◌, ◌-◌, Some, IfOk, IfErr, IfSome, IfNone, length, nat_lt, take};
-ghost use Rattle.cq_theory.specs.Routes.{path_attribute as attribute_of_path, is_at, start_before as begins_before, entity_ends as ends_at_entity, attribute_ends as ends_at_attribute, path_ends as ends_of, path_symbols, path_fault as fault_of_path, ends_or_first, routed};
+ghost use Rattle.cq_theory.specs.Routes.{path_attribute as attribute_of_path, is_at, start_before as begins_before};
+ghost use Rattle.cq_theory.specs.Routes.{entity_ends as ends_at_entity, attribute_ends as ends_at_attribute};
+ghost use Rattle.cq_theory.specs.Routes.{path_ends as ends_of, path_symbols, path_fault as fault_of_path};
+ghost use Rattle.cq_theory.specs.Routes.{ends_or_first, routed};
 
 use crate::lookup::TermRefusal;
 use crate::lookup::paths::{count_keys, has_unknown_name, path_end, path_keys, path_start};
@@ -25,7 +28,8 @@ pub fn resolve_path(alloc: Global, schema: &Schema, names: &[Name]) -> Result<Ro
     // Where the path breaks a rule, the least such rule is answered.
     ensures broken { IfSome (fault_of_path schema.now names.now) (λ rule. result ≡ Err rule) }
     ensures route { IfOk result (λ route. route ≡ routed schema.now names.now) }
-    ensures memory { IfNone (fault_of_path schema.now names.now) (IfErr result (λ refusal. refusal ≡ TermRefusal.Memory)) }
+    ensures memory { IfNone (fault_of_path schema.now names.now)
+        (IfErr result (λ refusal. refusal ≡ TermRefusal.Memory)) }
 {
     match path_fault(schema, names) {
         Some(rule) => Err(rule),

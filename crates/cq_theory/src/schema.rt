@@ -3,7 +3,9 @@ ghost use Rattle.std.specs.Prelude.{◌≡◌, ◌+◌, ◌<◌, ◌^◌, ◌⊎
 ghost use Rattle.cq_base.specs.Names.{number_of};
 ghost use Rattle.cq_theory.specs.Schema.{IsSchema, edge_names};
 ghost use Rattle.cq_theory.specs.Paths.{made_path_eq};
-ghost use Rattle.cq_theory.specs.SchemaParts.{entities_fault, keys_fault, started, path_eqs_fault, with_path_eqs, attributes_fault, with_attributes, observations_fault, with_observations, rest_fault, completed, schema_fault, schema_made};
+ghost use Rattle.cq_theory.specs.SchemaParts.{entities_fault, keys_fault, started, path_eqs_fault, with_path_eqs};
+ghost use Rattle.cq_theory.specs.SchemaParts.{attributes_fault, with_attributes, observations_fault, with_observations};
+ghost use Rattle.cq_theory.specs.SchemaParts.{rest_fault, completed, schema_fault, schema_made};
 ghost use Rattle.cq_theory.specs.Resolve.{or_else, constant_of, text_constant, symbol_of, sort_named};
 
 use crate::constant::Con;
@@ -103,10 +105,12 @@ impl Schema {
         typeside: Rc<Typeside>,
         parts: SchemaParts,
     ) -> Result<Schema, TheoryRefusal>
-        requires { length parts.entities + length parts.keys + length parts.path_eqs + length parts.attributes + length parts.obs_eqs < 2 ^ 32 }
+        requires { length parts.entities + length parts.keys + length parts.path_eqs + length parts.attributes + length
+            parts.obs_eqs < 2 ^ 32 }
         ensures accepted { IfOk result (λ _. schema_fault typeside.value parts ≡ None) }
         ensures made { IfOk result (λ made. made ≡ schema_made typeside.value parts) }
-        ensures refused { IfErr result (λ refusal. (refusal ≡ TheoryRefusal.Memory) ⊎ (schema_fault typeside.value parts ≡ Some refusal)) }
+        ensures refused { IfErr result (λ refusal. (refusal ≡ TheoryRefusal.Memory)
+            ⊎ (schema_fault typeside.value parts ≡ Some refusal)) }
     {
         let SchemaParts {
             entities,
@@ -225,9 +229,12 @@ fn start(
     key_parts: &[(Name, Name, Name)],
 ) -> Result<Schema, TheoryRefusal>
     requires { length entities + length key_parts.now < 2 ^ 32 }
-    ensures accepted { IfOk result (λ _. or_else (entities_fault typeside.value entities) (keys_fault typeside.value entities (length entities) key_parts.now) ≡ None) }
+    ensures accepted { IfOk result (λ _. or_else (entities_fault typeside.value entities)
+        (keys_fault typeside.value entities (length entities) key_parts.now) ≡ None) }
     ensures made { IfOk result (λ made. made ≡ started typeside.value entities key_parts.now) }
-    ensures refused { IfErr result (λ refusal. (refusal ≡ TheoryRefusal.Memory) ⊎ (or_else (entities_fault typeside.value entities) (keys_fault typeside.value entities (length entities) key_parts.now) ≡ Some refusal)) }
+    ensures refused { IfErr result (λ refusal. (refusal ≡ TheoryRefusal.Memory)
+        ⊎ (or_else (entities_fault typeside.value entities)
+        (keys_fault typeside.value entities (length entities) key_parts.now) ≡ Some refusal)) }
 {
     let first = entities.len() as u32;
     typeside.is_well_sorted();
@@ -261,7 +268,8 @@ fn complete(
     requires started { schema.old.obs_eqs ≡ [] }
     ensures accepted { OnOk result (rest_fault schema.old path_eqs.now attributes.now obs_eqs.now first ≡ None) }
     ensures made { OnOk result (schema.new ≡ completed schema.old path_eqs.now attributes.now obs_eqs.now) }
-    ensures refused { IfErr result (λ refusal. (refusal ≡ TheoryRefusal.Memory) ⊎ (rest_fault schema.old path_eqs.now attributes.now obs_eqs.now first ≡ Some refusal)) }
+    ensures refused { IfErr result (λ refusal. (refusal ≡ TheoryRefusal.Memory)
+        ⊎ (rest_fault schema.old path_eqs.now attributes.now obs_eqs.now first ≡ Some refusal)) }
 {
     let first_attribute = first + path_eqs.len() as u32;
     let first_observation = first_attribute + attributes.len() as u32;
@@ -283,7 +291,8 @@ fn complete_path_eqs(
     requires attributes { length attributes.now < 2 ^ 32 }
     ensures accepted { OnOk result (path_eqs_fault schema.old attributes.now first parts.now ≡ None) }
     ensures made { OnOk result (schema.new ≡ with_path_eqs schema.old parts.now) }
-    ensures refused { IfErr result (λ refusal. (refusal ≡ TheoryRefusal.Memory) ⊎ (path_eqs_fault schema.old attributes.now first parts.now ≡ Some refusal)) }
+    ensures refused { IfErr result (λ refusal. (refusal ≡ TheoryRefusal.Memory)
+        ⊎ (path_eqs_fault schema.old attributes.now first parts.now ≡ Some refusal)) }
 {
     let path_eqs = find_path_eqs(alloc, schema, attributes, first, parts)?;
     schema.path_eqs = Seq::from_vec(path_eqs);
@@ -303,7 +312,8 @@ fn find_path_eqs(
     ensures schema { IsSchema schema.now }
     ensures accepted { IfOk result (λ _. path_eqs_fault schema.now attributes.now first parts.now ≡ None) }
     ensures made { IfOk result (λ made. made.items ≡ map (made_path_eq schema.now) parts.now) }
-    ensures refused { IfErr result (λ refusal. (refusal ≡ TheoryRefusal.Memory) ⊎ (path_eqs_fault schema.now attributes.now first parts.now ≡ Some refusal)) }
+    ensures refused { IfErr result (λ refusal. (refusal ≡ TheoryRefusal.Memory)
+        ⊎ (path_eqs_fault schema.now attributes.now first parts.now ≡ Some refusal)) }
 {
     schema.is_well_sorted();
     let names = declared_names(alloc, attributes)?;
@@ -321,7 +331,8 @@ fn complete_attributes(
     requires started { schema.old.obs_eqs ≡ [] }
     ensures accepted { OnOk result (attributes_fault schema.old first parts.now ≡ None) }
     ensures made { OnOk result (schema.new ≡ with_attributes schema.old parts.now) }
-    ensures refused { IfErr result (λ refusal. (refusal ≡ TheoryRefusal.Memory) ⊎ (attributes_fault schema.old first parts.now ≡ Some refusal)) }
+    ensures refused { IfErr result (λ refusal. (refusal ≡ TheoryRefusal.Memory)
+        ⊎ (attributes_fault schema.old first parts.now ≡ Some refusal)) }
 {
     schema.is_well_sorted();
     let (table, attributes) = add_attributes(alloc, schema, first, parts)?;
@@ -340,7 +351,8 @@ fn complete_observations(
     requires parts { first + length parts.now < 2 ^ 32 }
     ensures accepted { OnOk result (observations_fault schema.old first parts.now ≡ None) }
     ensures made { OnOk result (schema.new ≡ with_observations schema.old parts.now) }
-    ensures refused { IfErr result (λ refusal. (refusal ≡ TheoryRefusal.Memory) ⊎ (observations_fault schema.old first parts.now ≡ Some refusal)) }
+    ensures refused { IfErr result (λ refusal. (refusal ≡ TheoryRefusal.Memory)
+        ⊎ (observations_fault schema.old first parts.now ≡ Some refusal)) }
 {
     schema.is_well_sorted();
     let obs_eqs = add_observations(alloc, schema, first, parts)?;

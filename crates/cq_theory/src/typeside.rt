@@ -42,7 +42,12 @@ impl Model for Typeside {
 
     ghost use Rattle.cq_theory.specs.Typeside.{IsTypeside, constant_names, function_names};
 
-    ghost view = { λ t. record { types = t.types; constants = t.constants; functions = t.functions; open_type = t.open_type } };
+    ghost view = { λ t. record {
+      types = t.types;
+      constants = t.constants;
+      functions = t.functions;
+      open_type = t.open_type;
+    } };
 
     // Each table has the names of its list.
     ghost invariant = { λ t.
@@ -57,10 +62,12 @@ impl Typeside {
     /// The typeside that the parts give. Where parts break rules, the answer is the first such part with the least
     /// rule that it breaks, or want of memory.
     pub fn new(alloc: Global, parts: TypesideParts) -> Result<Typeside, TheoryRefusal>
-        requires { length parts.types + literals_count parts.literals + length parts.constants + length parts.functions < 2 ^ 32 }
+        requires { length parts.types + literals_count parts.literals + length parts.constants + length
+            parts.functions < 2 ^ 32 }
         ensures accepted { IfOk result (λ _. typeside_fault parts ≡ None) }
         ensures made { IfOk result (λ made. made ≡ typeside_made parts) }
-        ensures refused { IfErr result (λ refusal. (refusal ≡ TheoryRefusal.Memory) ⊎ (typeside_fault parts ≡ Some refusal)) }
+        ensures refused { IfErr result (λ refusal. (refusal ≡ TheoryRefusal.Memory)
+            ⊎ (typeside_fault parts ≡ Some refusal)) }
     {
         let TypesideParts {
             types,

@@ -1,7 +1,9 @@
 //! Texts of values.
 ghost use Rattle.std.specs.Prelude.{◌≡◌, ◌++◌, [], true, map, length, ◌<◌, IfOk, OnOk, slice_get};
 ghost use Rattle.std.specs.List.{list_all};
-ghost use Rattle.cq_theory.specs.ValueText.{value_text as text_of, is_named, is_named_con, con_text, constant_text, constant_name, function_name, quoted, escape, with_commas, null_text, application_text, is_word as is_word_text, is_word_byte as is_word_byte_of};
+ghost use Rattle.cq_theory.specs.ValueText.{value_text as text_of, is_named, is_named_con, con_text, constant_text};
+ghost use Rattle.cq_theory.specs.ValueText.{constant_name, function_name, quoted, escape, with_commas, null_text};
+ghost use Rattle.cq_theory.specs.ValueText.{application_text, is_word as is_word_text, is_word_byte as is_word_byte_of};
 
 use crate::constant::Con;
 use crate::typeside::Typeside;
@@ -52,7 +54,9 @@ pub fn push_application(
 ) -> Result<(), AllocError>
     requires known { function < length typeside.now.functions }
     requires named { list_all (is_named typeside.now) args.now ≡ true }
-    ensures { OnOk result (text.new.items ≡ text.old.items ++ application_text (function_name (slice_get typeside.now.functions function)) (map (text_of typeside.now) args.now)) }
+    ensures { OnOk result (text.new.items ≡ text.old.items
+        ++ application_text (function_name (slice_get typeside.now.functions function))
+        (map (text_of typeside.now) args.now)) }
 {
     push_function_name(typeside, function, text)?;
     text.extend_from_slice(b"(")?;
@@ -100,7 +104,8 @@ fn push_constant_name(
     text: &mut Vec<u8>,
 ) -> Result<(), AllocError>
     requires { constant < length typeside.now.constants }
-    ensures { OnOk result (text.new.items ≡ text.old.items ++ constant_text (constant_name (slice_get typeside.now.constants constant))) }
+    ensures { OnOk result (text.new.items ≡ text.old.items
+        ++ constant_text (constant_name (slice_get typeside.now.constants constant))) }
 {
     push_constant(
         typeside.name_of_constant(constant).as_str().as_bytes(),
@@ -115,7 +120,8 @@ fn push_function_name(
     text: &mut Vec<u8>,
 ) -> Result<(), AllocError>
     requires { function < length typeside.now.functions }
-    ensures { OnOk result (text.new.items ≡ text.old.items ++ function_name (slice_get typeside.now.functions function)) }
+    ensures { OnOk result (text.new.items ≡ text.old.items
+        ++ function_name (slice_get typeside.now.functions function)) }
 {
     let functions = typeside.functions.as_slice();
     text.extend_from_slice(functions[function as usize].name.as_str().as_bytes())?;

@@ -27,7 +27,8 @@ meanings_in j images = map (λ image. meaning_of j.tables j.assignment (term_of 
 pub record GoesFrom (transform : Transform) (i j : InstanceData) : Type 0 where
   pub schema : j.schema ≡ i.schema
   pub count : length transform.images ≡ length i.presentation.generators
-  pub sorts : (n : ℕ) (g : Name × Sort) (image : Image) → slice_get i.presentation.generators n ≡ Some g → slice_get transform.images n ≡ Some image
+  pub sorts : (n : ℕ) (g : Name × Sort) (image : Image) → slice_get i.presentation.generators n ≡ Some g
+      → slice_get transform.images n ≡ Some image
       → sort_of j.schema j.presentation.generators (term_of image) ≡ Some g.1
   pub holds : Holds i.schema i.presentation j.tables (meanings_in j transform.images)
   pub homomorphism : IsHomomorphism i.schema i.tables j.tables transform.rows transform.nulls

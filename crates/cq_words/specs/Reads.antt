@@ -1,5 +1,6 @@
 -- What the words ask for, by the matches of `clap` for the command.
-use Rattle.std.specs.Prelude.{◌&&◌, ◌^◌, ℕ, Bool, List, [], ◌∷◌, Option, Some, None, codes, length, nat_le, nat_lt, if◌then◌else◌, option_map, option_and_then}
+use Rattle.std.specs.Prelude.{◌&&◌, ◌^◌, ℕ, Bool, List, [], ◌∷◌, Option, Some, None, codes, length, nat_le, nat_lt, if◌then◌else◌}
+use Rattle.std.specs.Prelude.{option_map, option_and_then}
 use Rattle.std.specs.List.{list_all}
 use Rattle.std.specs.Char.{digit_value}
 use Rattle.std.specs.Str.{bytes_eq}
@@ -58,7 +59,8 @@ explain_with (Some file) (Some instance) (Some left) (Some right) (Some depth) =
 explain_with _ _ _ _ _ = None
 
 abbrev pub explain_in : List Row → Option Ask
-explain_in rows = explain_with (first_of (codes "FILE") rows) (first_of (codes "INSTANCE") rows) (first_of (codes "LEFT") rows) (first_of (codes "RIGHT") rows) (depth_in rows)
+explain_in rows = explain_with (first_of (codes "FILE") rows) (first_of (codes "INSTANCE") rows) (first_of (codes "LEFT") rows)
+    (first_of (codes "RIGHT") rows) (depth_in rows)
 
 abbrev pub asked_by : Text → List Row → Option Ask
 asked_by name rows =

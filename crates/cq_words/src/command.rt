@@ -3,7 +3,8 @@
 ghost use Rattle.std.specs.Prelude.{◌≡◌, IfOk, false};
 ghost use Rattle.clap.specs.Words.{app_of, rule_of};
 ghost use Rattle.clap.specs.declared.builder.command.Command.TheViews.{out-Command as fields_of};
-ghost use Rattle.cq_words.specs.Line.{depth_rule, example_app, explain_app, explained_app, file_rule, instance_rule, left_rule, only_rule, right_rule, run_app, size_rule, the_command, two_forms};
+ghost use Rattle.cq_words.specs.Line.{depth_rule, example_app, explain_app, explained_app, file_rule, instance_rule};
+ghost use Rattle.cq_words.specs.Line.{left_rule, only_rule, right_rule, run_app, size_rule, the_command, two_forms};
 
 use clap::{Arg, Command, value_parser};
 use std::alloc::{AllocError, Global};

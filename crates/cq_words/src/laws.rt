@@ -9,8 +9,10 @@ ghost use Rattle.cq_words.specs.Spaced.{words_in};
 /// Files with their options. Options stand before or after the file, and a word of any other kind is a file.
 pub fn runs_by_example()
     ensures plain { reads (words_in (codes "run p.cql")) ≡ Some (run (codes "p.cql") 16 None) }
-    ensures after { reads (words_in (codes "run p.cql --depth=64 --only cql")) ≡ Some (run (codes "p.cql") 64 (Some Cql)) }
-    ensures before { reads (words_in (codes "run --depth 5 --only=csv p.cql")) ≡ Some (run (codes "p.cql") 5 (Some Csv)) }
+    ensures after { reads (words_in (codes "run p.cql --depth=64 --only cql"))
+        ≡ Some (run (codes "p.cql") 64 (Some Cql)) }
+    ensures before { reads (words_in (codes "run --depth 5 --only=csv p.cql"))
+        ≡ Some (run (codes "p.cql") 5 (Some Csv)) }
     ensures dash { reads (words_in (codes "run -")) ≡ Some (run (codes "-") 16 None) }
     ensures empty { reads (words_in (codes "run ")) ≡ Some (run [] 16 None) }
     ensures form { reads (words_in (codes "run run")) ≡ Some (run (codes "run") 16 None) }
@@ -74,10 +76,14 @@ pub fn examples_by_example()
 
 /// Terms to explain.
 pub fn explanations_by_example()
-    ensures plain { reads (words_in (codes "explain p.cql I a b")) ≡ Some (explain (codes "p.cql") (codes "I") (codes "a") (codes "b") 16) }
-    ensures deep { reads (words_in (codes "explain p.cql --depth 3 I a b")) ≡ Some (explain (codes "p.cql") (codes "I") (codes "a") (codes "b") 3) }
-    ensures empty { reads (words_in (codes "explain p.cql I  b")) ≡ Some (explain (codes "p.cql") (codes "I") [] (codes "b") 16) }
-    ensures dashes { reads (words_in (codes "explain p.cql I -- -a -b")) ≡ Some (explain (codes "p.cql") (codes "I") (codes "-a") (codes "-b") 16) }
+    ensures plain { reads (words_in (codes "explain p.cql I a b"))
+        ≡ Some (explain (codes "p.cql") (codes "I") (codes "a") (codes "b") 16) }
+    ensures deep { reads (words_in (codes "explain p.cql --depth 3 I a b"))
+        ≡ Some (explain (codes "p.cql") (codes "I") (codes "a") (codes "b") 3) }
+    ensures empty { reads (words_in (codes "explain p.cql I  b"))
+        ≡ Some (explain (codes "p.cql") (codes "I") [] (codes "b") 16) }
+    ensures dashes { reads (words_in (codes "explain p.cql I -- -a -b"))
+        ≡ Some (explain (codes "p.cql") (codes "I") (codes "-a") (codes "-b") 16) }
     ensures dash { reads (words_in (codes "explain p.cql I a -b")) ≡ None }
     ensures few { reads (words_in (codes "explain p.cql I a")) ≡ None }
     ensures many { reads (words_in (codes "explain p.cql I a b c")) ≡ None }

@@ -1,5 +1,6 @@
 //! The equations of rows: of each cell, and of each foreign key.
-ghost use Rattle.std.specs.Prelude.{ℕ, ◌≡◌, ◌+◌, ◌++◌, ◌∷◌, ◌<◌, ◌^◌, [], IfOk, OnOk, All, length, map, slice_index, slice_index_or};
+ghost use Rattle.std.specs.Prelude.{ℕ, ◌≡◌, ◌+◌, ◌++◌, ◌∷◌, ◌<◌, ◌^◌, [], IfOk, OnOk, All, length, map, slice_index};
+ghost use Rattle.std.specs.Prelude.{slice_index_or};
 ghost use Rattle.std.specs.List.{flat_map};
 ghost use Rattle.cq_theory.specs.Canonical.{below};
 ghost use Rattle.cq_model.specs.Numbers as made_of;
@@ -74,7 +75,8 @@ fn push_keys(
     made: &mut Vec<Equation>,
 ) -> Result<(), AllocError>
     requires { All (λ k. made_of.target_generator sheet.now numbers.now k row < 2 ^ 32) keys.now }
-    ensures { OnOk result (made.new.items ≡ made.old.items ++ map (made_of.key_made sheet.now numbers.now generator row) keys.now) }
+    ensures { OnOk result (made.new.items ≡ made.old.items
+        ++ map (made_of.key_made sheet.now numbers.now generator row) keys.now) }
 {
     for key in keys {
         made.push(key_equation(alloc, sheet, numbers, generator, row, *key)?)?;
@@ -116,7 +118,8 @@ fn push_cells(
     made: &mut Vec<Equation>,
 ) -> Result<(), AllocError>
     requires { numbers.now.first_null + numbers.now.nulls < 2 ^ 32 }
-    ensures { OnOk result (made.new.items ≡ made.old.items ++ map (made_of.cell_made sheet.now numbers.now generator row) attributes.now) }
+    ensures { OnOk result (made.new.items ≡ made.old.items
+        ++ map (made_of.cell_made sheet.now numbers.now generator row) attributes.now) }
 {
     for attribute in attributes {
         made.push(cell_equation(alloc, sheet, numbers, generator, row, *attribute)?)?;

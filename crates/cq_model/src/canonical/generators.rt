@@ -1,5 +1,6 @@
 //! The generators of rows and nulls, as terms, with their names and with what they stand for.
-ghost use Rattle.std.specs.Prelude.{ℕ, ◌≡◌, ◌+◌, ◌++◌, ◌∷◌, ◌<◌, ◌≤◌, ◌^◌, [], IfOk, OnOk, length, map, codes, decimal, replicate, slice_index, sum};
+ghost use Rattle.std.specs.Prelude.{ℕ, ◌≡◌, ◌+◌, ◌++◌, ◌∷◌, ◌<◌, ◌≤◌, ◌^◌, [], IfOk, OnOk, length, map, codes, decimal};
+ghost use Rattle.std.specs.Prelude.{replicate, slice_index, sum};
 ghost use Rattle.std.specs.List.{flat_map};
 ghost use Rattle.cq_theory.specs.declared.presentation.Sort.TheVariants.{Plain, Entity};
 ghost use Rattle.cq_theory.specs.declared.value.Value.TheVariants as value_of;
@@ -46,7 +47,8 @@ fn push_entity_sorts(counts: &[u32], entity: usize, made: &mut Vec<Sort>) -> Res
 /// Appends the sorts of all rows.
 fn push_all_sorts(counts: &[u32], made: &mut Vec<Sort>) -> Result<(), AllocError>
     requires { length counts.now < 2 ^ 32 }
-    ensures { OnOk result (made.new.items ≡ made.old.items ++ flat_map (made_of.row_sorts counts.now) (below (length counts.now))) }
+    ensures { OnOk result (made.new.items ≡ made.old.items
+        ++ flat_map (made_of.row_sorts counts.now) (below (length counts.now))) }
 {
     for entity in 0..counts.len() {
         push_entity_sorts(counts, entity, made)?;
@@ -171,7 +173,8 @@ fn push_row_standings(count: u32, made: &mut Vec<Standing>) -> Result<(), AllocE
 
 /// Appends what the generators of all rows stand for.
 fn push_all_standings(counts: &[u32], made: &mut Vec<Standing>) -> Result<(), AllocError>
-    ensures { OnOk result (map meaning made.new.items ≡ map meaning made.old.items ++ flat_map (λ entity. map AtRow (below (slice_index counts.now entity))) (below (length counts.now))) }
+    ensures { OnOk result (map meaning made.new.items ≡ map meaning made.old.items
+        ++ flat_map (λ entity. map AtRow (below (slice_index counts.now entity))) (below (length counts.now))) }
 {
     for entity in 0..counts.len() {
         push_row_standings(number_at(counts, entity), made)?;
@@ -181,7 +184,8 @@ fn push_all_standings(counts: &[u32], made: &mut Vec<Standing>) -> Result<(), Al
 
 /// Appends what the generators of that many nulls stand for.
 fn push_null_standings(nulls: u32, made: &mut Vec<Standing>) -> Result<(), AllocError>
-    ensures { OnOk result (map meaning made.new.items ≡ map meaning made.old.items ++ map (λ n. AtValue (value_of.Null n)) (below nulls)) }
+    ensures { OnOk result (map meaning made.new.items ≡ map meaning made.old.items
+        ++ map (λ n. AtValue (value_of.Null n)) (below nulls)) }
 {
     for label in 0..nulls {
         made.push(Standing::Value(Value::Null(label as u64)))?;

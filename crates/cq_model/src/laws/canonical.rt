@@ -12,7 +12,11 @@ ghost use Rattle.cq_model.specs.Given.{IsModel, size_of};
 /// generator of each row stands for the row. No lesser term than this generator names the row. Within the limits on
 /// terms and on the number of generators the presentation is one over the schema.
 pub fn canonical_presents()
-    ensures initial { (S : Schema) (M : Tables) → IsSchema S → IsWellFormed S M → Satisfies S M → Initial S (canonical S M) M (canonical_assignment S M) }
-    ensures least { (S : Schema) (M : Tables) → IsSchema S → IsWellFormed S M → (entity row : ℕ) → row < count_of M entity → IsLeastName S (canonical S M) M (canonical_assignment S M) entity row (row_term S M entity row) }
-    ensures presentation { (S : Schema) (M : Tables) → IsSchema S → IsModel S M → size_of M ≤ 16000000 → IsPresentation S (canonical S M) }
+    ensures initial { (S : Schema) (M : Tables) → IsSchema S → IsWellFormed S M → Satisfies S M
+        → Initial S (canonical S M) M (canonical_assignment S M) }
+    ensures least { (S : Schema) (M : Tables) → IsSchema S → IsWellFormed S M → (entity row : ℕ)
+        → row < count_of M entity → IsLeastName S (canonical S M) M (canonical_assignment S M) entity row
+        (row_term S M entity row) }
+    ensures presentation { (S : Schema) (M : Tables) → IsSchema S → IsModel S M → size_of M ≤ 16000000
+        → IsPresentation S (canonical S M) }
 {}

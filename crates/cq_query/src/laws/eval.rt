@@ -11,7 +11,8 @@ ghost use Rattle.cq_query.specs.Leading.{IsAnswer, led};
 /// At an answer for an entity, over tables that satisfy the source, the frozen presentation of the entity holds.
 pub fn answers_hold()
     ensures { (Q : Query) (M : Tables) → IsQuery Q → IsWellFormed Q.source M → Satisfies Q.source M
-        → (entity : ℕ) (rows : List ℕ) → IsAnswer Q M entity rows → Holds Q.source (frozen Q entity) M (stands Q M rows) }
+        → (entity : ℕ) (rows : List ℕ) → IsAnswer Q M entity rows
+        → Holds Q.source (frozen Q entity) M (stands Q M rows) }
 {}
 
 /// From an answer, a foreign key of a sound query leads to an answer for its target.
@@ -34,6 +35,7 @@ pub fn answers_stand_once()
 pub fn eval_makes_models()
     ensures well_formed { (Q : Query) (M N : Tables) → IsQuery Q → IsWellFormed Q.source M → Satisfies Q.source M
         → IsEval Q M N → IsWellFormed Q.target N }
-    ensures satisfies { (Q : Query) (M N : Tables) → IsQuery Q → Sound Q → IsWellFormed Q.source M → Satisfies Q.source M
+    ensures satisfies { (Q : Query) (M N : Tables) → IsQuery Q → Sound Q → IsWellFormed Q.source M
+        → Satisfies Q.source M
         → IsEval Q M N → Satisfies Q.target N }
 {}

@@ -83,7 +83,11 @@ fn is_keyed(schema: &Schema) -> bool
 
 /// Two rows of the first entity, both with the one row of the second, and with a constant and a null.
 fn keyed_sheet(alloc: Global) -> Result<Sheet, AllocError>
-    ensures { IfOk result (λ made. made ≡ record { counts = 2 ∷ 1 ∷ []; keys = (0 ∷ 0 ∷ []) ∷ []; cells = (value_of.Const (Named 0) ∷ value_of.Null 0 ∷ []) ∷ [] }) }
+    ensures { IfOk result (λ made. made ≡ record {
+      counts = 2 ∷ 1 ∷ [];
+      keys = (0 ∷ 0 ∷ []) ∷ [];
+      cells = (value_of.Const (Named 0) ∷ value_of.Null 0 ∷ []) ∷ [];
+    }) }
 {
     let column = Seq::from_vec(vec![in alloc; 0, 0]?);
     let cells = Seq::from_vec(vec![in alloc; Value::Const(Con::Named(0)), Value::Null(0)]?);
@@ -319,7 +323,8 @@ fn has_unary(functions: &[Fun], number: usize, sort: u32) -> bool
 /// One entity with one attribute, of the second type, which has a constant and a function of one argument.
 fn is_one(schema: &Schema) -> bool
     ensures constant { result ≡ true → option_map (λ c. c.1) (slice_get schema.now.typeside.constants 1) ≡ Some 1 }
-    ensures args { result ≡ true → option_map (λ f. f.args) (slice_get schema.now.typeside.functions 0) ≡ Some (1 ∷ []) }
+    ensures args { result ≡ true → option_map (λ f. f.args) (slice_get schema.now.typeside.functions 0)
+        ≡ Some (1 ∷ []) }
     ensures gives { result ≡ true → option_map (λ f. f.result) (slice_get schema.now.typeside.functions 0) ≡ Some 1 }
     ensures entities { result ≡ true → length schema.now.entities ≡ 1 }
     ensures keys { result ≡ true → length schema.now.keys ≡ 0 }
@@ -343,7 +348,11 @@ fn applied(alloc: Global, value: Value) -> Result<Value, AllocError>
 /// The second constant under the first function, so many times: a value of the second type, where the function goes
 /// from that type to itself.
 fn tower(alloc: Global, levels: usize) -> Result<Value, AllocError>
-    ensures { IfOk result (λ made. (S : SchemaData) (M : Tables) → option_map (λ c. c.1) (slice_get S.typeside.constants 1) ≡ Some 1 → option_map (λ f. f.args) (slice_get S.typeside.functions 0) ≡ Some (1 ∷ []) → option_map (λ f. f.result) (slice_get S.typeside.functions 0) ≡ Some 1 → M.algebra.entries ≡ [] → (value_type S M.algebra.nulls made ≡ Some 1) × (normal_of M made ≡ made)) }
+    ensures { IfOk result (λ made. (S : SchemaData) (M : Tables)
+        → option_map (λ c. c.1) (slice_get S.typeside.constants 1) ≡ Some 1
+        → option_map (λ f. f.args) (slice_get S.typeside.functions 0) ≡ Some (1 ∷ [])
+        → option_map (λ f. f.result) (slice_get S.typeside.functions 0) ≡ Some 1 → M.algebra.entries ≡ []
+        → (value_type S M.algebra.nulls made ≡ Some 1) × (normal_of M made ≡ made)) }
 {
     let mut value = Value::Const(Con::Named(1));
     for _level in 0..levels {

@@ -137,7 +137,11 @@ fn is_keyed(schema: &Schema) -> bool
 
 /// Two rows of the first entity, both with the one row of the second, and with a constant and a null.
 fn keyed_sheet(alloc: Global) -> Result<Sheet, AllocError>
-    ensures { IfOk result (λ made. made ≡ record { counts = 2 ∷ 1 ∷ []; keys = (0 ∷ 0 ∷ []) ∷ []; cells = (value_of.Const (con.Named 0) ∷ value_of.Null 0 ∷ []) ∷ [] }) }
+    ensures { IfOk result (λ made. made ≡ record {
+      counts = 2 ∷ 1 ∷ [];
+      keys = (0 ∷ 0 ∷ []) ∷ [];
+      cells = (value_of.Const (con.Named 0) ∷ value_of.Null 0 ∷ []) ∷ [];
+    }) }
 {
     let column = Seq::from_vec(vec![in alloc; 0, 0]?);
     let cells = Seq::from_vec(vec![in alloc; Value::Const(Con::Named(0)), Value::Null(0)]?);

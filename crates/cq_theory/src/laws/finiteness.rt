@@ -9,5 +9,6 @@ ghost use Rattle.cq_theory.specs.Finiteness.{IsFinite};
 
 /// A presentation closes at some depth exactly if it has finitely many entity terms up to derivable equality.
 pub fn closing_is_finiteness()
-    ensures { (S : Schema) (P : Presentation) → IsSchema S → IsPresentation S P → ((k : ℕ) × Closes S P k) ↔ IsFinite S P }
+    ensures { (S : Schema) (P : Presentation) → IsSchema S → IsPresentation S P
+        → ((k : ℕ) × Closes S P k) ↔ IsFinite S P }
 {}

@@ -2,7 +2,8 @@
 ghost use Rattle.std.specs.Prelude.{◌≡◌, ◌∷◌, [], IfOk, IfErr, IfSome, IfNone, Some, map, slice_get};
 ghost use Rattle.cq_theory.specs.EntTerm.{extended};
 ghost use Rattle.cq_theory.specs.Resolve.{word_constant, symbol_of, term_fault as fault_of_term};
-ghost use Rattle.cq_theory.specs.Resolved.{resolved, type_term_in, entity_term_in, first_entity_term, generator_term, constant_term, word_term, symbol_term};
+ghost use Rattle.cq_theory.specs.Resolved.{resolved, type_term_in, entity_term_in, first_entity_term, generator_term};
+ghost use Rattle.cq_theory.specs.Resolved.{constant_term, word_term, symbol_term};
 
 use crate::constant::Con;
 use crate::lookup::faults::term_fault;
@@ -24,7 +25,8 @@ pub fn resolve(
     // Where the term breaks a rule, the least such rule is answered.
     ensures broken { IfSome (fault_of_term schema.now names.now sorts.now raw.now) (λ rule. result ≡ Err rule) }
     ensures term { IfOk result (λ term. term ≡ resolved schema.now names.now sorts.now raw.now) }
-    ensures memory { IfNone (fault_of_term schema.now names.now sorts.now raw.now) (IfErr result (λ refusal. refusal ≡ TermRefusal.Memory)) }
+    ensures memory { IfNone (fault_of_term schema.now names.now sorts.now raw.now)
+        (IfErr result (λ refusal. refusal ≡ TermRefusal.Memory)) }
 {
     match term_fault(schema, names, sorts, raw) {
         Some(rule) => Err(rule),
@@ -142,7 +144,8 @@ fn build_application(
     name: &Name,
     args: &[Raw],
 ) -> Result<Term, AllocError>
-    ensures { IfOk result (λ term. term ≡ symbol_term (symbol_of schema.now name.now) (map (resolved schema.now names.now sorts.now) args.now)) }
+    ensures { IfOk result (λ term. term ≡ symbol_term (symbol_of schema.now name.now)
+        (map (resolved schema.now names.now sorts.now) args.now)) }
 {
     match schema.find_symbol(name) {
         Some(Symbol::Function(function)) => {
@@ -169,7 +172,8 @@ fn build_args(
     sorts: &[Sort],
     args: &[Raw],
 ) -> Result<Vec<TypeTerm>, AllocError>
-    ensures { IfOk result (λ terms. terms.items ≡ map type_term_in (map (resolved schema.now names.now sorts.now) args.now)) }
+    ensures { IfOk result (λ terms. terms.items ≡ map type_term_in
+        (map (resolved schema.now names.now sorts.now) args.now)) }
 {
     let mut terms = Vec::new(alloc);
     for arg in args {

@@ -9,7 +9,8 @@ use cq_base::{Name, Names};
 pub fn declare(table: &mut Names, part: u32, name: &Name) -> Result<(), TheoryRefusal>
     requires { length table.old < 2 ^ 32 - 1 }
     ensures ok { IfOk result (λ _. (number_of table.old name.now ≡ None) × (table.new ≡ table.old ++ name.now ∷ [])) }
-    ensures refused { IfErr result (λ refusal. (refusal ≡ TheoryRefusal.Memory) ⊎ ((refusal ≡ TheoryRefusal.Duplicate part) × (is_some (number_of table.old name.now) ≡ true))) }
+    ensures refused { IfErr result (λ refusal. (refusal ≡ TheoryRefusal.Memory)
+        ⊎ ((refusal ≡ TheoryRefusal.Duplicate part) × (is_some (number_of table.old name.now) ≡ true))) }
 {
     if table.find(name).is_some() {
         return Err(TheoryRefusal::Duplicate(part));

@@ -1,6 +1,7 @@
 //! The first fault of terms and equations as they are written.
 ghost use Rattle.std.specs.Prelude.{◌≡◌, ◌+◌, ◌<◌, ◌≤◌, ◌^◌, MatchOption, Some, length, sum, map};
-ghost use Rattle.cq_theory.specs.Resolve.{raw_symbols, is_too_large as too_large, term_fault as fault_of_term, equation_fault as fault_of_equation, first_fault, in_part, are_of_one_sort};
+ghost use Rattle.cq_theory.specs.Resolve.{raw_symbols, is_too_large as too_large, term_fault as fault_of_term};
+ghost use Rattle.cq_theory.specs.Resolve.{equation_fault as fault_of_equation, first_fault, in_part, are_of_one_sort};
 
 use crate::lookup::passes::{has_reserved, has_unknown, has_wrong_count, sort_of_raw};
 use crate::lookup::{TermRefusal, TheoryRefusal};

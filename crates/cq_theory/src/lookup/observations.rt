@@ -1,7 +1,12 @@
 //! The observation equations of a schema's parts.
 ghost use Rattle.std.specs.Prelude.{◌≡◌, ◌+◌, ◌<◌, ◌^◌, ◌⊎◌, ◌∷◌, [], IfOk, IfErr, Some, None, length, map, option_map};
 ghost use Rattle.cq_theory.specs.Resolve.{or_else, first_fault, in_part};
-ghost use Rattle.cq_theory.specs.SchemaParts.{source_of as entity_from, is_variable as variable_itself, is_variable_alone as variable_alone, source_at, first_found, applied_source, variable_entity as entity_of_variable, is_unknown_entity as unknown_entity, are_of_one_type, have_one_type as one_type, observation_fault_over, observation_fault, made_observation_over, made_observation};
+ghost use Rattle.cq_theory.specs.SchemaParts.{source_of as entity_from, is_variable as variable_itself};
+ghost use Rattle.cq_theory.specs.SchemaParts.{is_variable_alone as variable_alone, source_at, first_found};
+ghost use Rattle.cq_theory.specs.SchemaParts.{applied_source, variable_entity as entity_of_variable};
+ghost use Rattle.cq_theory.specs.SchemaParts.{is_unknown_entity as unknown_entity, are_of_one_type};
+ghost use Rattle.cq_theory.specs.SchemaParts.{have_one_type as one_type, observation_fault_over, observation_fault};
+ghost use Rattle.cq_theory.specs.SchemaParts.{made_observation_over, made_observation};
 
 use crate::lookup::builds::{build, type_term};
 use crate::lookup::faults::{in_part_of, is_too_large};
@@ -78,7 +83,8 @@ fn find_source(schema: &Schema, variable: &Name, raw: &Raw) -> Option<u32>
 
 #[cycle(source)]
 fn find_source_in(schema: &Schema, variable: &Name, name: &Name, args: &[Raw]) -> Option<u32>
-    ensures { result ≡ or_else (source_at schema.now variable.now name.now args.now) (first_found (map (applied_source schema.now variable.now) args.now)) }
+    ensures { result ≡ or_else (source_at schema.now variable.now name.now args.now)
+        (first_found (map (applied_source schema.now variable.now) args.now)) }
 {
     if let Some(source) = find_source_at(schema, variable, name, args) {
         return Some(source);
@@ -102,7 +108,8 @@ fn variable_entity(schema: &Schema, part: &ObsPart) -> Option<u32>
 }
 
 fn guessed_entity(schema: &Schema, variable: &Name, left: &Raw, right: &Raw) -> Option<u32>
-    ensures { result ≡ or_else (applied_source schema.now variable.now left.now) (applied_source schema.now variable.now right.now) }
+    ensures { result ≡ or_else (applied_source schema.now variable.now left.now)
+        (applied_source schema.now variable.now right.now) }
 {
     match find_source(schema, variable, left) {
         Some(source) => Some(source),
@@ -207,8 +214,10 @@ fn add_over(
     number: u32,
     part: &ObsPart,
 ) -> Result<ObsEq, TheoryRefusal>
-    ensures ok { IfOk result (λ made. (observation_fault_over schema.now names.now part.now ≡ None) × (made ≡ made_observation_over schema.now names.now part.now)) }
-    ensures refused { IfErr result (λ refusal. (refusal ≡ TheoryRefusal.Memory) ⊎ (option_map (in_part number) (observation_fault_over schema.now names.now part.now) ≡ Some refusal)) }
+    ensures ok { IfOk result (λ made. (observation_fault_over schema.now names.now part.now ≡ None)
+        × (made ≡ made_observation_over schema.now names.now part.now)) }
+    ensures refused { IfErr result (λ refusal. (refusal ≡ TheoryRefusal.Memory)
+        ⊎ (option_map (in_part number) (observation_fault_over schema.now names.now part.now) ≡ Some refusal)) }
 {
     if let Some(rule) = fault_over(schema, names, part) {
         return Err(in_part_of(number, rule));
@@ -241,8 +250,10 @@ fn add_observation(
     number: u32,
     part: &ObsPart,
 ) -> Result<ObsEq, TheoryRefusal>
-    ensures ok { IfOk result (λ made. (observation_fault schema.now part.now ≡ None) × (made ≡ made_observation schema.now part.now)) }
-    ensures refused { IfErr result (λ refusal. (refusal ≡ TheoryRefusal.Memory) ⊎ (option_map (in_part number) (observation_fault schema.now part.now) ≡ Some refusal)) }
+    ensures ok { IfOk result (λ made. (observation_fault schema.now part.now ≡ None)
+        × (made ≡ made_observation schema.now part.now)) }
+    ensures refused { IfErr result (λ refusal. (refusal ≡ TheoryRefusal.Memory)
+        ⊎ (option_map (in_part number) (observation_fault schema.now part.now) ≡ Some refusal)) }
 {
     let names = table_of(alloc, &part.variable)?;
     add_over(alloc, schema, &names, number, part)
@@ -258,7 +269,8 @@ pub(crate) fn add_observations(
     requires { first + length parts.now < 2 ^ 32 }
     ensures accepted { IfOk result (λ _. first_fault (observation_fault schema.now) first parts.now ≡ None) }
     ensures made { IfOk result (λ made. made.items ≡ map (made_observation schema.now) parts.now) }
-    ensures refused { IfErr result (λ refusal. (refusal ≡ TheoryRefusal.Memory) ⊎ (first_fault (observation_fault schema.now) first parts.now ≡ Some refusal)) }
+    ensures refused { IfErr result (λ refusal. (refusal ≡ TheoryRefusal.Memory)
+        ⊎ (first_fault (observation_fault schema.now) first parts.now ≡ Some refusal)) }
 {
     let mut made = Vec::new(alloc);
     let mut number = first;

@@ -5,7 +5,8 @@ ghost use Rattle.cq_base.specs.Names.{AreDistinct};
 ghost use Rattle.cq_theory.specs.Presentation.{IsPresentation};
 ghost use Rattle.cq_theory.specs.Resolve.{sort_named};
 ghost use Rattle.cq_theory.specs.Resolved.{resolved};
-ghost use Rattle.cq_theory.specs.Parts.{presentation_fault, presented, equation_of, sort_or_first, generator_fault, first_generator_fault, generator_names, generator_sorts};
+ghost use Rattle.cq_theory.specs.Parts.{presentation_fault, presented, equation_of, sort_or_first, generator_fault};
+ghost use Rattle.cq_theory.specs.Parts.{first_generator_fault, generator_names, generator_sorts};
 
 use crate::constant::Con;
 use crate::lookup::TheoryRefusal;
@@ -30,8 +31,10 @@ fn add_generator(
     sort: &Name,
 ) -> Result<Sort, TheoryRefusal>
     requires { length names.old < 2 ^ 32 - 1 }
-    ensures ok { IfOk result (λ found. (generator_fault schema.now names.old part (name.now, sort.now) ≡ None) × (names.new ≡ names.old ++ name.now ∷ []) × (sort_named schema.now sort.now ≡ Some found)) }
-    ensures refused { IfErr result (λ refusal. (refusal ≡ TheoryRefusal.Memory) ⊎ (generator_fault schema.now names.old part (name.now, sort.now) ≡ Some refusal)) }
+    ensures ok { IfOk result (λ found. (generator_fault schema.now names.old part (name.now, sort.now) ≡ None)
+        × (names.new ≡ names.old ++ name.now ∷ []) × (sort_named schema.now sort.now ≡ Some found)) }
+    ensures refused { IfErr result (λ refusal. (refusal ≡ TheoryRefusal.Memory)
+        ⊎ (generator_fault schema.now names.old part (name.now, sort.now) ≡ Some refusal)) }
 {
     if names.find(name).is_some() {
         return Err(TheoryRefusal::Duplicate(part));
@@ -59,8 +62,10 @@ pub(crate) fn add_generators(
 ) -> Result<(Names, Vec<Sort>), TheoryRefusal>
     requires { length parts.now < 2 ^ 32 }
     ensures accepted { IfOk result (λ _. first_generator_fault schema.now [] 0 parts.now ≡ None) }
-    ensures made { IfOk result (λ made. (made.0 ≡ generator_names parts.now) × (made.1.items ≡ generator_sorts schema.now parts.now)) }
-    ensures refused { IfErr result (λ refusal. (refusal ≡ TheoryRefusal.Memory) ⊎ (first_generator_fault schema.now [] 0 parts.now ≡ Some refusal)) }
+    ensures made { IfOk result (λ made. (made.0 ≡ generator_names parts.now)
+        × (made.1.items ≡ generator_sorts schema.now parts.now)) }
+    ensures refused { IfErr result (λ refusal. (refusal ≡ TheoryRefusal.Memory)
+        ⊎ (first_generator_fault schema.now [] 0 parts.now ≡ Some refusal)) }
 {
     let mut names = Names::new(alloc);
     let mut sorts = Vec::new(alloc);
@@ -88,7 +93,8 @@ impl Presentation {
         ensures made { IfOk result (λ made. made ≡ presented schema.now parts.generators parts.equations) }
         ensures presentation { IfOk result (λ made. IsPresentation schema.now made) }
         ensures distinct { IfOk result (λ made. AreDistinct (map (λ generator. generator.0) made.generators)) }
-        ensures refused { IfErr result (λ refusal. (refusal ≡ TheoryRefusal.Memory) ⊎ (presentation_fault schema.now parts.generators parts.equations ≡ Some refusal)) }
+        ensures refused { IfErr result (λ refusal. (refusal ≡ TheoryRefusal.Memory)
+            ⊎ (presentation_fault schema.now parts.generators parts.equations ≡ Some refusal)) }
     {
         let generators = parts.generators.as_slice();
         let equations = parts.equations.as_slice();
@@ -167,7 +173,8 @@ fn build_generators(
     schema: &Schema,
     generators: &[(Name, Name)],
 ) -> Result<Vec<(Name, Sort)>, AllocError>
-    ensures { IfOk result (λ made. made.items ≡ map (λ part. (part.0, sort_or_first (sort_named schema.now part.1))) generators.now) }
+    ensures { IfOk result (λ made. made.items ≡ map (λ part. (part.0, sort_or_first (sort_named schema.now part.1)))
+        generators.now) }
 {
     let mut made = Vec::new(alloc);
     for generator in generators {
@@ -198,7 +205,9 @@ fn build_equations(
     sorts: &[Sort],
     equations: &[(Raw, Raw)],
 ) -> Result<Vec<Equation>, AllocError>
-    ensures { IfOk result (λ made. made.items ≡ map (λ e. equation_of (resolved schema.now names.now sorts.now e.0) (resolved schema.now names.now sorts.now e.1)) equations.now) }
+    ensures { IfOk result (λ made. made.items ≡ map
+        (λ e. equation_of (resolved schema.now names.now sorts.now e.0) (resolved schema.now names.now sorts.now e.1))
+        equations.now) }
 {
     let mut made = Vec::new(alloc);
     for equation in equations {

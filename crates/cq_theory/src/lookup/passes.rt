@@ -2,7 +2,11 @@
 ghost use Rattle.std.specs.Prelude.{◌≡◌, ◌||◌, is_none, map, length, IfSome, Some};
 ghost use Rattle.std.specs.List.{list_any};
 ghost use Rattle.cq_theory.specs.Sorts.{followed};
-ghost use Rattle.cq_theory.specs.Resolve.{constant_of, text_constant, symbol_of, has_unknown as unknown_in, has_wrong_count as wrong_count_in, has_reserved as reserved_in, takes_another_count, IsSymbol, raw_sort as raw_sort_of, constant_sort, text_sort, word_sort, symbol_sort, is_plain_of, are_plain_of, entity_in, type_in, only};
+ghost use Rattle.cq_theory.specs.Resolve.{constant_of, text_constant, symbol_of, has_unknown as unknown_in};
+ghost use Rattle.cq_theory.specs.Resolve.{has_wrong_count as wrong_count_in, has_reserved as reserved_in};
+ghost use Rattle.cq_theory.specs.Resolve.{takes_another_count, IsSymbol, raw_sort as raw_sort_of, constant_sort};
+ghost use Rattle.cq_theory.specs.Resolve.{text_sort, word_sort, symbol_sort, is_plain_of, are_plain_of, entity_in};
+ghost use Rattle.cq_theory.specs.Resolve.{type_in, only};
 
 use crate::constant::is_reserved;
 use crate::lookup::Symbol;
@@ -34,7 +38,8 @@ fn is_unknown_text(schema: &Schema, text: &Name) -> bool
 
 #[cycle(unknown)]
 fn has_unknown_part(schema: &Schema, names: &Names, name: &Name, args: &[Raw]) -> bool
-    ensures { result ≡ (is_none (symbol_of schema.now name.now) || list_any (λ b. b) (map (unknown_in schema.now names.now) args.now)) }
+    ensures { result ≡ (is_none (symbol_of schema.now name.now)
+        || list_any (λ b. b) (map (unknown_in schema.now names.now) args.now)) }
 {
     if schema.find_symbol(name).is_none() {
         return true;
@@ -61,7 +66,9 @@ pub fn has_wrong_count(schema: &Schema, raw: &Raw) -> bool
 
 #[cycle(count)]
 fn has_wrong_count_part(schema: &Schema, name: &Name, args: &[Raw]) -> bool
-    ensures { result ≡ (takes_another_count schema.now (symbol_of schema.now name.now) (length (map (wrong_count_in schema.now) args.now)) || list_any (λ b. b) (map (wrong_count_in schema.now) args.now)) }
+    ensures { result ≡ (takes_another_count schema.now (symbol_of schema.now name.now)
+        (length (map (wrong_count_in schema.now) args.now))
+        || list_any (λ b. b) (map (wrong_count_in schema.now) args.now)) }
 {
     if takes_other_count(schema, schema.find_symbol(name), args.len()) {
         return true;
@@ -211,7 +218,8 @@ fn sort_of_application(
     name: &Name,
     args: &[Raw],
 ) -> Option<Sort>
-    ensures { result ≡ symbol_sort schema.now (symbol_of schema.now name.now) (map (raw_sort_of schema.now names.now sorts.now) args.now) }
+    ensures { result ≡ symbol_sort schema.now (symbol_of schema.now name.now)
+        (map (raw_sort_of schema.now names.now sorts.now) args.now) }
 {
     match schema.find_symbol(name) {
         Some(Symbol::Function(function)) => {

@@ -1,9 +1,14 @@
 //! Paths as they are written, and the path equations of a schema's parts.
-ghost use Rattle.std.specs.Prelude.{◌≡◌, ◌+◌, ◌<◌, ◌^◌, ◌⊎◌, not, IfOk, OnOk, IfErr, Some, None, ◌++◌, ◌∷◌, [], length, map, option_map, is_some};
+ghost use Rattle.std.specs.Prelude.{◌≡◌, ◌+◌, ◌<◌, ◌^◌, ◌⊎◌, not, IfOk, OnOk, IfErr, Some, None, ◌++◌, ◌∷◌, [], length};
+ghost use Rattle.std.specs.Prelude.{map, option_map, is_some};
 ghost use Rattle.std.specs.List.{list_any};
 ghost use Rattle.cq_base.specs.Names.{number_of};
 ghost use Rattle.cq_theory.specs.Resolve.{first_fault, in_part};
-ghost use Rattle.cq_theory.specs.Paths.{is_among, key_named, path_step as step_of, path_end as end_of, path_start as start_of, path_keys as keys_of, is_unknown_in_path as unknown_in_path, has_unknown_name as has_unknown_in_path, is_attribute_last as attribute_last, key_path_ends as ends_of, are_same_ends, key_path_symbols, path_eq_fault as fault_of_path_eq, made_path_eq};
+ghost use Rattle.cq_theory.specs.Paths.{is_among, key_named, path_step as step_of, path_end as end_of};
+ghost use Rattle.cq_theory.specs.Paths.{path_start as start_of, path_keys as keys_of};
+ghost use Rattle.cq_theory.specs.Paths.{is_unknown_in_path as unknown_in_path, has_unknown_name as has_unknown_in_path};
+ghost use Rattle.cq_theory.specs.Paths.{is_attribute_last as attribute_last, key_path_ends as ends_of, are_same_ends};
+ghost use Rattle.cq_theory.specs.Paths.{key_path_symbols, path_eq_fault as fault_of_path_eq, made_path_eq};
 ghost use Rattle.std.specs.Prelude.{slice_get, nat_lt, ◌-◌};
 
 use crate::lookup::faults::in_part_of;
@@ -122,7 +127,8 @@ pub fn has_unknown_name(schema: &Schema, attributes: &Names, names: &[Name]) -> 
 
 /// Whether the last name of a path is one of the attributes.
 fn is_attribute_last(schema: &Schema, attributes: &Names, names: &[Name]) -> bool
-    ensures { result ≡ attribute_last schema.now (is_among attributes.now) (slice_get names.now (length names.now - 1)) }
+    ensures { result ≡ attribute_last schema.now (is_among attributes.now)
+        (slice_get names.now (length names.now - 1)) }
 {
     match names.last() {
         Some(name) => !schema.find_key(name).is_some() && attributes.find(name).is_some(),
@@ -212,8 +218,11 @@ fn add_path_eq(
     part: u32,
     path_eq: &(Seq<Name>, Seq<Name>),
 ) -> Result<PathEq, TheoryRefusal>
-    ensures ok { IfOk result (λ made. (fault_of_path_eq schema.now (is_among attributes.now) path_eq.now ≡ None) × (made ≡ made_path_eq schema.now path_eq.now)) }
-    ensures refused { IfErr result (λ refusal. (refusal ≡ TheoryRefusal.Memory) ⊎ (option_map (in_part part) (fault_of_path_eq schema.now (is_among attributes.now) path_eq.now) ≡ Some refusal)) }
+    ensures ok { IfOk result (λ made. (fault_of_path_eq schema.now (is_among attributes.now) path_eq.now ≡ None)
+        × (made ≡ made_path_eq schema.now path_eq.now)) }
+    ensures refused { IfErr result (λ refusal. (refusal ≡ TheoryRefusal.Memory)
+        ⊎ (option_map (in_part part) (fault_of_path_eq schema.now (is_among attributes.now) path_eq.now)
+        ≡ Some refusal)) }
 {
     let left = path_eq.0.as_slice();
     let right = path_eq.1.as_slice();
@@ -235,9 +244,11 @@ pub(crate) fn add_path_eqs(
     parts: &[(Seq<Name>, Seq<Name>)],
 ) -> Result<Vec<PathEq>, TheoryRefusal>
     requires { first + length parts.now < 2 ^ 32 }
-    ensures accepted { IfOk result (λ _. first_fault (fault_of_path_eq schema.now (is_among attributes.now)) first parts.now ≡ None) }
+    ensures accepted { IfOk result (λ _. first_fault (fault_of_path_eq schema.now (is_among attributes.now)) first
+        parts.now ≡ None) }
     ensures made { IfOk result (λ made. made.items ≡ map (made_path_eq schema.now) parts.now) }
-    ensures refused { IfErr result (λ refusal. (refusal ≡ TheoryRefusal.Memory) ⊎ (first_fault (fault_of_path_eq schema.now (is_among attributes.now)) first parts.now ≡ Some refusal)) }
+    ensures refused { IfErr result (λ refusal. (refusal ≡ TheoryRefusal.Memory)
+        ⊎ (first_fault (fault_of_path_eq schema.now (is_among attributes.now)) first parts.now ≡ Some refusal)) }
 {
     let mut made = Vec::new(alloc);
     let mut part = first;

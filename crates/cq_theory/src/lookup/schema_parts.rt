@@ -1,5 +1,6 @@
 //! The entities, foreign keys and attributes of a schema's parts.
-ghost use Rattle.std.specs.Prelude.{◌≡◌, ◌+◌, ◌-◌, ◌<◌, ◌^◌, ◌⊎◌, ◌++◌, ◌∷◌, [], IfOk, OnOk, IfErr, Some, None, length, map, List, ℕ, ◌≤◌, ◌||◌};
+ghost use Rattle.std.specs.Prelude.{◌≡◌, ◌+◌, ◌-◌, ◌<◌, ◌^◌, ◌⊎◌, ◌++◌, ◌∷◌, [], IfOk, OnOk, IfErr, Some, None, length};
+ghost use Rattle.std.specs.Prelude.{map, List, ℕ, ◌≤◌, ◌||◌};
 ghost use Rattle.std.specs.Prelude.{true, is_some};
 ghost use Rattle.cq_base.specs.Names.{same_name, number_of};
 ghost use Rattle.cq_theory.specs.Declaring.{number_or_zero};
@@ -7,7 +8,9 @@ ghost use Rattle.cq_theory.specs.Paths.{is_among};
 ghost use Rattle.cq_theory.specs.Typeside.{function_names};
 ghost use Rattle.cq_theory.specs.Schema.{edge_names};
 ghost use Rattle.cq_theory.specs.Resolve.{sort_in};
-ghost use Rattle.cq_theory.specs.SchemaParts.{entities_fault, key_ends_fault, key_fault, keys_fault, attribute_ends_fault, attribute_fault, attributes_fault, entity_named, type_named, made_key, made_attribute, part_names};
+ghost use Rattle.cq_theory.specs.SchemaParts.{entities_fault, key_ends_fault, key_fault, keys_fault};
+ghost use Rattle.cq_theory.specs.SchemaParts.{attribute_ends_fault, attribute_fault, attributes_fault, entity_named};
+ghost use Rattle.cq_theory.specs.SchemaParts.{type_named, made_key, made_attribute, part_names};
 
 use crate::lookup::TheoryRefusal;
 use crate::lookup::declares::declare;
@@ -27,8 +30,11 @@ fn declare_entity(
     name: &Name,
 ) -> Result<(), TheoryRefusal>
     requires { length table.old < 2 ^ 32 - 1 }
-    ensures ok { IfOk result (λ _. (number_of (typeside.now.types ++ table.old) name.now ≡ None) × (table.new ≡ table.old ++ name.now ∷ [])) }
-    ensures refused { IfErr result (λ refusal. (refusal ≡ TheoryRefusal.Memory) ⊎ ((refusal ≡ TheoryRefusal.Duplicate part) × (is_some (number_of (typeside.now.types ++ table.old) name.now) ≡ true))) }
+    ensures ok { IfOk result (λ _. (number_of (typeside.now.types ++ table.old) name.now ≡ None)
+        × (table.new ≡ table.old ++ name.now ∷ [])) }
+    ensures refused { IfErr result (λ refusal. (refusal ≡ TheoryRefusal.Memory)
+        ⊎ ((refusal ≡ TheoryRefusal.Duplicate part)
+        × (is_some (number_of (typeside.now.types ++ table.old) name.now) ≡ true))) }
 {
     if typeside.find_type(name).is_some() {
         return Err(TheoryRefusal::Duplicate(part));
@@ -45,7 +51,8 @@ pub(crate) fn add_entities(
 ) -> Result<Names, TheoryRefusal>
     requires { length parts.now < 2 ^ 32 }
     ensures ok { IfOk result (λ table. (entities_fault typeside.now parts.now ≡ None) × (table ≡ parts.now)) }
-    ensures refused { IfErr result (λ refusal. (refusal ≡ TheoryRefusal.Memory) ⊎ (entities_fault typeside.now parts.now ≡ Some refusal)) }
+    ensures refused { IfErr result (λ refusal. (refusal ≡ TheoryRefusal.Memory)
+        ⊎ (entities_fault typeside.now parts.now ≡ Some refusal)) }
 {
     let mut table = Names::new(alloc);
     let mut part = 0;
@@ -78,8 +85,11 @@ fn declare_key(
     name: &Name,
 ) -> Result<(), TheoryRefusal>
     requires { length table.old < 2 ^ 32 - 1 }
-    ensures ok { IfOk result (λ _. (number_of (function_names typeside.now ++ table.old) name.now ≡ None) × (table.new ≡ table.old ++ name.now ∷ [])) }
-    ensures refused { IfErr result (λ refusal. (refusal ≡ TheoryRefusal.Memory) ⊎ ((refusal ≡ TheoryRefusal.Duplicate part) × (is_some (number_of (function_names typeside.now ++ table.old) name.now) ≡ true))) }
+    ensures ok { IfOk result (λ _. (number_of (function_names typeside.now ++ table.old) name.now ≡ None)
+        × (table.new ≡ table.old ++ name.now ∷ [])) }
+    ensures refused { IfErr result (λ refusal. (refusal ≡ TheoryRefusal.Memory)
+        ⊎ ((refusal ≡ TheoryRefusal.Duplicate part)
+        × (is_some (number_of (function_names typeside.now ++ table.old) name.now) ≡ true))) }
 {
     if typeside.find_function(name).is_some() {
         return Err(TheoryRefusal::Duplicate(part));
@@ -97,8 +107,10 @@ fn key_ends(
     to: &Name,
 ) -> Result<(u32, u32), TheoryRefusal>
     ensures right { IfOk result (λ _. key_ends_fault typeside.now entities.now part from.now to.now ≡ None) }
-    ensures ok { IfOk result (λ ends. (ends.0 ≡ number_or_zero (entity_named typeside.now entities.now from.now)) × (ends.1 ≡ number_or_zero (entity_named typeside.now entities.now to.now))) }
-    ensures refused { IfErr result (λ refusal. key_ends_fault typeside.now entities.now part from.now to.now ≡ Some refusal) }
+    ensures ok { IfOk result (λ ends. (ends.0 ≡ number_or_zero (entity_named typeside.now entities.now from.now))
+        × (ends.1 ≡ number_or_zero (entity_named typeside.now entities.now to.now))) }
+    ensures refused { IfErr result (λ refusal. key_ends_fault typeside.now entities.now part from.now to.now
+        ≡ Some refusal) }
 {
     let from = find_sort(typeside, entities, from);
     let to = find_sort(typeside, entities, to);
@@ -123,8 +135,12 @@ fn add_key(
     key: &(Name, Name, Name),
 ) -> Result<Edge, TheoryRefusal>
     requires { length table.old < 2 ^ 32 - 1 }
-    ensures ok { IfOk result (λ made. (key_fault typeside.now entities.now (function_names typeside.now ++ table.old) part key.now ≡ None) × (table.new ≡ table.old ++ key.now.0 ∷ []) × (made ≡ made_key typeside.now entities.now key.now)) }
-    ensures refused { IfErr result (λ refusal. (refusal ≡ TheoryRefusal.Memory) ⊎ (key_fault typeside.now entities.now (function_names typeside.now ++ table.old) part key.now ≡ Some refusal)) }
+    ensures ok { IfOk result (λ made. (key_fault typeside.now entities.now (function_names typeside.now ++ table.old)
+        part key.now ≡ None) × (table.new ≡ table.old ++ key.now.0 ∷ [])
+        × (made ≡ made_key typeside.now entities.now key.now)) }
+    ensures refused { IfErr result (λ refusal. (refusal ≡ TheoryRefusal.Memory)
+        ⊎ (key_fault typeside.now entities.now (function_names typeside.now ++ table.old) part key.now
+        ≡ Some refusal)) }
 {
     declare_key(typeside, table, part, &key.0)?;
     let (from, to) = key_ends(typeside, entities, part, &key.1, &key.2)?;
@@ -144,8 +160,10 @@ pub(crate) fn add_keys(
 ) -> Result<(Names, Vec<Edge>), TheoryRefusal>
     requires { first + length parts.now < 2 ^ 32 }
     ensures accepted { IfOk result (λ _. keys_fault typeside.now entities.now first parts.now ≡ None) }
-    ensures made { IfOk result (λ made. (made.0 ≡ part_names parts.now) × (made.1.items ≡ map (made_key typeside.now entities.now) parts.now)) }
-    ensures refused { IfErr result (λ refusal. (refusal ≡ TheoryRefusal.Memory) ⊎ (keys_fault typeside.now entities.now first parts.now ≡ Some refusal)) }
+    ensures made { IfOk result (λ made. (made.0 ≡ part_names parts.now)
+        × (made.1.items ≡ map (made_key typeside.now entities.now) parts.now)) }
+    ensures refused { IfErr result (λ refusal. (refusal ≡ TheoryRefusal.Memory)
+        ⊎ (keys_fault typeside.now entities.now first parts.now ≡ Some refusal)) }
 {
     let mut table = Names::new(alloc);
     let mut keys = Vec::new(alloc);
@@ -169,8 +187,12 @@ fn declare_attribute(
     name: &Name,
 ) -> Result<(), TheoryRefusal>
     requires { length table.old < 2 ^ 32 - 1 }
-    ensures ok { IfOk result (λ _. (number_of ((function_names schema.now.typeside ++ edge_names schema.now.keys) ++ table.old) name.now ≡ None) × (table.new ≡ table.old ++ name.now ∷ [])) }
-    ensures refused { IfErr result (λ refusal. (refusal ≡ TheoryRefusal.Memory) ⊎ ((refusal ≡ TheoryRefusal.Duplicate part) × (is_some (number_of ((function_names schema.now.typeside ++ edge_names schema.now.keys) ++ table.old) name.now) ≡ true))) }
+    ensures ok { IfOk result (λ _. (number_of ((function_names schema.now.typeside ++ edge_names schema.now.keys)
+        ++ table.old) name.now ≡ None) × (table.new ≡ table.old ++ name.now ∷ [])) }
+    ensures refused { IfErr result (λ refusal. (refusal ≡ TheoryRefusal.Memory)
+        ⊎ ((refusal ≡ TheoryRefusal.Duplicate part)
+        × (is_some (number_of ((function_names schema.now.typeside ++ edge_names schema.now.keys) ++ table.old)
+        name.now) ≡ true))) }
 {
     if is_function_or_key(schema, name) {
         return Err(TheoryRefusal::Duplicate(part));
@@ -193,9 +215,13 @@ fn attribute_ends(
     from: &Name,
     to: &Name,
 ) -> Result<(u32, u32), TheoryRefusal>
-    ensures right { IfOk result (λ _. attribute_ends_fault schema.now.typeside schema.now.entities part from.now to.now ≡ None) }
-    ensures ok { IfOk result (λ ends. (ends.0 ≡ number_or_zero (entity_named schema.now.typeside schema.now.entities from.now)) × (ends.1 ≡ number_or_zero (type_named schema.now.typeside schema.now.entities to.now))) }
-    ensures refused { IfErr result (λ refusal. attribute_ends_fault schema.now.typeside schema.now.entities part from.now to.now ≡ Some refusal) }
+    ensures right { IfOk result (λ _. attribute_ends_fault schema.now.typeside schema.now.entities part from.now
+        to.now ≡ None) }
+    ensures ok { IfOk result (λ ends. (ends.0 ≡ number_or_zero
+        (entity_named schema.now.typeside schema.now.entities from.now))
+        × (ends.1 ≡ number_or_zero (type_named schema.now.typeside schema.now.entities to.now))) }
+    ensures refused { IfErr result (λ refusal. attribute_ends_fault schema.now.typeside schema.now.entities part
+        from.now to.now ≡ Some refusal) }
 {
     let from = schema.find_sort(from);
     let to = schema.find_sort(to);
@@ -219,8 +245,14 @@ fn add_attribute(
     attribute: &(Name, Name, Name),
 ) -> Result<Edge, TheoryRefusal>
     requires { length table.old < 2 ^ 32 - 1 }
-    ensures ok { IfOk result (λ made. (attribute_fault schema.now.typeside schema.now.entities ((function_names schema.now.typeside ++ edge_names schema.now.keys) ++ table.old) part attribute.now ≡ None) × (table.new ≡ table.old ++ attribute.now.0 ∷ []) × (made ≡ made_attribute schema.now.typeside schema.now.entities attribute.now)) }
-    ensures refused { IfErr result (λ refusal. (refusal ≡ TheoryRefusal.Memory) ⊎ (attribute_fault schema.now.typeside schema.now.entities ((function_names schema.now.typeside ++ edge_names schema.now.keys) ++ table.old) part attribute.now ≡ Some refusal)) }
+    ensures ok { IfOk result (λ made. (attribute_fault schema.now.typeside schema.now.entities
+        ((function_names schema.now.typeside ++ edge_names schema.now.keys) ++ table.old) part attribute.now ≡ None)
+        × (table.new ≡ table.old ++ attribute.now.0 ∷ [])
+        × (made ≡ made_attribute schema.now.typeside schema.now.entities attribute.now)) }
+    ensures refused { IfErr result (λ refusal. (refusal ≡ TheoryRefusal.Memory)
+        ⊎ (attribute_fault schema.now.typeside schema.now.entities
+        ((function_names schema.now.typeside ++ edge_names schema.now.keys) ++ table.old) part attribute.now
+        ≡ Some refusal)) }
 {
     declare_attribute(schema, table, part, &attribute.0)?;
     let (from, to) = attribute_ends(schema, part, &attribute.1, &attribute.2)?;
@@ -239,8 +271,10 @@ pub(crate) fn add_attributes(
 ) -> Result<(Names, Vec<Edge>), TheoryRefusal>
     requires { first + length parts.now < 2 ^ 32 }
     ensures accepted { IfOk result (λ _. attributes_fault schema.now first parts.now ≡ None) }
-    ensures made { IfOk result (λ made. (made.0 ≡ part_names parts.now) × (made.1.items ≡ map (made_attribute schema.now.typeside schema.now.entities) parts.now)) }
-    ensures refused { IfErr result (λ refusal. (refusal ≡ TheoryRefusal.Memory) ⊎ (attributes_fault schema.now first parts.now ≡ Some refusal)) }
+    ensures made { IfOk result (λ made. (made.0 ≡ part_names parts.now)
+        × (made.1.items ≡ map (made_attribute schema.now.typeside schema.now.entities) parts.now)) }
+    ensures refused { IfErr result (λ refusal. (refusal ≡ TheoryRefusal.Memory)
+        ⊎ (attributes_fault schema.now first parts.now ≡ Some refusal)) }
 {
     let mut table = Names::new(alloc);
     let mut attributes = Vec::new(alloc);
@@ -276,7 +310,8 @@ pub(crate) fn declared_names(
 fn note_name(table: &mut Names, name: &Name) -> Result<(), TheoryRefusal>
     requires { length table.old < 2 ^ 32 - 1 }
     ensures short { length table.new ≤ length table.old + 1 }
-    ensures ok { OnOk result ((other : List ℕ) → is_among table.new other ≡ (is_among table.old other || same_name other name.now)) }
+    ensures ok { OnOk result ((other : List ℕ) → is_among table.new other
+        ≡ (is_among table.old other || same_name other name.now)) }
     ensures memory { IfErr result (λ refusal. refusal ≡ TheoryRefusal.Memory) }
 {
     if table.find(name).is_some() {

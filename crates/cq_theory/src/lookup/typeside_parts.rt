@@ -1,7 +1,10 @@
 //! The parts of a typeside.
-ghost use Rattle.std.specs.Prelude.{◌≡◌, ◌+◌, ◌-◌, ◌<◌, ◌^◌, ◌⊎◌, ◌++◌, ◌∷◌, [], true, false, IfOk, IfErr, Some, None, length, map, is_none};
+ghost use Rattle.std.specs.Prelude.{◌≡◌, ◌+◌, ◌-◌, ◌<◌, ◌^◌, ◌⊎◌, ◌++◌, ◌∷◌, [], true, false, IfOk, IfErr, Some, None};
+ghost use Rattle.std.specs.Prelude.{length, map, is_none};
 ghost use Rattle.cq_base.specs.Names.{number_of};
-ghost use Rattle.cq_theory.specs.TypesideParts.{literals_fault, literals_count, open_number, constant_fault, function_fault, types_fault, constants_fault, functions_fault, has_unknown_type, type_number, made_constant, made_function};
+ghost use Rattle.cq_theory.specs.TypesideParts.{literals_fault, literals_count, open_number, constant_fault};
+ghost use Rattle.cq_theory.specs.TypesideParts.{function_fault, types_fault, constants_fault, functions_fault};
+ghost use Rattle.cq_theory.specs.TypesideParts.{has_unknown_type, type_number, made_constant, made_function};
 
 use crate::constant::is_reserved;
 use crate::lookup::TheoryRefusal;
@@ -14,7 +17,8 @@ use std::alloc::Global;
 pub(crate) fn add_types(alloc: Global, parts: &[Name]) -> Result<Names, TheoryRefusal>
     requires { length parts.now < 2 ^ 32 }
     ensures ok { IfOk result (λ table. (types_fault parts.now ≡ None) × (table ≡ parts.now)) }
-    ensures refused { IfErr result (λ refusal. (refusal ≡ TheoryRefusal.Memory) ⊎ (types_fault parts.now ≡ Some refusal)) }
+    ensures refused { IfErr result (λ refusal. (refusal ≡ TheoryRefusal.Memory)
+        ⊎ (types_fault parts.now ≡ Some refusal)) }
 {
     let mut table = Names::new(alloc);
     let mut part = 0;
@@ -32,7 +36,8 @@ pub(crate) fn find_open_type(
     literals: &Option<Name>,
 ) -> Result<(Option<u32>, u32), TheoryRefusal>
     requires { part + literals_count literals.now < 2 ^ 32 }
-    ensures ok { IfOk result (λ found. (literals_fault types.now part literals.now ≡ None) × (found.0 ≡ open_number types.now literals.now) × (found.1 ≡ part + literals_count literals.now)) }
+    ensures ok { IfOk result (λ found. (literals_fault types.now part literals.now ≡ None)
+        × (found.0 ≡ open_number types.now literals.now) × (found.1 ≡ part + literals_count literals.now)) }
     ensures refused { IfErr result (λ refusal. literals_fault types.now part literals.now ≡ Some refusal) }
 {
     match literals {
@@ -52,8 +57,10 @@ fn add_constant(
     constant: &(Name, Name),
 ) -> Result<(Name, u32), TheoryRefusal>
     requires { length table.old < 2 ^ 32 - 1 }
-    ensures ok { IfOk result (λ made. (constant_fault types.now table.old part constant.now ≡ None) × (table.new ≡ table.old ++ constant.now.0 ∷ []) × (made ≡ made_constant types.now constant.now)) }
-    ensures refused { IfErr result (λ refusal. (refusal ≡ TheoryRefusal.Memory) ⊎ (constant_fault types.now table.old part constant.now ≡ Some refusal)) }
+    ensures ok { IfOk result (λ made. (constant_fault types.now table.old part constant.now ≡ None)
+        × (table.new ≡ table.old ++ constant.now.0 ∷ []) × (made ≡ made_constant types.now constant.now)) }
+    ensures refused { IfErr result (λ refusal. (refusal ≡ TheoryRefusal.Memory)
+        ⊎ (constant_fault types.now table.old part constant.now ≡ Some refusal)) }
 {
     declare(table, part, &constant.0)?;
     let Some(number) = types.find(&constant.1) else {
@@ -77,8 +84,10 @@ pub(crate) fn add_constants(
 ) -> Result<(Names, Vec<(Name, u32)>), TheoryRefusal>
     requires { first + length parts.now < 2 ^ 32 }
     ensures accepted { IfOk result (λ _. constants_fault types.now first parts.now ≡ None) }
-    ensures made { IfOk result (λ made. (made.0 ≡ map (λ part. part.0) parts.now) × (made.1.items ≡ map (made_constant types.now) parts.now)) }
-    ensures refused { IfErr result (λ refusal. (refusal ≡ TheoryRefusal.Memory) ⊎ (constants_fault types.now first parts.now ≡ Some refusal)) }
+    ensures made { IfOk result (λ made. (made.0 ≡ map (λ part. part.0) parts.now)
+        × (made.1.items ≡ map (made_constant types.now) parts.now)) }
+    ensures refused { IfErr result (λ refusal. (refusal ≡ TheoryRefusal.Memory)
+        ⊎ (constants_fault types.now first parts.now ≡ Some refusal)) }
 {
     let mut table = Names::new(alloc);
     let mut constants = Vec::new(alloc);
@@ -100,8 +109,10 @@ fn find_types(
     part: u32,
     names: &[Name],
 ) -> Result<Vec<u32>, TheoryRefusal>
-    ensures ok { IfOk result (λ found. (has_unknown_type types.now names.now ≡ false) × (found.items ≡ map (type_number types.now) names.now)) }
-    ensures refused { IfErr result (λ refusal. (refusal ≡ TheoryRefusal.Memory) ⊎ ((refusal ≡ TheoryRefusal.Unknown part) × (has_unknown_type types.now names.now ≡ true))) }
+    ensures ok { IfOk result (λ found. (has_unknown_type types.now names.now ≡ false)
+        × (found.items ≡ map (type_number types.now) names.now)) }
+    ensures refused { IfErr result (λ refusal. (refusal ≡ TheoryRefusal.Memory)
+        ⊎ ((refusal ≡ TheoryRefusal.Unknown part) × (has_unknown_type types.now names.now ≡ true))) }
 {
     let mut found = Vec::new(alloc);
     for name in names {
@@ -124,8 +135,10 @@ fn add_function(
     function: &(Name, Seq<Name>, Name),
 ) -> Result<Fun, TheoryRefusal>
     requires { length table.old < 2 ^ 32 - 1 }
-    ensures ok { IfOk result (λ made. (function_fault types.now table.old part function.now ≡ None) × (table.new ≡ table.old ++ function.now.0 ∷ []) × (made ≡ made_function types.now function.now)) }
-    ensures refused { IfErr result (λ refusal. (refusal ≡ TheoryRefusal.Memory) ⊎ (function_fault types.now table.old part function.now ≡ Some refusal)) }
+    ensures ok { IfOk result (λ made. (function_fault types.now table.old part function.now ≡ None)
+        × (table.new ≡ table.old ++ function.now.0 ∷ []) × (made ≡ made_function types.now function.now)) }
+    ensures refused { IfErr result (λ refusal. (refusal ≡ TheoryRefusal.Memory)
+        ⊎ (function_fault types.now table.old part function.now ≡ Some refusal)) }
 {
     declare(table, part, &function.0)?;
     let args = find_types(alloc, types, part, function.1.as_slice())?;
@@ -151,8 +164,10 @@ pub(crate) fn add_functions(
 ) -> Result<(Names, Vec<Fun>), TheoryRefusal>
     requires { first + length parts.now < 2 ^ 32 }
     ensures accepted { IfOk result (λ _. functions_fault types.now first parts.now ≡ None) }
-    ensures made { IfOk result (λ made. (made.0 ≡ map (λ part. part.0) parts.now) × (made.1.items ≡ map (made_function types.now) parts.now)) }
-    ensures refused { IfErr result (λ refusal. (refusal ≡ TheoryRefusal.Memory) ⊎ (functions_fault types.now first parts.now ≡ Some refusal)) }
+    ensures made { IfOk result (λ made. (made.0 ≡ map (λ part. part.0) parts.now)
+        × (made.1.items ≡ map (made_function types.now) parts.now)) }
+    ensures refused { IfErr result (λ refusal. (refusal ≡ TheoryRefusal.Memory)
+        ⊎ (functions_fault types.now first parts.now ≡ Some refusal)) }
 {
     let mut table = Names::new(alloc);
     let mut functions = Vec::new(alloc);
