@@ -14,6 +14,3 @@ pub use duties::CheckRefusal;
 pub use equality::{EqualRefusal, Verdict, equal};
 pub use mappings::check_mapping;
 pub use queries::check_query;
-
-#[cfg(test)]
-mod tests;

@@ -6,8 +6,6 @@ mod export;
 mod fields;
 mod records;
 mod rows;
-#[cfg(test)]
-mod tests;
 
 pub use cq_import::{CsvRefusal, import};
 pub use export::files;

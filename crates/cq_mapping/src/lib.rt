@@ -13,6 +13,3 @@ pub mod sigma;
 
 pub use duties::Duty;
 pub use mapping::Mapping;
-
-#[cfg(test)]
-mod tests;

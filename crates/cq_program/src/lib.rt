@@ -25,6 +25,3 @@ pub use declarations::{Named, meaning};
 pub use few::has_few_parts;
 pub use line::{numbered_line, refusal_line};
 pub use reason::{ProgramRefusal, ReadCause, Reason};
-
-#[cfg(test)]
-mod tests;

@@ -12,6 +12,3 @@ mod sizes;
 
 pub use coproducts::coproduct;
 pub use pushouts::pushout;
-
-#[cfg(test)]
-mod tests;

@@ -11,7 +11,6 @@ pub mod Copying
 pub mod CopiedPresentations
 pub mod Repeats
 pub mod Indexing
-pub mod FormedTables
 pub mod Blocking
 pub mod Assigning
 pub mod Meaning

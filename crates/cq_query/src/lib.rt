@@ -21,8 +21,6 @@ mod rows;
 mod scopes;
 mod sorts;
 mod tables;
-#[cfg(test)]
-mod tests;
 pub mod translation;
 mod values;
 

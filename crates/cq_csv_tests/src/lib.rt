@@ -1,0 +1,5 @@
+//! Tests of the files of an instance.
+#![tactic(auto)]
+
+#[cfg(test)]
+mod tests;

@@ -1,0 +1,5 @@
+//! Tests of coproducts and pushouts.
+#![tactic(auto)]
+
+#[cfg(test)]
+mod tests;
