@@ -19,3 +19,8 @@ pub mod Untold
 pub mod Uses
 pub mod CellLists
 pub mod Checked
+pub mod Places
+pub mod LabelPlaces
+pub mod ValueTerms
+pub mod CellEquations
+pub mod WellFormed

@@ -27,7 +27,7 @@ use_fits : (first : ℕ) (room : Room) (labels : Labels) (u : Use) (o : Option �
 use_fits first room labels u None has none fits = new_fits first room labels u has none
 use_fits first room labels u (Some known) has none fits = fits
 
-neither : (a b : Option Trouble) → then_trouble a b ≡ None → (a ≡ None) × (b ≡ None)
+pub neither : (a b : Option Trouble) → then_trouble a b ≡ None → (a ≡ None) × (b ≡ None)
 neither None b none = (refl, none)
 neither (Some t) b none = cc none
 

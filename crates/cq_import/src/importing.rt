@@ -1,6 +1,7 @@
 //! Folders of CSV files as presentations.
-ghost use Rattle.std.specs.Prelude.{◌≡◌, ◌≤◌, true, false};
+ghost use Rattle.std.specs.Prelude.{◌≡◌, ◌≤◌, true, false, IfOk};
 ghost use Rattle.cq_io.specs.Counts.{Rose};
+ghost use Rattle.cq_theory.specs.Presentation.{IsPresentation};
 ghost use Rattle.cq_import.specs.Imports.{IsImport, OfFiles, IfAbsent, IfReadFault, IfTooLong};
 
 use crate::columns::columns;
@@ -36,6 +37,7 @@ pub fn import<F: Folder>(
     // Where the folder tells its files, the answer is decided by them, but for a read that fails and want of memory;
     // where it tells none, there are files over which it is.
     ensures answer { OfFiles (F.files folder.old) (λ files. IsImport files dir.now schema.now result) }
+    ensures presentation { IfOk result (IsPresentation schema.now) }
     ensures files { F.files folder.new ≡ F.files folder.old }
 
     // No count falls, and a read that is refused has raised its count.

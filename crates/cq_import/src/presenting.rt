@@ -3,6 +3,7 @@ ghost use Rattle.std.specs.Prelude.{◌≡◌, ◌+◌, ◌-◌, ◌≤◌, ◌<
 ghost use Rattle.std.specs.Prelude.{length, map, sum};
 ghost use Rattle.std.specs.List.{flat_map};
 ghost use Rattle.cq_theory.specs.Canonical.{below, named};
+ghost use Rattle.cq_theory.specs.Presentation.{IsPresentation};
 ghost use Rattle.cq_theory.specs.declared.presentation.Sort.TheVariants.{Plain};
 ghost use Rattle.cq_import.specs.Cells.{all_cells, cell_uses, cells_fault, counts, equations_from, start_of};
 ghost use Rattle.cq_import.specs.Columns.{AreColumns};
@@ -103,6 +104,7 @@ pub fn present(
     requires files { length files.now ≡ length schema.now.entities }
     ensures passed { OnOk result (sheets_fault schema.now (map sheet_in files.now) ≡ None) }
     ensures made { IfOk result (λ made. made ≡ presented schema.now (map sheet_in files.now)) }
+    ensures presentation { IfOk result (IsPresentation schema.now) }
     ensures refused { IfErr result (λ r. Refuses r (sheets_fault schema.now (map sheet_in files.now))) }
 {
     schema.is_well_sorted();

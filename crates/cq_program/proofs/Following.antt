@@ -1,69 +1,116 @@
 -- One declaration more.
-use Rattle.std.proofs.Common.{inl, inr, ℕ, suc, List, [], ◌∷◌, ◌++◌, ◌+◌, ◌≡◌, ◌<◌, length, take, drop, get_or, sym, ap, ◌∙◌, subst, arith, drop-cons}
+use Rattle.std.proofs.Common.{inl, inr, ℕ, suc, List, [], ◌∷◌, ◌++◌, ◌+◌, ◌≡◌, ◌<◌, ◌≤◌, length, take, drop, get_or, sym, ap, ◌∙◌, subst, arith, drop-cons}
 use Rattle.std.proofs.lemmas.List.{take-append-drop, take_more, length_push, length-map}
-use Rattle.std.specs.Prelude.{Result, Ok, Err, IfErr}
+use Rattle.std.specs.Prelude.{Result, Ok, Err, IfErr, string_bytes}
 use Rattle.cq_base.specs.declared.name.Name.{Name}
+use Rattle.cq_io.specs.Counts.{Rose}
 use Rattle.cq_syntax.specs.declared.program.Decl.{Decl}
 use Rattle.cq_syntax.specs.declared.program.Program.{Program}
+use Rattle.cq_import.specs.Folders.{FolderData, Keeps}
 use Rattle.cq_program.specs.declared.reason.ProgramRefusal.{ProgramRefusal}
 use Rattle.cq_program.specs.declared.reason.ProgramRefusal.TheVariants as program_refusal
-use Rattle.cq_program.specs.Checks.{Environment, Meant, Posed, posed_by}
+use Rattle.cq_program.specs.declared.reason.ReadCause.{ReadCause}
+use Rattle.cq_program.specs.declared.reason.ReadCause.TheVariants.{Absent, TooLong, Failed}
+use Rattle.cq_program.specs.Checks.{Environment, Meant, Posed, Stated, stated_by}
+use Rattle.cq_program.specs.Folders.{Told, Reads, LacksFile, Raised}
 use Rattle.cq_program.specs.declared.environment.Entry.{Entry}
 use Rattle.cq_program.specs.Environment.{Refuses, environment_of, meant}
-use Rattle.cq_program.specs.Program.{by_rule, by_failure, by_limit, Follow}
-use Rattle.cq_program.specs.Posing.{AddsDecl, RefusesDecl, RefusesProgram, Withholds}
+use Rattle.cq_program.specs.Program.{Breach, by_rule, by_fault, by_failure, by_limit, Follow}
+use Rattle.cq_program.specs.Posing.{AddsDecl, RefusesDecl, RefusesProgram, RefusesReading, Withholds}
 
-pub Follow-more : (env : Environment) (ds : List Decl) (d : Decl) (mid after : Environment) → Follow env ds mid → AddsDecl mid d after → Follow env (ds ++ d ∷ []) after
-Follow-more env [] d mid after is adds = subst (λ (e : Environment). AddsDecl e d after) is adds
-Follow-more env (x ∷ ds) d mid after follow adds = (follow.0, follow.1, Follow-more (env ++ (x.name, follow.0) ∷ []) ds d mid after follow.2 adds)
+pub Follow-more : (told : Told) (env : Environment) (ds : List Decl) (d : Decl) (mid after : Environment)
+    → Follow told env ds mid → AddsDecl told mid d after → Follow told env (ds ++ d ∷ []) after
+Follow-more told env [] d mid after is adds = subst (λ (e : Environment). AddsDecl told e d after) is adds
+Follow-more told env (x ∷ ds) d mid after follow adds = (follow.0, follow.1, Follow-more told (env ++ (x.name, follow.0) ∷ []) ds d mid after follow.2 adds)
 
--- the first rule that a declaration breaks is that which the program breaks
-pub refuses_program : (depth : ℕ) (program : Program) (before after : List Decl) (d : Decl) (env : Environment) (answer : ProgramRefusal)
-    → program.decls ≡ before ++ d ∷ after → Follow [] before env → RefusesDecl depth env d answer → RefusesProgram depth program answer
-refuses_program depth program before after d env (program_refusal.Broken place reason) split follow refuses =
-    record { before = before; broken = d; after = after; split = split; env = env; follow = follow; breach = refuses }
-refuses_program depth program before after d env (program_refusal.Read name cause) split follow refuses = absurd refuses
-refuses_program depth program before after d env program_refusal.Memory split follow refuses = tt
+rose_before : (a b c : ℕ) → a ≤ b → Rose b c → Rose a c
+rose_before a b c le rose = omega (arith, le, rose)
 
--- what isn't posed is refused
-pub refuses_posing : (depth : ℕ) (env : Environment) (d : Decl) (answer : ProgramRefusal) → Refuses answer (posed_by env d) → RefusesDecl depth env d answer
-refuses_posing depth env d (program_refusal.Broken place reason) refuses = by_rule refuses
-refuses_posing depth env d (program_refusal.Read name cause) refuses = absurd refuses
-refuses_posing depth env d program_refusal.Memory refuses = tt
+-- a count that rose after other reads rose
+raised_before : (old mid new : FolderData) (cause : ReadCause) → Keeps old mid → Raised cause mid new → Raised cause old new
+raised_before old mid new Absent keeps raised = rose_before old.absences mid.absences new.absences keeps.absences raised
+raised_before old mid new TooLong keeps raised = rose_before old.overruns mid.overruns new.overruns keeps.overruns raised
+raised_before old mid new Failed keeps raised = (rose_before old.faults mid.faults new.faults keeps.faults raised.0, sym keeps.steady ∙ raised.1)
+
+-- the first rule that a declaration breaks is that which the program breaks, and a file that it lacks is one that the program lacks
+pub refuses_program : (depth : ℕ) (old mid new : FolderData) (program : Program) (before after : List Decl) (d : Decl) (env : Environment) (answer : ProgramRefusal)
+    → Keeps old mid → program.decls ≡ before ++ d ∷ after → Follow old.files [] before env → RefusesDecl depth mid new env d answer → RefusesProgram depth old new program answer
+refuses_program depth old mid new program before after d env (program_refusal.Broken place reason) keeps split follow refuses =
+    record {
+      before = before;
+      broken = d;
+      after = after;
+      split = split;
+      env = env;
+      follow = follow;
+      breach = subst (λ (told : Told). Breach depth told env d place reason) keeps.files refuses;
+    }
+refuses_program depth old mid new program before after d env (program_refusal.Read file cause) keeps split follow refuses = (
+  record {
+    before = before;
+    reading = d;
+    after = after;
+    split = split;
+    env = env;
+    follow = follow;
+    stated = refuses.stated;
+    checked = refuses.checked;
+    lacks = subst (λ (told : Told). LacksFile told refuses.stated (string_bytes file) cause) keeps.files refuses.lacks;
+  },
+  raised_before old mid new cause keeps refuses.raised,
+)
+refuses_program depth old mid new program before after d env program_refusal.Memory keeps split follow refuses = tt
+
+-- what isn't stated is refused
+pub refuses_stating : (depth : ℕ) (old new : FolderData) (env : Environment) (d : Decl) (answer : ProgramRefusal)
+    → Refuses answer (stated_by env d) → RefusesDecl depth old new env d answer
+refuses_stating depth old new env d (program_refusal.Broken place reason) refuses = by_rule refuses
+refuses_stating depth old new env d (program_refusal.Read file cause) refuses = absurd refuses
+refuses_stating depth old new env d program_refusal.Memory refuses = tt
+
+-- what is stated and isn't read is refused
+pub refuses_reading : (depth : ℕ) (old new : FolderData) (env : Environment) (d : Decl) (stated : Stated) (answer : ProgramRefusal)
+    → stated_by env d ≡ Ok stated → RefusesReading d.place old new stated answer → RefusesDecl depth old new env d answer
+refuses_reading depth old new env d stated (program_refusal.Broken place reason) is refuses = by_fault stated is refuses.0 refuses.1
+refuses_reading depth old new env d stated (program_refusal.Read file cause) is refuses =
+    record { stated = stated; checked = is; lacks = refuses.0; raised = refuses.1 }
+refuses_reading depth old new env d stated program_refusal.Memory is refuses = tt
 
 -- what is posed and gets no model is refused
-pub refuses_model : (depth : ℕ) (env : Environment) (d : Decl) (posed : Posed) (answer : ProgramRefusal)
-    → posed_by env d ≡ Ok posed → Withholds depth d.place posed answer → RefusesDecl depth env d answer
-refuses_model depth env d posed (program_refusal.Broken place reason) is withholds = elim withholds.1 [
-  | inl fails ↦ by_failure posed is withholds.0 fails
-  | inr exceeds ↦ by_limit posed is withholds.0 exceeds
+pub refuses_model : (depth : ℕ) (old new : FolderData) (env : Environment) (d : Decl) (stated : Stated) (posed : Posed) (answer : ProgramRefusal)
+    → stated_by env d ≡ Ok stated → Reads old.files stated posed → Withholds depth d.place posed answer → RefusesDecl depth old new env d answer
+refuses_model depth old new env d stated posed (program_refusal.Broken place reason) is reads withholds = elim withholds.1 [
+  | inl fails ↦ by_failure stated posed is reads withholds.0 fails
+  | inr exceeds ↦ by_limit stated posed is reads withholds.0 exceeds
 ]
-refuses_model depth env d posed (program_refusal.Read name cause) is withholds = absurd withholds
-refuses_model depth env d posed program_refusal.Memory is withholds = tt
+refuses_model depth old new env d stated posed (program_refusal.Read file cause) is reads withholds = absurd withholds
+refuses_model depth old new env d stated posed program_refusal.Memory is reads withholds = tt
 
-pub refuses_result : {X : Type 0} (depth : ℕ) (env : Environment) (d : Decl) (posed : Posed) (r : Result X ProgramRefusal)
-    → posed_by env d ≡ Ok posed → IfErr r (Withholds depth d.place posed) → IfErr r (RefusesDecl depth env d)
-refuses_result depth env d posed (Ok x) is withholds = tt
-refuses_result depth env d posed (Err answer) is withholds = refuses_model depth env d posed answer is withholds
+pub refuses_result : {X : Type 0} (depth : ℕ) (old new : FolderData) (env : Environment) (d : Decl) (stated : Stated) (posed : Posed) (r : Result X ProgramRefusal)
+    → stated_by env d ≡ Ok stated → Reads old.files stated posed → IfErr r (Withholds depth d.place posed) → IfErr r (RefusesDecl depth old new env d)
+refuses_result depth old new env d stated posed (Ok x) is reads withholds = tt
+refuses_result depth old new env d stated posed (Err answer) is reads withholds = refuses_model depth old new env d stated posed answer is reads withholds
 
 split_at : (decls : List Decl) (i : ℕ) (d : Decl) → i < length decls → d ≡ get_or decls i d → decls ≡ take i decls ++ d ∷ drop (suc i) decls
 split_at decls i d inside is =
     sym (take-append-drop i decls) ∙ ap (λ (l : List Decl). take i decls ++ l) (drop-cons decls i d inside ∙ ap (λ (x : Decl). x ∷ drop (suc i) decls) (sym is))
 
 -- the first rule that the declaration at place i breaks is that which the program breaks
-pub refuses_at : (depth : ℕ) (program : Program) (decls : List Decl) (i : ℕ) (d : Decl) (entries : List Entry) (answer : ProgramRefusal)
-    → decls ≡ program.decls → i < length decls → d ≡ get_or decls i d → Follow [] (take i decls) (environment_of entries)
-    → RefusesDecl depth (environment_of entries) d answer → RefusesProgram depth program answer
-refuses_at depth program decls i d entries answer are inside is follow refuses =
-    refuses_program depth program (take i decls) (drop (suc i) decls) d (environment_of entries) answer (sym are ∙ split_at decls i d inside is) follow refuses
+pub refuses_at : (depth : ℕ) (old mid new : FolderData) (program : Program) (decls : List Decl) (i : ℕ) (d : Decl) (entries : List Entry) (answer : ProgramRefusal)
+    → Keeps old mid → decls ≡ program.decls → i < length decls → d ≡ get_or decls i d → Follow old.files [] (take i decls) (environment_of entries)
+    → RefusesDecl depth mid new (environment_of entries) d answer → RefusesProgram depth old new program answer
+refuses_at depth old mid new program decls i d entries answer keeps are inside is follow refuses =
+    refuses_program depth old mid new program (take i decls) (drop (suc i) decls) d (environment_of entries) answer keeps (sym are ∙ split_at decls i d inside is) follow refuses
 
 -- one declaration more is followed, and has an entry more
-pub follows_more : (decls : List Decl) (i : ℕ) (d : Decl) (entries after : List Entry) → i < length decls → d ≡ get_or decls i d
-    → Follow [] (take i decls) (environment_of entries) → length entries ≡ i → AddsDecl (environment_of entries) d (environment_of after)
-    → Follow [] (take (i + 1) decls) (environment_of after) × (length after ≡ i + 1)
-follows_more decls i d entries after inside is follow count adds =
+pub follows_more : (told here : Told) (decls : List Decl) (i : ℕ) (d : Decl) (entries after : List Entry) → here ≡ told → i < length decls → d ≡ get_or decls i d
+    → Follow told [] (take i decls) (environment_of entries) → length entries ≡ i → AddsDecl here (environment_of entries) d (environment_of after)
+    → Follow told [] (take (i + 1) decls) (environment_of after) × (length after ≡ i + 1)
+follows_more told here decls i d entries after same inside is follow count adds =
+    let added : AddsDecl told (environment_of entries) d (environment_of after) =
+    subst (λ (t : Told). AddsDecl t (environment_of entries) d (environment_of after)) same adds in
     let one : take (i + 1) decls ≡ take i decls ++ d ∷ [] = take_more decls i d inside ∙ ap (λ (x : Decl). take i decls ++ x ∷ []) (sym is) in
-    let new : length (environment_of after) ≡ length (environment_of entries) + 1 = ap length adds.2 ∙ length_push (environment_of entries) (d.name, adds.0) in
+    let new : length (environment_of after) ≡ length (environment_of entries) + 1 = ap length added.2 ∙ length_push (environment_of entries) (d.name, added.0) in
     let longer : length after ≡ i + 1 =
     omega (arith, length-map {B = Name × Meant} after (λ (e : Entry). (e.name, meant e.meaning)), length-map {B = Name × Meant} entries (λ (e : Entry). (e.name, meant e.meaning))) in
-    (subst (λ (ds : List Decl). Follow [] ds (environment_of after)) (sym one) (Follow-more [] (take i decls) d (environment_of entries) (environment_of after) follow adds), longer)
+    (subst (λ (ds : List Decl). Follow told [] ds (environment_of after)) (sym one) (Follow-more told [] (take i decls) d (environment_of entries) (environment_of after) follow added), longer)

@@ -7,11 +7,13 @@ pub mod Given
 pub mod Poses
 pub mod Settled
 pub mod Operands
+pub mod Readings
 pub mod Following
 pub mod Unkept
 pub mod Limits
 pub mod OneEval
 pub mod OneTransform
+pub mod OneReading
 pub mod OneMeaning
 pub mod Breaches
 pub mod GluedPresentations

@@ -1,7 +1,8 @@
--- A program means one list of instances.
-use Rattle.std.proofs.Common.{◌≡◌, List, [], ◌∷◌, ◌++◌, Ok, refl, sym, ap, subst, ◌∙◌}
+-- Over some files a program means one list of instances.
+use Rattle.std.proofs.Common.{◌≡◌, List, [], ◌∷◌, ◌++◌, Ok, Some, refl, sym, ap, subst, ◌∙◌}
 use Rattle.std.specs.List.{filter_map}
 use Rattle.cq_base.specs.declared.name.Name.{Name}
+use Rattle.cq_io.specs.Content.{File}
 use Rattle.cq_syntax.specs.declared.program.Decl.{Decl}
 use Rattle.cq_syntax.specs.declared.program.Program.{Program}
 use Rattle.cq_theory.specs.declared.presentation.Presentation.{Presentation}
@@ -12,8 +13,10 @@ use Rattle.cq_theory.specs.Listed.{Lists}
 use Rattle.cq_theory.proofs.OneModel.{same_models, same_assignments, same_lists_of_names}
 use Rattle.cq_model.specs.InstanceData.{InstanceData}
 use Rattle.cq_model.specs.Given.{given}
-use Rattle.cq_program.specs.Checks.{Meant, instance, transform, Environment, Posed, a_typeside, a_schema, a_mapping, an_identity, a_query, a_presentation, a_made, a_delta, an_eval, a_transform, posed_by}
+use Rattle.cq_program.specs.Checks.{Meant, instance, transform, Environment, Posed, a_typeside, a_schema, a_mapping, an_identity, a_query, a_presentation, a_made, a_delta, an_eval, a_transform, Stated, stated_by}
+use Rattle.cq_program.specs.Folders.{Reads}
 use Rattle.cq_program.proofs.OneEval.{one_eval}
+use Rattle.cq_program.proofs.OneReading.{reads_one}
 use Rattle.cq_program.proofs.OneTransform.{one_transform}
 use Rattle.cq_program.specs.Program.{IsModelOf, Stands, Declares, Follow, Listing, listing_of, Means}
 
@@ -51,18 +54,20 @@ stands_one (an_eval name Q M) m n h g =
     h.1 ∙ ap (λ (N : Tables). instance name (given Q.target N)) (one_eval Q M h.0 g.0 h.2.target h.2.eval g.2.eval) ∙ sym g.1
 stands_one (a_transform e images) m n h g = h.1 ∙ ap (transform e) (one_transform e images h.0 g.0 h.2 g.2) ∙ sym g.1
 
-pub declares_one : (env : Environment) (d : Decl) (m n : Meant) → Declares env d m → Declares env d n → m ≡ n
-declares_one env d m n h g =
-    let both : Ok h.posed ≡ Ok g.posed = sym h.checked ∙ g.checked in
-    let one : h.posed ≡ g.posed = cc in
-    stands_one g.posed m n (subst (λ (posed : Posed). Stands posed m) one h.stands) g.stands
+pub declares_one : (files : List File) (env : Environment) (d : Decl) (m n : Meant) → Declares (Some files) env d m → Declares (Some files) env d n → m ≡ n
+declares_one files env d m n h g =
+    let both : Ok h.stated ≡ Ok g.stated = sym h.checked ∙ g.checked in
+    let one : h.stated ≡ g.stated = cc in
+    let posed : h.posed ≡ g.posed =
+    reads_one files g.stated h.posed g.posed (subst (λ (stated : Stated). Reads (Some files) stated h.posed) one h.reads) g.reads in
+    stands_one g.posed m n (subst (λ (p : Posed). Stands p m) posed h.stands) g.stands
 
 -- declarations lead to one environment
-pub follow_one : (ds : List Decl) (env after other : Environment) → Follow env ds after → Follow env ds other → after ≡ other
-follow_one [] env after other h g = h ∙ sym g
-follow_one (d ∷ ds) env after other h g =
-    let one : h.0 ≡ g.0 = declares_one env d h.0 g.0 h.1 g.1 in
-    follow_one ds (env ++ (d.name, g.0) ∷ []) after other (subst (λ (m : Meant). Follow (env ++ (d.name, m) ∷ []) ds after) one h.2) g.2
+pub follow_one : (files : List File) (ds : List Decl) (env after other : Environment) → Follow (Some files) env ds after → Follow (Some files) env ds other → after ≡ other
+follow_one files [] env after other h g = h ∙ sym g
+follow_one files (d ∷ ds) env after other h g =
+    let one : h.0 ≡ g.0 = declares_one files env d h.0 g.0 h.1 g.1 in
+    follow_one files ds (env ++ (d.name, g.0) ∷ []) after other (subst (λ (m : Meant). Follow (Some files) (env ++ (d.name, m) ∷ []) ds after) one h.2) g.2
 
-pub one_meaning : (program : Program) (L M : List Listing) → Means program L → Means program M → L ≡ M
-one_meaning program L M h g = h.listed ∙ ap (filter_map listing_of) (follow_one program.decls [] h.env g.env h.follow g.follow) ∙ sym g.listed
+pub one_meaning : (files : List File) (program : Program) (L M : List Listing) → Means (Some files) program L → Means (Some files) program M → L ≡ M
+one_meaning files program L M h g = h.listed ∙ ap (filter_map listing_of) (follow_one files program.decls [] h.env g.env h.follow g.follow) ∙ sym g.listed

@@ -362,7 +362,6 @@ is_built (Schema (schema_exp.GetSchema spot)) = false
 is_built (Colimit lit) = false
 is_built (Transformed (transform_exp.Literal lit)) = false
 is_built (Mapping (mapping_exp.GetMapping colimit part)) = false
-is_built (Instance (instance_exp.ImportCsv folder spot options)) = false
 is_built (Instance (instance_exp.ImportCsv2 folder spot options)) = false
 is_built _ = true
 
@@ -382,9 +381,31 @@ body_posed env place name (Instance (instance_exp.Pushout first second)) = pusho
 body_posed env place name (Transformed (transform_exp.Identity spot)) = identical_posed env spot
 body_posed env place name _ = Err (place, NotBuilt)
 
+-- What a declaration states whose names and parts break no rule: what it poses at once, or a folder of files over the schema of a printed
+-- name, whose files are to be read.
+pub data Stated : Type 0 where
+  at_once : Posed → Stated
+  a_folder : Name → SchemaData → Name → Stated
+
+abbrev pub folder_stated : Environment → Name → Spot → Checked Stated
+folder_stated env dir spot = and_then (schema_used env spot) (λ over. Ok (a_folder over.name over.schema dir))
+
+-- the folder that a body names, and the name of its schema
+abbrev pub folder_of : Body → Option (Name × Spot)
+folder_of (Instance (instance_exp.ImportCsv dir spot options)) = Some (dir, spot)
+folder_of _ = None
+
+abbrev pub stated_from : Environment → Option (Name × Spot) → Checked Posed → Checked Stated
+stated_from env None check = and_then check (λ posed. Ok (at_once posed))
+stated_from env (Some folder) check = folder_stated env folder.0 folder.1
+
+-- A body that names a folder states it, and each other one states what it poses.
+abbrev pub body_stated : Environment → Place → Name → Body → Checked Stated
+body_stated env place name body = stated_from env (folder_of body) (body_posed env place name body)
+
 -- The checks of names and parts of a declaration, in their order: its form is built, its name is new, and then those of its body.
-unfoldable pub posed_by : Environment → Decl → Checked Posed
-posed_by env d =
+unfoldable pub stated_by : Environment → Decl → Checked Stated
+stated_by env d =
     if is_built d.body then (if is_some (meant_by env d.name) then Err (d.name_place, NameTaken)
-    else body_posed env d.place d.name d.body)
+    else body_stated env d.place d.name d.body)
     else Err (d.place, NotBuilt)

@@ -1,5 +1,5 @@
--- What the code poses, as the definitions see it.
-use Rattle.std.specs.Prelude.{◌≡◌, ◌⊎◌, ℕ, List, [], ◌∷◌, ◌++◌, Some, All, map, Result, Err, IfOk}
+-- What the code states and poses, as the definitions see it.
+use Rattle.std.specs.Prelude.{◌≡◌, ◌⊎◌, ℕ, List, [], ◌∷◌, ◌++◌, Some, All, map, Result, Err, Ok, IfOk, string_bytes}
 use Rattle.cq_base.specs.declared.name.Name.{Name}
 use Rattle.cq_base.specs.declared.place.Place.{Place}
 use Rattle.cq_syntax.specs.declared.program.Decl.{Decl}
@@ -23,13 +23,21 @@ use Rattle.cq_transform.specs.Transforms.{GoesFrom}
 use Rattle.cq_push.specs.Gluing.{coproduct_of, is_oversized as is_too_large}
 use Rattle.cq_program.specs.declared.reason.Reason.TheVariants.{Inconsistent}
 use Rattle.cq_program.specs.declared.reason.ProgramRefusal.{ProgramRefusal}
+use Rattle.cq_program.specs.declared.reason.ReadCause.{ReadCause}
 use Rattle.cq_program.specs.declared.reason.ProgramRefusal.TheVariants as program_refusal
 use Rattle.cq_program.specs.declared.posing.Statement.{Statement}
 use Rattle.cq_program.specs.declared.posing.Statement.TheVariants as statement
-use Rattle.cq_program.specs.Checks.{Environment, Meant, TransformMeant, Posed, typeside, a_typeside, a_schema, a_mapping, an_identity}
-use Rattle.cq_program.specs.Checks.{a_query, a_presentation, a_made, a_delta, an_eval, a_transform, pushed_out, meant_by}
+use Rattle.cq_import.specs.Faults as fault
+use Rattle.cq_import.specs.Faults.{Fault}
+use Rattle.cq_import.specs.Folders.{FolderData}
+use Rattle.cq_program.specs.declared.stating.Stated.{Stated as TheStated}
+use Rattle.cq_program.specs.declared.stating.Stated.TheVariants as stated
+use Rattle.cq_program.specs.Folders.{Told, TellsFault, LacksFile, Raised, rule_of, unread_fault}
+use Rattle.cq_program.specs.Checks.{Stated, at_once, a_folder, stated_by, Environment, Meant, TransformMeant, Posed, typeside, a_typeside}
+use Rattle.cq_program.specs.Checks.{a_schema, a_mapping, an_identity, a_query, a_presentation, a_made, a_delta, an_eval, a_transform}
+use Rattle.cq_program.specs.Checks.{pushed_out, meant_by}
 use Rattle.cq_program.specs.Environment.{AreEnds, IsPrinted, ends_meant, schema_meant, transform_meant}
-use Rattle.cq_program.specs.Program.{Breach, Breaks, Fails, Declares, Exceeds, IsModelOf, IsTransformOf}
+use Rattle.cq_program.specs.Program.{Breach, Breaks, Lacks, Fails, Declares, Exceeds, IsModelOf, IsTransformOf}
 
 -- two transforms go from the start of the first
 abbrev pub AreSpan : TransformMeant → TransformMeant → Type 0
@@ -86,6 +94,32 @@ IsGrounded env name (a_delta n F M) = IsPrinted env n F.source
 IsGrounded env name (an_eval n Q M) = IsPrinted env n Q.target
 IsGrounded env name (a_transform e images) = AreEnds env e
 
+-- what the code states
+abbrev pub stated_as : TheStated → Stated
+stated_as (stated.AtOnce s) = at_once (posed_as s)
+stated_as (stated.Folder f) = a_folder f.name f.schema.value f.dir
+
+abbrev pub IsStated : TheStated → Type 0
+IsStated (stated.AtOnce s) = IsPosed s
+IsStated (stated.Folder f) = Unit {0}
+
+-- the same as `IsGrounded`, of what is stated
+abbrev pub IsStatedOver : Environment → Name → Stated → Type 0
+IsStatedOver env name (at_once posed) = IsGrounded env name posed
+IsStatedOver env name (a_folder n S dir) = IsPrinted env n S
+
+-- The refusal tells what an import tells: a rule that is broken, at the declaration's place; a file that was not read; or want of memory.
+abbrev pub TellsImport : Place → Fault → ProgramRefusal → Type 0
+TellsImport at told (program_refusal.Broken place reason) = (place ≡ at) × (rule_of told ≡ Some reason)
+TellsImport at told (program_refusal.Read file cause) = told ≡ unread_fault (string_bytes file) cause
+TellsImport at told program_refusal.Memory = told ≡ fault.Memory
+
+-- the refusal tells the first fault in the files that are read, at the declaration's place, or a file that was not read, or want of memory
+abbrev pub RefusesReading : Place → FolderData → FolderData → Stated → ProgramRefusal → Type 0
+RefusesReading at old new s (program_refusal.Broken place reason) = (place ≡ at) × TellsFault old.files s reason
+RefusesReading at old new s (program_refusal.Read file cause) = LacksFile old.files s (string_bytes file) cause × Raised cause old new
+RefusesReading at old new s program_refusal.Memory = Unit {0}
+
 -- the refusal tells why nothing is made of what is posed, at the declaration's place, or want of memory
 abbrev pub Withholds : ℕ → Place → Posed → ProgramRefusal → Type 0
 Withholds depth at posed (program_refusal.Broken place reason) = (place ≡ at) × (Fails posed reason ⊎ Exceeds depth posed reason)
@@ -99,20 +133,28 @@ TellsConstants at first second (program_refusal.Read name cause) = ⊥
 TellsConstants at first second program_refusal.Memory = Unit {0}
 
 -- the declaration meets its rules, and its name is put behind the others
-abbrev pub AddsDecl : Environment → Decl → Environment → Type 0
-AddsDecl env d after = (m : Meant) × Declares env d m × (after ≡ env ++ (d.name, m) ∷ [])
+abbrev pub AddsDecl : Told → Environment → Decl → Environment → Type 0
+AddsDecl told env d after = (m : Meant) × Declares told env d m × (after ≡ env ++ (d.name, m) ∷ [])
 
--- the refusal tells the first rule that the declaration breaks, or want of memory
-abbrev pub RefusesDecl : ℕ → Environment → Decl → ProgramRefusal → Type 0
-RefusesDecl depth env d (program_refusal.Broken place reason) = Breach depth env d place reason
-RefusesDecl depth env d (program_refusal.Read name cause) = ⊥
-RefusesDecl depth env d program_refusal.Memory = Unit {0}
+-- a file that the declaration reads was not read
+pub record IsUnread (old new : FolderData) (env : Environment) (d : Decl) (file : List ℕ) (cause : ReadCause) : Type 0 where
+  pub stated : Stated
+  pub checked : stated_by env d ≡ Ok stated
+  pub lacks : LacksFile old.files stated file cause
+  pub raised : Raised cause old new
 
--- the refusal tells the first rule that the program breaks, or want of memory; no file is read
-abbrev pub RefusesProgram : ℕ → Program → ProgramRefusal → Type 0
-RefusesProgram depth program (program_refusal.Broken place reason) = Breaks depth program place reason
-RefusesProgram depth program (program_refusal.Read name cause) = ⊥
-RefusesProgram depth program program_refusal.Memory = Unit {0}
+-- the refusal tells the first rule that the declaration breaks, or a file that was not read, or want of memory
+abbrev pub RefusesDecl : ℕ → FolderData → FolderData → Environment → Decl → ProgramRefusal → Type 0
+RefusesDecl depth old new env d (program_refusal.Broken place reason) = Breach depth old.files env d place reason
+RefusesDecl depth old new env d (program_refusal.Read file cause) = IsUnread old new env d (string_bytes file) cause
+RefusesDecl depth old new env d program_refusal.Memory = Unit {0}
+
+-- the refusal tells the first rule that the program breaks, or a file that was not read, or want of memory
+abbrev pub RefusesProgram : ℕ → FolderData → FolderData → Program → ProgramRefusal → Type 0
+RefusesProgram depth old new program (program_refusal.Broken place reason) = Breaks depth old.files program place reason
+RefusesProgram depth old new program (program_refusal.Read file cause) = Lacks old.files program (string_bytes file) cause
+    × Raised cause old new
+RefusesProgram depth old new program program_refusal.Memory = Unit {0}
 
 -- What the answer of a call says that makes the listed model of a presentation over a schema, of rows up to a depth. The limit is tried
 -- first.

@@ -46,7 +46,9 @@ use Rattle.cq_check.specs.Answers.{IsDerivedWithin, IsNotPreserved, IsTooDeepDut
 use Rattle.cq_program.specs.Parts.{typeside_count, schema_count, mapping_count, query_count, instance_count, transform_count}
 use Rattle.cq_program.specs.Checks.{Meant, typeside, schema, mapping, query, instance, transform, Ends, Environment, Posed, a_typeside}
 use Rattle.cq_program.specs.Checks.{a_schema, a_mapping, an_identity, a_query, a_presentation, a_made, a_delta, an_eval, a_transform}
-use Rattle.cq_program.specs.Checks.{posed_by}
+use Rattle.cq_program.specs.Checks.{Stated, stated_by}
+use Rattle.cq_program.specs.declared.reason.ReadCause.{ReadCause}
+use Rattle.cq_program.specs.Folders.{Told, Reads, TellsFault, LacksFile}
 
 -- the listed model of a presentation over a schema, both well sorted, which makes no two constants equal
 pub record IsModelOf (S : SchemaData) (P : Presentation) (i : InstanceData) : Type 0 where
@@ -177,22 +179,31 @@ Exceeds depth (a_delta n F M) reason = ⊥
 Exceeds depth (an_eval n Q M) reason = ⊥
 Exceeds depth (a_transform e images) reason = ⊥
 
--- the declaration meets its rules, and its name stands for m
-pub record Declares (env : Environment) (d : Decl) (m : Meant) : Type 0 where
+-- the declaration meets its rules over what a folder tells, and its name stands for m
+pub record Declares (told : Told) (env : Environment) (d : Decl) (m : Meant) : Type 0 where
+  pub stated : Stated
+  pub checked : stated_by env d ≡ Ok stated
   pub posed : Posed
-  pub checked : posed_by env d ≡ Ok posed
+  pub reads : Reads told stated posed
   pub stands : Stands posed m
 
--- the first rule that the declaration breaks: one of names and parts, or that of duties or of constants; or the limit that it passes
-pub data Breach (depth : ℕ) (env : Environment) (d : Decl) (place : Place) (reason : Reason) : Type 0 where
-  by_rule : posed_by env d ≡ Err (place, reason) → Breach depth env d place reason
-  by_failure : (posed : Posed) → posed_by env d ≡ Ok posed → place ≡ d.place → Fails posed reason → Breach depth env d place reason
-  by_limit : (posed : Posed) → posed_by env d ≡ Ok posed → place ≡ d.place → Exceeds depth posed reason → Breach depth env d place reason
+-- The first rule that the declaration breaks: one of names and parts, one of the files that it reads, or that of duties or of constants; or
+-- the limit that it passes.
+pub data Breach (depth : ℕ) (told : Told) (env : Environment) (d : Decl) (place : Place) (reason : Reason) : Type 0 where
+  by_rule : stated_by env d ≡ Err (place, reason) → Breach depth told env d place reason
+  by_fault : (stated : Stated) → stated_by env d ≡ Ok stated → place ≡ d.place → TellsFault told stated reason
+      → Breach depth told env d place reason
+  by_failure : (stated : Stated) (posed : Posed) → stated_by env d ≡ Ok stated → Reads told stated posed → place ≡ d.place
+      → Fails posed reason
+      → Breach depth told env d place reason
+  by_limit : (stated : Stated) (posed : Posed) → stated_by env d ≡ Ok stated → Reads told stated posed → place ≡ d.place
+      → Exceeds depth posed reason
+      → Breach depth told env d place reason
 
 -- the declarations, in order, meet their rules, and lead from one environment to another
-abbrev pub Follow : Environment → List Decl → Environment → Type 0
-Follow env [] after = after ≡ env
-Follow env (d ∷ ds) after = (m : Meant) × Declares env d m × Follow (env ++ (d.name, m) ∷ []) ds after
+abbrev pub Follow : Told → Environment → List Decl → Environment → Type 0
+Follow told env [] after = after ≡ env
+Follow told env (d ∷ ds) after = (m : Meant) × Declares told env d m × Follow told (env ++ (d.name, m) ∷ []) ds after
 
 -- an instance, with its name and the printed name of its schema
 pub record Listing : Type 0 where
@@ -212,20 +223,32 @@ abbrev pub listing_of : Name × Meant → Option Listing
 listing_of entry = listing_named entry.0 entry.1
 
 -- The declarations, in order, meet their rules, and L lists the instances among them.
-pub record Means (program : Program) (L : List Listing) : Type 0 where
+pub record Means (told : Told) (program : Program) (L : List Listing) : Type 0 where
   pub env : Environment
-  pub follow : Follow [] program.decls env
+  pub follow : Follow told [] program.decls env
   pub listed : L ≡ filter_map listing_of env
 
 -- The declarations before one meet their rules, and this is the first rule that this one breaks.
-pub record Breaks (depth : ℕ) (program : Program) (place : Place) (reason : Reason) : Type 0 where
+pub record Breaks (depth : ℕ) (told : Told) (program : Program) (place : Place) (reason : Reason) : Type 0 where
   pub before : List Decl
   pub broken : Decl
   pub after : List Decl
   pub split : program.decls ≡ before ++ broken ∷ after
   pub env : Environment
-  pub follow : Follow [] before env
-  pub breach : Breach depth env broken place reason
+  pub follow : Follow told [] before env
+  pub breach : Breach depth told env broken place reason
+
+-- The declarations before one meet their rules, and a file that this one reads was not read, for this cause.
+pub record Lacks (told : Told) (program : Program) (file : List ℕ) (cause : ReadCause) : Type 0 where
+  pub before : List Decl
+  pub reading : Decl
+  pub after : List Decl
+  pub split : program.decls ≡ before ++ reading ∷ after
+  pub env : Environment
+  pub follow : Follow told [] before env
+  pub stated : Stated
+  pub checked : stated_by env reading ≡ Ok stated
+  pub lacks : LacksFile told stated file cause
 
 -- An equation is derived within some depth up to the given one, and at no depth up to that one there are more classes than rows are
 -- allowed.
@@ -257,10 +280,11 @@ KeepsLimits depth (an_eval n Q M) = Unit {0}
 KeepsLimits depth (a_transform e images) = Unit {0}
 
 -- the same of each declaration of a program, after those before it
-abbrev pub IsWithinLimits : ℕ → Program → Type 0
-IsWithinLimits depth program =
-    (before : List Decl) (d : Decl) (after : List Decl) (env : Environment) (posed : Posed)
-    → program.decls ≡ before ++ d ∷ after → Follow [] before env → posed_by env d ≡ Ok posed → KeepsLimits depth posed
+abbrev pub IsWithinLimits : ℕ → Told → Program → Type 0
+IsWithinLimits depth told program =
+    (before : List Decl) (d : Decl) (after : List Decl) (env : Environment) (stated : Stated) (posed : Posed)
+    → program.decls ≡ before ++ d ∷ after → Follow told [] before env → stated_by env d ≡ Ok stated → Reads told stated posed
+    → KeepsLimits depth posed
 
 -- how many parts a declaration of a form that is built has
 abbrev pub part_count : Body → ℕ

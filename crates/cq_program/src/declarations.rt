@@ -1,6 +1,7 @@
 //! The declarations of a program in order.
 ghost use Rattle.std.specs.Prelude.{◌≡◌, ◌<◌, ◌≤◌, ◌-◌, ◌^◌, ◌++◌, [], IfOk, IfErr, OnOk, length, map};
 ghost use Rattle.std.specs.List.{filter_map, flat_map};
+ghost use Rattle.cq_import.specs.Folders.{Keeps};
 ghost use Rattle.cq_program.specs.Program.{Declares, Follow, HasFewParts, Means, listing_of, part_count};
 ghost use Rattle.cq_program.specs.Environment.{AreSettled, WillSettle, environment_of, meant};
 ghost use Rattle.cq_program.specs.Posing.{AddsDecl, RefusesDecl, RefusesProgram};
@@ -8,8 +9,8 @@ ghost use Rattle.cq_program.specs.Named.{listed_as, listings_in};
 
 use crate::environment::{Entry, Environment, Meaning};
 use crate::models::meaning_of;
-use crate::posing::pose;
 use crate::reason::ProgramRefusal;
+use crate::stating::{read_stated, state};
 use cq_base::Name;
 use cq_io::Folder;
 use cq_model::Instance;
@@ -46,7 +47,13 @@ pub struct Named {
 /// 1,024 symbols (`Oversized`).
 ///
 /// `DutyDepth`, `DutyRows`, `Depth` and `TooManyRows` are limits and no rules: each is told only where the duty or the
-/// presentation gives leave for it. Want of memory may come at any time. No form that is built reads files.
+/// presentation gives leave for it. Want of memory may come at any time.
+///
+/// An import reads its files when its turn comes, after its names and before its model is made. Each file is read and
+/// tested in turn: a file that is absent, too long or can't be read ends the program (`Read`, only where the count of
+/// this answer rose in this call), and the first fault in what was read is told (`NotCsv` to `ManyRecords`, as `import`
+/// of `cq_import` orders them). Where the folder tells its files, all clauses speak of these; where it tells none,
+/// of some files for each import.
 pub fn meaning<F: Folder>(
     alloc: Global,
     program: &Program,
@@ -55,67 +62,195 @@ pub fn meaning<F: Folder>(
 ) -> Result<Vec<Named>, ProgramRefusal>
     requires few { HasFewParts program.now }
     requires depth { depth ≤ 64 }
-    ensures means { IfOk result (λ named. Means program.now (map listed_as named.items)) }
-    ensures breaks { IfErr result (RefusesProgram depth program.now) }
-    ensures unread { folder.new ≡ folder.old }
+    ensures means { IfOk result (λ named. Means (F.files folder.old) program.now (map listed_as named.items)) }
+    ensures keeps { Keeps
+        (record {
+          files = F.files folder.old;
+          absences = F.absences folder.old;
+          faults = F.faults folder.old;
+          overruns = F.overruns folder.old;
+          steady = F.steady folder.old;
+        })
+        (record {
+          files = F.files folder.new;
+          absences = F.absences folder.new;
+          faults = F.faults folder.new;
+          overruns = F.overruns folder.new;
+          steady = F.steady folder.new;
+        }) }
+    ensures refuses { IfErr result (RefusesProgram depth
+        (record {
+          files = F.files folder.old;
+          absences = F.absences folder.old;
+          faults = F.faults folder.old;
+          overruns = F.overruns folder.old;
+          steady = F.steady folder.old;
+        })
+        (record {
+          files = F.files folder.new;
+          absences = F.absences folder.new;
+          faults = F.faults folder.new;
+          overruns = F.overruns folder.new;
+          steady = F.steady folder.new;
+        })
+        program.now) }
 {
-    let env = declare_all(alloc, program, depth)?;
+    let env = declare_all(alloc, program, folder, depth)?;
     Ok(instances_of(alloc, env)?)
 }
 
 /// What all names stand for.
-fn declare_all(alloc: Global, program: &Program, depth: u32) -> Result<Environment, ProgramRefusal>
+fn declare_all<F: Folder>(
+    alloc: Global,
+    program: &Program,
+    folder: &mut F,
+    depth: u32,
+) -> Result<Environment, ProgramRefusal>
     requires few { HasFewParts program.now }
     requires depth { depth ≤ 64 }
-    ensures follows { IfOk result (λ env. Follow [] program.now.decls (environment_of env.entries.items)) }
-    ensures breaks { IfErr result (RefusesProgram depth program.now) }
+    ensures follows { IfOk result (λ env. Follow (F.files folder.old) [] program.now.decls
+        (environment_of env.entries.items)) }
+    ensures keeps { Keeps
+        (record {
+          files = F.files folder.old;
+          absences = F.absences folder.old;
+          faults = F.faults folder.old;
+          overruns = F.overruns folder.old;
+          steady = F.steady folder.old;
+        })
+        (record {
+          files = F.files folder.new;
+          absences = F.absences folder.new;
+          faults = F.faults folder.new;
+          overruns = F.overruns folder.new;
+          steady = F.steady folder.new;
+        }) }
+    ensures refuses { IfErr result (RefusesProgram depth
+        (record {
+          files = F.files folder.old;
+          absences = F.absences folder.old;
+          faults = F.faults folder.old;
+          overruns = F.overruns folder.old;
+          steady = F.steady folder.old;
+        })
+        (record {
+          files = F.files folder.new;
+          absences = F.absences folder.new;
+          faults = F.faults folder.new;
+          overruns = F.overruns folder.new;
+          steady = F.steady folder.new;
+        })
+        program.now) }
 {
     let mut env = Environment::new(alloc);
     for decl in program.decls.as_slice() {
-        env = declare(alloc, env, decl, depth)?;
+        env = declare(alloc, env, decl, folder, depth)?;
     }
     Ok(env)
 }
 
 /// The names with one more, that of a declaration.
-fn declare(
+fn declare<F: Folder>(
     alloc: Global,
     env: Environment,
     decl: &Decl,
+    folder: &mut F,
     depth: u32,
 ) -> Result<Environment, ProgramRefusal>
     requires few { part_count decl.now.body < 2 ^ 32 }
     requires room { length env.entries.items < 2 ^ 32 - 1 }
     requires settled { AreSettled (environment_of env.entries.items) }
     requires depth { depth ≤ 64 }
-    ensures declares { IfOk result (λ after. AddsDecl (environment_of env.entries.items) decl.now
+    ensures declares { IfOk result (λ after. AddsDecl (F.files folder.old) (environment_of env.entries.items) decl.now
         (environment_of after.entries.items)) }
     ensures settled { IfOk result (λ after. AreSettled (environment_of after.entries.items)) }
-    ensures breaks { IfErr result (RefusesDecl depth (environment_of env.entries.items) decl.now) }
+    ensures keeps { Keeps
+        (record {
+          files = F.files folder.old;
+          absences = F.absences folder.old;
+          faults = F.faults folder.old;
+          overruns = F.overruns folder.old;
+          steady = F.steady folder.old;
+        })
+        (record {
+          files = F.files folder.new;
+          absences = F.absences folder.new;
+          faults = F.faults folder.new;
+          overruns = F.overruns folder.new;
+          steady = F.steady folder.new;
+        }) }
+    ensures refuses { IfErr result (RefusesDecl depth
+        (record {
+          files = F.files folder.old;
+          absences = F.absences folder.old;
+          faults = F.faults folder.old;
+          overruns = F.overruns folder.old;
+          steady = F.steady folder.old;
+        })
+        (record {
+          files = F.files folder.new;
+          absences = F.absences folder.new;
+          faults = F.faults folder.new;
+          overruns = F.overruns folder.new;
+          steady = F.steady folder.new;
+        })
+        (environment_of env.entries.items) decl.now) }
 {
-    let meaning = judge(alloc, &env, decl, depth)?;
+    let meaning = judge(alloc, &env, decl, folder, depth)?;
     let name = decl.name.clone()?;
     let after = env.with(name, meaning)?;
     Ok(after)
 }
 
 /// What a declaration stands for.
-fn judge(
+fn judge<F: Folder>(
     alloc: Global,
     env: &Environment,
     decl: &Decl,
+    folder: &mut F,
     depth: u32,
 ) -> Result<Meaning, ProgramRefusal>
     requires few { part_count decl.now.body < 2 ^ 32 }
     requires settled { AreSettled (environment_of env.now.entries.items) }
     requires depth { depth ≤ 64 }
-    ensures declares { IfOk result (λ meaning. Declares (environment_of env.now.entries.items) decl.now
-        (meant meaning)) }
+    ensures declares { IfOk result (λ meaning. Declares (F.files folder.old) (environment_of env.now.entries.items)
+        decl.now (meant meaning)) }
     ensures settled { IfOk result (λ meaning. WillSettle (environment_of env.now.entries.items) decl.now.name
         (meant meaning)) }
-    ensures breaks { IfErr result (RefusesDecl depth (environment_of env.now.entries.items) decl.now) }
+    ensures keeps { Keeps
+        (record {
+          files = F.files folder.old;
+          absences = F.absences folder.old;
+          faults = F.faults folder.old;
+          overruns = F.overruns folder.old;
+          steady = F.steady folder.old;
+        })
+        (record {
+          files = F.files folder.new;
+          absences = F.absences folder.new;
+          faults = F.faults folder.new;
+          overruns = F.overruns folder.new;
+          steady = F.steady folder.new;
+        }) }
+    ensures refuses { IfErr result (RefusesDecl depth
+        (record {
+          files = F.files folder.old;
+          absences = F.absences folder.old;
+          faults = F.faults folder.old;
+          overruns = F.overruns folder.old;
+          steady = F.steady folder.old;
+        })
+        (record {
+          files = F.files folder.new;
+          absences = F.absences folder.new;
+          faults = F.faults folder.new;
+          overruns = F.overruns folder.new;
+          steady = F.steady folder.new;
+        })
+        (environment_of env.now.entries.items) decl.now) }
 {
-    let statement = pose(alloc, env, decl)?;
+    let stated = state(alloc, env, decl)?;
+    let statement = read_stated(alloc, decl.place, stated, folder)?;
     meaning_of(alloc, decl.place, statement, depth)
 }
 

@@ -1,7 +1,8 @@
 //! Laws of meanings and refusals. Each is the contract of a function that does nothing.
 pub mod meanings;
 
-ghost use Rattle.std.specs.Prelude.{◌≡◌, ℕ, List};
+ghost use Rattle.std.specs.Prelude.{◌≡◌, ℕ, List, Some};
+ghost use Rattle.cq_io.specs.Content.{File};
 ghost use Rattle.cq_base.specs.declared.place.Place.{Place};
 ghost use Rattle.cq_syntax.specs.declared.program.Program.{Program};
 ghost use Rattle.cq_theory.specs.declared.presentation.Presentation.{Presentation};
@@ -11,29 +12,40 @@ ghost use Rattle.cq_theory.specs.Closing.{IsInconsistent};
 ghost use Rattle.cq_theory.specs.Listed.{Lists};
 ghost use Rattle.cq_theory.specs.Tables.{Tables, Assignment};
 ghost use Rattle.cq_program.specs.declared.reason.Reason.{Reason};
-ghost use Rattle.cq_program.specs.Program.{Breaks, IsLimit, IsWithinLimits, Listing, Means, TellsClash, TellsUnkept};
+ghost use Rattle.cq_program.specs.declared.reason.ReadCause.{ReadCause};
+ghost use Rattle.cq_program.specs.declared.reason.ReadCause.TheVariants.{Failed};
+ghost use Rattle.cq_program.specs.Program.{Breaks, IsLimit, IsWithinLimits, Lacks, Listing, Means, TellsClash};
+ghost use Rattle.cq_program.specs.Program.{TellsUnkept};
 ghost use Rattle.cq_mapping.specs.MappingData.{MappingData};
 
 /// A program that has a meaning breaks no rule; only the depth and the limit on rows can keep it from being made or a
 /// duty from being decided.
 pub fn means_unbroken()
-    ensures { (depth : ℕ) (program : Program) (L : List Listing) (place : Place) (reason : Reason)
-        → Means program L → Breaks depth program place reason → IsLimit reason }
+    ensures { (depth : ℕ) (files : List File) (program : Program) (L : List Listing) (place : Place) (reason : Reason)
+        → Means (Some files) program L → Breaks depth (Some files) program place reason → IsLimit reason }
 {}
 
 /// A program that has a meaning and keeps the limits at a depth breaks nothing at it: each of its presentations
 /// closes up to the depth and is never too wide, and each duty is derived within some depth up to it, up to which the
 /// duty's presentation isn't too wide.
 pub fn unbroken_within_limits()
-    ensures { (depth : ℕ) (program : Program) (L : List Listing) (place : Place) (reason : Reason)
-        → Means program L → IsWithinLimits depth program → Breaks depth program place reason → ⊥ }
+    ensures { (depth : ℕ) (files : List File) (program : Program) (L : List Listing) (place : Place) (reason : Reason)
+        → Means (Some files) program L → IsWithinLimits depth (Some files) program
+        → Breaks depth (Some files) program place reason → ⊥ }
 {}
 
 /// A program breaks one rule first, at one place and with one reason, where it isn't a limit that is told.
 pub fn one_refusal()
-    ensures { (depth : ℕ) (program : Program) (place other_place : Place) (reason other : Reason)
-        → Breaks depth program place reason → Breaks depth program other_place other
+    ensures { (depth : ℕ) (files : List File) (program : Program) (place other_place : Place) (reason other : Reason)
+        → Breaks depth (Some files) program place reason → Breaks depth (Some files) program other_place other
         → (IsLimit reason → ⊥) → (IsLimit other → ⊥) → (place ≡ other_place) × (reason ≡ other) }
+{}
+
+/// Where a program has a meaning over some files, each file that it reads is there and not too long: only a read that
+/// fails can keep it from being read.
+pub fn means_is_there()
+    ensures { (files : List File) (program : Program) (L : List Listing) (file : List ℕ) (cause : ReadCause)
+        → Means (Some files) program L → Lacks (Some files) program file cause → cause ≡ Failed }
 {}
 
 /// A presentation that makes constants equal tells one pair of them.

@@ -18,6 +18,7 @@ mod query_parts;
 mod query_places;
 mod raw;
 mod reason;
+mod stating;
 mod transforms;
 mod used;
 

@@ -6,9 +6,8 @@ ghost use Rattle.cq_theory.specs.Presentation.{IsPresentation};
 ghost use Rattle.cq_program.specs.Program.{part_count};
 ghost use Rattle.cq_program.specs.Parts.{typeside_count, schema_count, mapping_count, instance_count};
 ghost use Rattle.cq_program.specs.Checks.{arrow_breach, body_posed, identity_posed, instance_posed, is_built};
-ghost use Rattle.cq_program.specs.Checks.{mapping_given, mapping_posed, part_breach, place_of, posed_by};
-ghost use Rattle.cq_program.specs.Checks.{presentation_given, schema_given, schema_posed, typeside_given};
-ghost use Rattle.cq_program.specs.Checks.{typeside_posed};
+ghost use Rattle.cq_program.specs.Checks.{mapping_given, mapping_posed, part_breach, place_of, presentation_given};
+ghost use Rattle.cq_program.specs.Checks.{schema_given, schema_posed, typeside_given, typeside_posed};
 ghost use Rattle.cq_program.specs.Environment.{schema_meant, Answers, AreSettled, Tells, environment_of};
 ghost use Rattle.cq_program.specs.Posing.{IsGrounded, IsPosed, posed_as};
 
@@ -54,26 +53,8 @@ pub(crate) enum Statement {
     Transform(NamedEnds, Transform),
 }
 
-/// What a declaration poses, or the first rule of names and parts that it breaks.
-pub fn pose(alloc: Global, env: &Environment, decl: &Decl) -> Result<Statement, ProgramRefusal>
-    requires few { part_count decl.now.body < 2 ^ 32 }
-    requires settled { AreSettled (environment_of env.now.entries.items) }
-    ensures posed { Answers posed_as result (posed_by (environment_of env.now.entries.items) decl.now) }
-    ensures well_sorted { IfOk result IsPosed }
-    ensures grounded { IfOk result (λ statement. IsGrounded (environment_of env.now.entries.items) decl.now.name
-        (posed_as statement)) }
-{
-    if !is_built(&decl.body) {
-        return Err(ProgramRefusal::Broken(decl.place, Reason::NotBuilt));
-    }
-    if env.find(&decl.name).is_some() {
-        return Err(ProgramRefusal::Broken(decl.name_place, Reason::NameTaken));
-    }
-    pose_body(alloc, env, decl.place, &decl.name, &decl.body)
-}
-
 /// Whether declarations of this form are built.
-fn is_built(body: &Body) -> bool
+pub fn is_built(body: &Body) -> bool
     ensures { result ≡ is_built body.now }
 {
     match body {
@@ -102,12 +83,13 @@ fn is_built_instance(expression: &InstanceExp) -> bool
         InstanceExp::Coeval(_, _) => true,
         InstanceExp::Coproduct(_, _) => true,
         InstanceExp::Pushout(_, _) => true,
-        InstanceExp::ImportCsv(_, _, _) => false,
+        InstanceExp::ImportCsv(_, _, _) => true,
         InstanceExp::ImportCsv2(_, _, _) => false,
     }
 }
 
-fn pose_body(
+/// What the body of a declaration poses that reads no files, or the first rule of names and parts that it breaks.
+pub fn pose_body(
     alloc: Global,
     env: &Environment,
     place: Place,

@@ -80,7 +80,7 @@ pub enum ReadCause {
 pub enum ProgramRefusal {
     /// The first rule that a declaration breaks, with the place to which its line points.
     Broken(Place, Reason),
-    /// A file that a declaration names was not read. No form that is built reads files.
+    /// A file that a declaration names was not read, and why.
     Read(String, ReadCause),
     Memory,
 }

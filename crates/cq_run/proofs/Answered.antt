@@ -1,33 +1,72 @@
 -- From what became of the file to the answer.
-use Rattle.std.proofs.Common.{ℕ, List, Option, Err, IfSome}
-use Rattle.cq_io.specs.Content.{File}
+use Rattle.std.proofs.Common.{◌≡◌, ◌∙◌, ◌≤◌, ℕ, List, Option, Err, IfSome, inl, inr, sym, subst, arith}
+use Rattle.cq_import.specs.Folders.{FolderData, Keeps}
+use Rattle.cq_io.specs.Counts.{Rose}
 use Rattle.cq_io.specs.Reads.{IsReadOf}
 use Rattle.cq_io.specs.declared.folder.ReadRefusal.{ReadRefusal}
 use Rattle.cq_io.specs.declared.format.Format.{Format}
+use Rattle.cq_program.specs.Folders.{Raised, Told}
+use Rattle.cq_program.specs.Program.{Lacks}
+use Rattle.cq_program.specs.declared.reason.ReadCause.{ReadCause}
+use Rattle.cq_program.specs.declared.reason.ReadCause.TheVariants.{Absent, TooLong, Failed}
 use Rattle.cq_run.specs.Ask.{depth_asked}
-use Rattle.cq_run.specs.Answer.{Answers, Judges, SaysUnread}
+use Rattle.cq_run.specs.Answer.{Answers, IsOutputOf, IsRefusalOf, Judges, SaysUnread}
 use Rattle.cq_run.specs.Clause.{IsCauseOf, IsTextOf, file_limit}
-use Rattle.cq_run.specs.Scene.{Shelf}
+use Rattle.cq_run.specs.Meaning.{MissesFile}
 use Rattle.cq_run.specs.declared.answer.Answer.{Answer}
 use Rattle.cq_run.specs.declared.answer.Answer.TheVariants as answer
-use Rattle.cq_run.specs.declared.answer.ReadCause.{ReadCause}
+use Rattle.cq_syntax.specs.declared.program.Program.{Program}
 use Rattle.cq_words.specs.Ask.{Ask, run}
 
 -- what a refused read says of the files
-abbrev pub IsTold : List ℕ → Option (List File) → ReadRefusal → Type 0
-IsTold file files refusal = IfSome files (IsReadOf file file_limit (Err refusal))
+abbrev pub IsTold : List ℕ → Told → ReadRefusal → Type 0
+IsTold file told refusal = IfSome told (IsReadOf file file_limit (Err refusal))
 
--- its text was judged
-pub answered : (ask : Ask) (before after : Shelf) (text : List ℕ) (a : Answer) → IsTextOf ask before.files text → Judges (depth_asked ask) text a → Answers ask before after a
-answered ask before after text (answer.Accepted output) is judged = record { text = text; is_text = is; judges = judged }
-answered ask before after text (answer.Refused line) is judged = record { text = text; is_text = is; judges = judged }
-answered ask before after text (answer.Unread line) is bad = absurd bad
-answered ask before after text answer.Memory is judged = tt
+rose_before : (a b c : ℕ) → a ≤ b → Rose b c → Rose a c
+rose_before a b c le rose = omega (arith, le, rose)
+
+-- a count that rose after another read rose since before that
+raised_before : (a b c : FolderData) (cause : ReadCause) → Keeps a b → Raised cause b c → Raised cause a c
+raised_before a b c Absent keeps rose = rose_before a.absences b.absences c.absences keeps.absences rose
+raised_before a b c TooLong keeps rose = rose_before a.overruns b.overruns c.overruns keeps.overruns rose
+raised_before a b c Failed keeps raised = (rose_before a.faults b.faults c.faults keeps.faults raised.0, sym keeps.steady ∙ raised.1)
+
+misses_before : (a b c : FolderData) (tree : Program) (line : List ℕ) → Keeps a b → MissesFile b c tree line → MissesFile a c tree line
+misses_before a b c tree line keeps misses = record {
+  file = misses.file;
+  cause = misses.cause;
+  lacks = subst (λ (told : Told). Lacks told tree misses.file misses.cause) keeps.files misses.lacks;
+  raised = raised_before a b c misses.cause keeps misses.raised;
+  line_is = misses.line_is;
+}
+
+-- its text was judged, after it was read
+judged_as : (ask : Ask) (before read after : FolderData) (text : List ℕ) (a : Answer) → IsTextOf ask before.files text → Keeps before read
+    → Judges (depth_asked ask) read after text a → Answers ask before after a
+judged_as ask before read after text (answer.Accepted output) is keeps judged =
+    record { text = text; is_text = is; judges = subst (λ (told : Told). IsOutputOf told text output) keeps.files judged }
+judged_as ask before read after text (answer.Refused line) is keeps judged =
+    record { text = text; is_text = is; judges = subst (λ (told : Told). IsRefusalOf (depth_asked ask) told text line.items) keeps.files judged }
+judged_as ask before read after text (answer.Unread line) is keeps judged = inr (record {
+  text = text;
+  is_text = is;
+  tree = judged.0;
+  is_tree = judged.1;
+  misses = misses_before before read after judged.0 line.items keeps judged.2;
+})
+judged_as ask before read after text answer.Memory is keeps judged = tt
+
+-- the same of a slice of the text
+pub answered : (ask : Ask) (before read after : FolderData) (text slice : List ℕ) (a : Answer) → IsTextOf ask before.files text → Keeps before read
+    → slice ≡ text → Judges (depth_asked ask) read after slice a → Answers ask before after a
+answered ask before read after text slice a is_text keeps is judged =
+    judged_as ask before read after text a is_text keeps (subst (λ (t : List ℕ). Judges (depth_asked ask) read after t a) is judged)
 
 -- it was not read
-pub unread : (file : List ℕ) (depth : ℕ) (only : Option Format) (before after : Shelf) (cause : ReadCause) (a : Answer) → IsCauseOf cause file before after → SaysUnread file cause a
-    → Answers (run file depth only) before after a
-unread file depth only before after cause (answer.Accepted output) holds bad = absurd bad
-unread file depth only before after cause (answer.Refused line) holds bad = absurd bad
-unread file depth only before after cause (answer.Unread line) holds says = record { cause = cause; holds = holds; line_is = says }
-unread file depth only before after cause answer.Memory holds says = tt
+pub unread : (file : List ℕ) (depth : ℕ) (only : Option Format) (before after : FolderData) (cause : ReadCause) (a : Answer)
+    → IsCauseOf cause file before.files → Raised cause before after → SaysUnread file cause a → Answers (run file depth only) before after a
+unread file depth only before after cause (answer.Accepted output) holds raised bad = absurd bad
+unread file depth only before after cause (answer.Refused line) holds raised bad = absurd bad
+unread file depth only before after cause (answer.Unread line) holds raised says =
+    inl (record { cause = cause; holds = holds; raised = raised; line_is = says })
+unread file depth only before after cause answer.Memory holds raised says = tt

@@ -1,20 +1,26 @@
 -- A run that can succeed does, unless memory is wanting.
-use Rattle.std.proofs.Common.{◌≡◌, ◌⊎◌, ◌<◌, ◌≤◌, inl, inr, ℕ, Bool, List, [], ◌∷◌, Option, Some, None, true, false, refl, ap, sym, subst, ◌∙◌, filter, length, arith, cond}
+use Rattle.std.proofs.Common.{◌≡◌, ◌⊎◌, ◌<◌, ◌≤◌, inl, inr, ℕ, Bool, List, [], ◌∷◌, Option, Some, None, true, false, refl, sym, subst, ◌∙◌, filter, length, arith, cond}
 use Rattle.cq_export.specs.Files.{Files}
 use Rattle.cq_export.specs.Handing.{Hands, nobody, took, failed}
 use Rattle.cq_export.specs.declared.handing.Handed.TheVariants as handed
 use Rattle.cq_io.specs.Account.{Account}
 use Rattle.cq_io.specs.Content.{File, find_file}
 use Rattle.cq_io.specs.Writes.{LacksRoom}
-use Rattle.cq_program.specs.Program.{Listing}
+use Rattle.cq_import.specs.Folders.{FolderData}
+use Rattle.cq_program.proofs.Breaches.{means_is_there}
+use Rattle.cq_program.specs.Folders.{Raised, Told}
+use Rattle.cq_program.specs.Program as program
+use Rattle.cq_program.specs.Program.{Lacks, Listing}
+use Rattle.cq_program.specs.declared.reason.ReadCause.{ReadCause}
+use Rattle.cq_program.specs.declared.reason.ReadCause.TheVariants.{Absent, TooLong, Failed}
+use Rattle.cq_run.proofs.OneTranscript.{one_tree}
 use Rattle.cq_run.specs.Ask.{depth_asked}
-use Rattle.cq_run.specs.Clause.{AreSteady, CanSucceed, ExportsSome, FailsToWrite, HasText, HasToWrite, IsCauseOf, IsTextOf, IsUnreadLine, RunGives, Succeeds, file_limit}
-use Rattle.cq_run.specs.Meaning.{IsAcceptable, Means, transcripts_of}
-use Rattle.cq_run.specs.Scene.{Scene, Shelf}
-use Rattle.cq_run.specs.declared.answer.ReadCause.{ReadCause}
-use Rattle.cq_run.specs.declared.answer.ReadCause.TheVariants.{Absent, TooLong, Failed}
+use Rattle.cq_run.specs.Clause.{AreSteady, CanSucceed, ExportsSome, FailsToWrite, HasText, HasToWrite, IsCauseOf, IsTextOf, IsUnreadLine, LacksText, RunGives, Succeeds, file_limit}
+use Rattle.cq_run.specs.Meaning.{IsAcceptable, IsTreeOf, Means, MissesFile, transcripts_of}
+use Rattle.cq_run.specs.Scene.{Scene}
 use Rattle.cq_run.specs.declared.status.Status.{Status}
 use Rattle.cq_run.specs.declared.status.Status.TheVariants as status
+use Rattle.cq_syntax.specs.declared.program.Program.{Program}
 use Rattle.cq_words.specs.Ask.{Ask, run, example, explain}
 
 -- steady exporters don't fail
@@ -35,40 +41,70 @@ filter_steady keeps (e ∷ es) steady = pick (keeps e) steady.0 (filter_steady k
     pick false one rest = rest
 
 -- a run has one text
-one_text : (ask : Ask) (files : Option (List File)) (text other : List ℕ) → HasText ask files text → IsTextOf ask files other → other ≡ text
+one_text : (ask : Ask) (told : Told) (text other : List ℕ) → HasText ask told text → IsTextOf ask told other → other ≡ text
 one_text (run file depth only) None text other there is =
     let tells = there.tells in
     cc
-one_text (run file depth only) (Some told) text other there is =
+one_text (run file depth only) (Some files) text other there is =
     let tells = there.tells in
     let found = there.found in
     let same = is.found in
     cc
-one_text (example size) files text other there is = absurd there
-one_text (explain file instance left right depth) files text other there is = absurd there
+one_text (example size) told text other there is = absurd there
+one_text (explain file instance left right depth) told text other there is = absurd there
+
+-- the files are told
+tells_files : (ask : Ask) (told : Told) (text : List ℕ) → HasText ask told text → (files : List File) × (told ≡ Some files)
+tells_files (run file depth only) told text there = (there.files, there.tells)
+tells_files (example size) told text there = absurd there
+tells_files (explain file instance left right depth) told text there = absurd there
 
 -- a file that is there and can be read has no cause to be unread
-not_unread : (ask : Ask) (before after : Shelf) (text line : List ℕ) → HasText ask before.files text → before.steady ≡ true
-    → IsUnreadLine ask before after line → ⊥
+not_unread : (ask : Ask) (before after : FolderData) (text line : List ℕ) → HasText ask before.files text → before.steady ≡ true
+    → LacksText ask before after line → ⊥
 not_unread (example size) before after text line there steady unread = unread
 not_unread (explain file instance left right depth) before after text line there steady unread = unread
-not_unread (run file depth only) before after text line there steady unread = by_cause unread.cause unread.holds
+not_unread (run file depth only) before after text line there steady unread = by_cause unread.cause unread.holds unread.raised
   where
-    by_cause : (cause : ReadCause) → IsCauseOf cause file before after → ⊥
-    by_cause Absent holds =
-        let none : find_file file there.told ≡ None = rw there.tells at holds.1 in
+    by_cause : (cause : ReadCause) → IsCauseOf cause file before.files → Raised cause before after → ⊥
+    by_cause Absent holds raised =
+        let none : find_file file there.files ≡ None = rw there.tells at holds in
         let found = there.found in
         cc
-    by_cause TooLong holds =
-        let longer = rw there.tells at holds.1 in
+    by_cause TooLong holds raised =
+        let longer = rw there.tells at holds in
         let same : Some longer.content ≡ Some text = sym longer.found ∙ there.found in
         let content_is : longer.content ≡ text = cc in
         let over : file_limit < length text = rw content_is at longer.longer in
         let short = there.short in
         absurd (omega arith)
-    by_cause Failed holds =
-        let unsure = holds.1 in
+    by_cause Failed holds raised =
+        let unsure = raised.1 in
         cc
+
+-- a steady folder has the files of a program that has a meaning over them
+not_missed : (files : List File) (before after : FolderData) (tree : Program) (L : List Listing) (line : List ℕ) → before.files ≡ Some files
+    → before.steady ≡ true → program.Means before.files tree L → MissesFile before after tree line → ⊥
+not_missed files before after tree L line told steady means misses =
+    let over : program.Means (Some files) tree L = subst (λ (t : Told). program.Means t tree L) told means in
+    let lacks : Lacks (Some files) tree misses.file misses.cause = subst (λ (t : Told). Lacks t tree misses.file misses.cause) told misses.lacks in
+    let failed : misses.cause ≡ Failed = means_is_there files tree L misses.file misses.cause over lacks in
+    let raised : Raised Failed before after = subst (λ (cause : ReadCause). Raised cause before after) failed misses.raised in
+    let unsure = raised.1 in
+    cc
+
+-- where a run can succeed, its file and the files of its program are read
+not_lacking : (ask : Ask) (before after : FolderData) (text line : List ℕ) → HasText ask before.files text → before.steady ≡ true
+    → IsAcceptable (depth_asked ask) before.files text → IsUnreadLine ask before after line → ⊥
+unfolding IsAcceptable
+not_lacking ask before after text line there steady acceptable (inl unread) = not_unread ask before after text line there steady unread
+not_lacking ask before after text line there steady acceptable (inr lacks) =
+    let told = tells_files ask before.files text there in
+    let same : lacks.text ≡ text = one_text ask before.files text lacks.text there lacks.is_text in
+    let is_tree : IsTreeOf text lacks.tree = subst (λ (t : List ℕ). IsTreeOf t lacks.tree) same lacks.is_tree in
+    let trees : lacks.tree ≡ acceptable.0 = one_tree text lacks.tree acceptable.0 is_tree acceptable.1 in
+    let misses : MissesFile before after acceptable.0 line = subst (λ (tree : Program). MissesFile before after tree line) trees lacks.misses in
+    not_missed told.0 before after acceptable.0 acceptable.2.listings line told.1 steady acceptable.2.means misses
 
 -- a write that fits doesn't fail
 no_loss : (spare : Option ℕ) (room : ℕ) (bytes : List ℕ) → spare ≡ Some room → length bytes ≤ room → LacksRoom spare bytes → ⊥
@@ -76,29 +112,30 @@ no_loss spare room bytes is fits lacks =
     let short : room < length bytes = rw is at lacks in
     absurd (omega arith)
 
--- what the run has to write doesn't fit
-abbrev Fits : List ℕ → ℕ → Type 0
-Fits text room = (listings : List Listing) → Means text listings → length (transcripts_of listings) ≤ room
+-- the transcripts of what the text means fit
+abbrev Fits : Told → List ℕ → ℕ → Type 0
+Fits told text room = (listings : List Listing) → Means told text listings → length (transcripts_of listings) ≤ room
 
 -- where a run can succeed, what it has to write fits
-fits_due : (ask : Ask) (before after : Shelf) (text line : List ℕ) (room : ℕ) (wanted : Status) → HasText ask before.files text
-    → before.steady ≡ true → IsAcceptable (depth_asked ask) text → Fits text room → HasToWrite (Some ask) before after wanted line
+fits_due : (ask : Ask) (before after : FolderData) (text line : List ℕ) (room : ℕ) (wanted : Status) → HasText ask before.files text
+    → before.steady ≡ true → IsAcceptable (depth_asked ask) before.files text → Fits before.files text room → HasToWrite (Some ask) before after wanted line
     → length line ≤ room
 fits_due ask before after text line room status.Ok there steady acceptable fits due =
     let same = one_text ask before.files text due.text there due.is_text in
-    let means : Means text due.listings = subst (λ (t : List ℕ). Means t due.listings) same due.means in
+    let means : Means before.files text due.listings = subst (λ (t : List ℕ). Means before.files t due.listings) same due.means in
     rw due.line_is (fits due.listings means)
 fits_due ask before after text line room status.Refused there steady acceptable fits due =
     let same = one_text ask before.files text due.text there due.is_text in
-    absurd (due.other (subst (IsAcceptable (depth_asked ask)) (sym same) acceptable))
+    absurd (due.other (subst (IsAcceptable (depth_asked ask) before.files) (sym same) acceptable))
 fits_due ask before after text line room status.Read there steady acceptable fits due =
-    absurd (not_unread ask before after text line there steady due)
+    absurd (not_lacking ask before after text line there steady acceptable due)
 fits_due ask before after text line room _ there steady acceptable fits due = absurd due
 
 not_written : (ask : Ask) (before after : Scene) (can : CanSucceed (Some ask) before) → can.wanted ≡ ask → FailsToWrite (Some ask) before after → ⊥
 not_written ask before after can is fails =
     let there : HasText ask before.folder.files can.text = subst (λ (a : Ask). HasText a before.folder.files can.text) is can.there in
-    let acceptable : IsAcceptable (depth_asked ask) can.text = subst (λ (a : Ask). IsAcceptable (depth_asked a) can.text) is can.acceptable in
+    let acceptable : IsAcceptable (depth_asked ask) before.folder.files can.text =
+    subst (λ (a : Ask). IsAcceptable (depth_asked a) before.folder.files can.text) is can.acceptable in
     no_loss before.out.spare can.room fails.line can.spare
     (fits_due ask before.folder after.folder can.text fails.line can.room fails.wanted there can.folder acceptable can.fits fails.due) fails.loses.no_room
 
@@ -117,12 +154,15 @@ completes ask before after status.Memory can is gives = inr refl
 completes ask before after status.Usage can is gives = absurd gives.due
 completes ask before after status.Refused can is gives =
     let there : HasText ask before.folder.files can.text = subst (λ (a : Ask). HasText a before.folder.files can.text) is can.there in
-    let acceptable : IsAcceptable (depth_asked ask) can.text = subst (λ (a : Ask). IsAcceptable (depth_asked a) can.text) is can.acceptable in
+    let acceptable : IsAcceptable (depth_asked ask) before.folder.files can.text =
+    subst (λ (a : Ask). IsAcceptable (depth_asked a) before.folder.files can.text) is can.acceptable in
     let same = one_text ask before.folder.files can.text gives.due.text there gives.due.is_text in
-    absurd (gives.due.other (subst (IsAcceptable (depth_asked ask)) (sym same) acceptable))
+    absurd (gives.due.other (subst (IsAcceptable (depth_asked ask) before.folder.files) (sym same) acceptable))
 completes ask before after status.Read can is gives =
     let there : HasText ask before.folder.files can.text = subst (λ (a : Ask). HasText a before.folder.files can.text) is can.there in
-    absurd (not_unread ask before.folder after.folder can.text gives.line there can.folder gives.due)
+    let acceptable : IsAcceptable (depth_asked ask) before.folder.files can.text =
+    subst (λ (a : Ask). IsAcceptable (depth_asked a) before.folder.files can.text) is can.acceptable in
+    absurd (not_lacking ask before.folder after.folder can.text gives.line there can.folder acceptable gives.due)
 completes ask before after status.Write can is (inl fails) = absurd (not_written ask before after can is fails)
 completes ask before after status.Write can is (inr exports) = absurd (not_exported ask before after can.exporters exports)
 

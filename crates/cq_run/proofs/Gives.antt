@@ -1,5 +1,5 @@
 -- From what each step of a run gives to what the run gives.
-use Rattle.std.proofs.Common.{◌≡◌, ◌≤◌, inl, inr, ℕ, List, Option, Some, None, true, false, length, map, refl, ap, sym, subst, ◌∙◌, arith}
+use Rattle.std.proofs.Common.{◌≡◌, ◌≤◌, inl, inr, ℕ, List, Option, Some, None, true, false, length, map, refl, ap, sym, subst, arith}
 use Rattle.std.specs.Prelude.{IfSome}
 use Rattle.cq_export.specs.Files.{Files}
 use Rattle.cq_export.specs.Handing.{HandsOver}
@@ -14,7 +14,7 @@ use Rattle.cq_run.specs.Answer.{IsOutputOf, IsRefusalOf}
 use Rattle.cq_run.specs.Clause.{HasToWrite, IsTextOf, IsUnreadLine, KeepsAll, RunGives, WritesLine, kept_of}
 use Rattle.cq_run.specs.Files.{files_of}
 use Rattle.cq_run.specs.Lines.{usage_line}
-use Rattle.cq_run.specs.Meaning.{IsAcceptable, Means, RefusesText, transcripts_of}
+use Rattle.cq_run.specs.Meaning.{Means, RefusesText, transcripts_of}
 use Rattle.cq_run.specs.Scene.{Drain, Outlets, Scene}
 use Rattle.cq_run.specs.Writing.{Stage, Tells, handed_over, no_room, no_sink, status_of}
 use Rattle.cq_run.specs.declared.output.Output.{Output}
@@ -53,12 +53,12 @@ usage_gives asked before after result line is tells line_is folder outlets =
 -- the text was refused
 pub refusal_gives : (asked : Option Ask) (ask : Ask) (before after : Scene) (result : Status) (line told text : List ℕ)
     → Some ask ≡ asked → Tells status.Refused result before.out after.out told → told ≡ line
-    → IsTextOf ask before.folder.files text → IsRefusalOf (depth_asked ask) text line
+    → IsTextOf ask before.folder.files text → IsRefusalOf (depth_asked ask) before.folder.files text line
     → after.outlets.exporters ≡ kept_of (Some ask) before.outlets.exporters → after.outlets.spoiled ≡ before.outlets.spoiled
     → RunGives asked before after result
 refusal_gives asked ask before after result line told text is tells told_is is_text refusal exporters spoiled =
     told_gives asked (Some ask) before after status.Refused result told (sym is) tells
-    (record { text = text; is_text = is_text; refuses = subst (RefusesText (depth_asked ask) text) (sym told_is) refusal.refuses; other = refusal.other })
+    (record { text = text; is_text = is_text; refuses = subst (RefusesText (depth_asked ask) before.folder.files text) (sym told_is) refusal.refuses; other = refusal.other })
     (record { exporters = exporters; spoiled = spoiled }) (λ w. w)
 
 -- the file was not read
@@ -75,7 +75,7 @@ abbrev pub kept_outlets : Ask → Outlets → Outlets
 kept_outlets ask outlets = record { exporters = kept_of (Some ask) outlets.exporters; spoiled = outlets.spoiled }
 
 handed_gives : (ask : Ask) (before after : Scene) (text : List ℕ) (listings : List Listing) (ended : Handed)
-    → IsTextOf ask before.folder.files text → Means text listings
+    → IsTextOf ask before.folder.files text → Means before.folder.files text listings
     → Appends before.out.held after.out.held (transcripts_of listings)
     → HandsOver (files_of listings) (kept_of (Some ask) before.outlets.exporters) after.outlets.exporters before.outlets.spoiled after.outlets.spoiled ended
     → RunGives (Some ask) before after (status_of ended)
@@ -88,7 +88,7 @@ handed_gives ask before after text listings handed.Memory is_text means written 
 
 -- what the text means was exported, as far as it went
 export_gives : (ask : Ask) (before after : Scene) (text : List ℕ) (listings : List Listing) (result : Status)
-    → IsTextOf ask before.folder.files text → Means text listings
+    → IsTextOf ask before.folder.files text → Means before.folder.files text listings
     → Stage (files_of listings) (transcripts_of listings) before.out after.out (kept_outlets ask before.outlets) after.outlets result
     → RunGives (Some ask) before after result
 export_gives ask before after text listings _ is_text means (no_room out outlets) = inl (record {
@@ -108,7 +108,7 @@ export_gives ask before after text listings _ is_text means (handed_over ended w
 
 -- the output of the accepted text was exported
 pub output_gives : (asked : Option Ask) (ask : Ask) (before after : Scene) (text : List ℕ) (output : Output) (result : Status) (outlets : Outlets)
-    → Some ask ≡ asked → IsTextOf ask before.folder.files text → IsOutputOf text output
+    → Some ask ≡ asked → IsTextOf ask before.folder.files text → IsOutputOf before.folder.files text output
     → Stage (files_held output.files) output.transcript.items before.out after.out outlets after.outlets result
     → outlets.exporters ≡ kept_of (Some ask) before.outlets.exporters → outlets.spoiled ≡ before.outlets.spoiled
     → RunGives asked before after result

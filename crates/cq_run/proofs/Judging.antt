@@ -1,5 +1,8 @@
 -- From what lexing, parsing and the judgement of a program answer to how a text is judged.
-use Rattle.std.proofs.Common.{◌≡◌, ℕ, List, [], sym, subst}
+use Rattle.std.proofs.Common.{◌≡◌, ◌∙◌, ℕ, List, [], ap, sym, subst}
+use Rattle.std.specs.Prelude.{String, string_bytes}
+use Rattle.std.specs.declared.alloc.Global.{Global}
+use Rattle.cq_base.specs.declared.place.Place.{Place}
 use Rattle.cq_lex.specs.declared.token.Token.{Token}
 use Rattle.cq_lex.specs.declared.refusal.LexRefusal.{LexRefusal}
 use Rattle.cq_lex.specs.declared.refusal.LexRefusal.TheVariants as lexical
@@ -10,92 +13,141 @@ use Rattle.cq_syntax.specs.Program.{IsProgram, FitsLimits}
 use Rattle.cq_parse.specs.declared.refusal.ParseRefusal.{ParseRefusal}
 use Rattle.cq_parse.specs.declared.refusal.ParseRefusal.TheVariants as grammatical
 use Rattle.cq_parse.specs.Parsed.{IsRefused, RefusedWith}
-use Rattle.cq_run.specs.Answer.{IsRefusalOf, Judges}
+use Rattle.cq_import.specs.Folders.{FolderData}
+use Rattle.cq_program.specs.Folders.{Told}
+use Rattle.cq_program.specs.Lines.{reason_line}
+use Rattle.cq_program.specs.Posing.{RefusesProgram}
+use Rattle.cq_program.specs.declared.reason.ProgramRefusal.{ProgramRefusal}
+use Rattle.cq_program.specs.declared.reason.ProgramRefusal.TheVariants as program_refusal
+use Rattle.cq_program.specs.declared.reason.ReadCause.{ReadCause}
+use Rattle.cq_program.specs.declared.reason.Reason.{Reason}
+use Rattle.cq_run.specs.Answer.{IsRefusalOf, Judges, SaysUnread}
 use Rattle.cq_run.specs.Judged.{AreSound, JudgesProgram, JudgesTokens, TellsLex, TellsParse}
+use Rattle.cq_run.specs.Lines.{read_line}
 use Rattle.cq_run.specs.Meaning.{BreaksRule, IsAcceptable, IsSound, IsTreeIn, Means, RefusesTokens, lex_line, no_program, no_tokens, no_tree, broken, parse_line}
 use Rattle.cq_run.specs.declared.answer.Answer.{Answer}
 use Rattle.cq_run.specs.declared.answer.Answer.TheVariants as answer
 
 -- a program that breaks a rule isn't sound
-not_sound : (depth : ℕ) (tree : Program) (line : List ℕ) → BreaksRule depth tree line → IsSound depth tree → ⊥
-not_sound depth tree line breach sound = sound.unbroken breach.place breach.reason breach.breaks
+not_sound : (depth : ℕ) (told : Told) (tree : Program) (line : List ℕ) → BreaksRule depth told tree line → IsSound depth told tree → ⊥
+not_sound depth told tree line breach sound = sound.unbroken breach.place breach.reason breach.breaks
 
 -- what is judged of the tree of tokens is judged of the tokens
-pub by_tree : (depth : ℕ) (tokens : List Token) (tree : Program) (a : Answer) → IsTreeIn tokens tree
+pub by_tree : (depth : ℕ) (before after : FolderData) (tokens : List Token) (tree : Program) (a : Answer) → IsTreeIn tokens tree
     → ((other : Program) → IsProgram tokens other → FitsLimits other → tree ≡ other)
-    → JudgesProgram depth tree a → JudgesTokens depth tokens a
-by_tree depth tokens tree (answer.Accepted output) is only prints = (tree, is, prints)
-by_tree depth tokens tree (answer.Refused line) is only breaks =
-    (broken tree is breaks, λ sound. not_sound depth tree line.items breaks (subst (IsSound depth) (sym (only sound.0 sound.1.0 sound.1.1)) sound.2))
-by_tree depth tokens tree (answer.Unread line) is only bad = absurd bad
-by_tree depth tokens tree answer.Memory is only judged = tt
+    → JudgesProgram depth before after tree a → JudgesTokens depth before after tokens a
+by_tree depth before after tokens tree (answer.Accepted output) is only prints = (tree, is, prints)
+by_tree depth before after tokens tree (answer.Refused line) is only breaks = (
+  broken tree is breaks,
+  λ sound. not_sound depth before.files tree line.items breaks
+      (subst (IsSound depth before.files) (sym (only sound.0 sound.1.0 sound.1.1)) sound.2),
+)
+by_tree depth before after tokens tree (answer.Unread line) is only misses = (tree, is, misses)
+by_tree depth before after tokens tree answer.Memory is only judged = tt
+
+-- the rule that is broken, told
+pub by_rule : (depth : ℕ) (before after : FolderData) (tree : Program) (refusal : ProgramRefusal) (place : Place) (reason : Reason) (line : List ℕ)
+    → refusal ≡ program_refusal.Broken place reason → RefusesProgram depth before after tree refusal → line ≡ reason_line place reason
+    → BreaksRule depth before.files tree line
+by_rule depth before after tree refusal place reason line is refuses says = record {
+  place = place;
+  reason = reason;
+  breaks = subst (λ (r : ProgramRefusal). RefusesProgram depth before after tree r) is refuses;
+  line_is = says;
+}
+
+-- the file that wasn't read, told
+pub by_file : (depth : ℕ) (before after : FolderData) (tree : Program) (refusal : ProgramRefusal) (file : String Global) (cause : ReadCause)
+    (name : List ℕ) (a : Answer) → refusal ≡ program_refusal.Read file cause → RefusesProgram depth before after tree refusal → name ≡ string_bytes file
+    → SaysUnread name cause a → JudgesProgram depth before after tree a
+by_file depth before after tree refusal file cause name (answer.Accepted output) is refuses named bad = absurd bad
+by_file depth before after tree refusal file cause name (answer.Refused line) is refuses named bad = absurd bad
+by_file depth before after tree refusal file cause name (answer.Unread line) is refuses named says =
+    let lacks = subst (λ (r : ProgramRefusal). RefusesProgram depth before after tree r) is refuses in
+    record {
+      file = string_bytes file;
+      cause = cause;
+      lacks = lacks.0;
+      raised = lacks.1;
+      line_is = says ∙ ap (λ (n : List ℕ). read_line n cause) named;
+    }
+by_file depth before after tree refusal file cause name answer.Memory is refuses named says = tt
 
 -- what is told of a refusal is its line
-told_parse : (depth : ℕ) (tokens : List Token) (refusal : ParseRefusal) (line : List ℕ) → RefusedWith tokens refusal → line ≡ parse_line refusal → (AreSound depth tokens → ⊥) → RefusesTokens depth tokens line × (AreSound depth tokens → ⊥)
-told_parse depth tokens refusal line refused says sound = (no_tree refusal refused says, sound)
+told_parse : (depth : ℕ) (told : Told) (tokens : List Token) (refusal : ParseRefusal) (line : List ℕ) → RefusedWith tokens refusal
+    → line ≡ parse_line refusal → (AreSound depth told tokens → ⊥) → RefusesTokens depth told tokens line × (AreSound depth told tokens → ⊥)
+told_parse depth told tokens refusal line refused says sound = (no_tree refusal refused says, sound)
 
 -- the parser's refusal, told
-pub by_parser : (depth : ℕ) (tokens : List Token) (refusal : ParseRefusal) (a : Answer) → IsRefused tokens refusal
+pub by_parser : (depth : ℕ) (before after : FolderData) (tokens : List Token) (refusal : ParseRefusal) (a : Answer) → IsRefused tokens refusal
     → ((other : Program) → IsProgram tokens other → FitsLimits other → refusal ≡ grammatical.Memory)
-    → TellsParse refusal a → JudgesTokens depth tokens a
-by_parser depth tokens grammatical.Memory a is only says = subst (JudgesTokens depth tokens) (sym says) tt
-by_parser depth tokens (grammatical.Syntax place) (answer.Accepted output) is only bad = absurd bad
-by_parser depth tokens (grammatical.Syntax place) (answer.Unread line) is only bad = absurd bad
-by_parser depth tokens (grammatical.Syntax place) answer.Memory is only says = tt
-by_parser depth tokens (grammatical.Syntax place) (answer.Refused line) is only says = told_parse depth tokens (grammatical.Syntax place) line.items is says (λ sound. let m = only sound.0 sound.1.0 sound.1.1 in absurd (cc m))
-by_parser depth tokens (grammatical.TooDeep place) (answer.Accepted output) is only bad = absurd bad
-by_parser depth tokens (grammatical.TooDeep place) (answer.Unread line) is only bad = absurd bad
-by_parser depth tokens (grammatical.TooDeep place) answer.Memory is only says = tt
-by_parser depth tokens (grammatical.TooDeep place) (answer.Refused line) is only says = told_parse depth tokens (grammatical.TooDeep place) line.items is says (λ sound. let m = only sound.0 sound.1.0 sound.1.1 in absurd (cc m))
-by_parser depth tokens (grammatical.Unsupported place number) (answer.Accepted output) is only bad = absurd bad
-by_parser depth tokens (grammatical.Unsupported place number) (answer.Unread line) is only bad = absurd bad
-by_parser depth tokens (grammatical.Unsupported place number) answer.Memory is only says = tt
-by_parser depth tokens (grammatical.Unsupported place number) (answer.Refused line) is only says = told_parse depth tokens (grammatical.Unsupported place number) line.items is says (λ sound. let m = only sound.0 sound.1.0 sound.1.1 in absurd (cc m))
-by_parser depth tokens (grammatical.BadOption place) (answer.Accepted output) is only bad = absurd bad
-by_parser depth tokens (grammatical.BadOption place) (answer.Unread line) is only bad = absurd bad
-by_parser depth tokens (grammatical.BadOption place) answer.Memory is only says = tt
-by_parser depth tokens (grammatical.BadOption place) (answer.Refused line) is only says = told_parse depth tokens (grammatical.BadOption place) line.items is says (λ sound. let m = only sound.0 sound.1.0 sound.1.1 in absurd (cc m))
+    → TellsParse refusal a → JudgesTokens depth before after tokens a
+by_parser depth before after tokens grammatical.Memory a is only says = subst (JudgesTokens depth before after tokens) (sym says) tt
+by_parser depth before after tokens (grammatical.Syntax place) (answer.Accepted output) is only bad = absurd bad
+by_parser depth before after tokens (grammatical.Syntax place) (answer.Unread line) is only bad = absurd bad
+by_parser depth before after tokens (grammatical.Syntax place) answer.Memory is only says = tt
+by_parser depth before after tokens (grammatical.Syntax place) (answer.Refused line) is only says = told_parse depth before.files tokens (grammatical.Syntax place) line.items is says (λ sound. let m = only sound.0 sound.1.0 sound.1.1 in absurd (cc m))
+by_parser depth before after tokens (grammatical.TooDeep place) (answer.Accepted output) is only bad = absurd bad
+by_parser depth before after tokens (grammatical.TooDeep place) (answer.Unread line) is only bad = absurd bad
+by_parser depth before after tokens (grammatical.TooDeep place) answer.Memory is only says = tt
+by_parser depth before after tokens (grammatical.TooDeep place) (answer.Refused line) is only says = told_parse depth before.files tokens (grammatical.TooDeep place) line.items is says (λ sound. let m = only sound.0 sound.1.0 sound.1.1 in absurd (cc m))
+by_parser depth before after tokens (grammatical.Unsupported place number) (answer.Accepted output) is only bad = absurd bad
+by_parser depth before after tokens (grammatical.Unsupported place number) (answer.Unread line) is only bad = absurd bad
+by_parser depth before after tokens (grammatical.Unsupported place number) answer.Memory is only says = tt
+by_parser depth before after tokens (grammatical.Unsupported place number) (answer.Refused line) is only says = told_parse depth before.files tokens (grammatical.Unsupported place number) line.items is says (λ sound. let m = only sound.0 sound.1.0 sound.1.1 in absurd (cc m))
+by_parser depth before after tokens (grammatical.BadOption place) (answer.Accepted output) is only bad = absurd bad
+by_parser depth before after tokens (grammatical.BadOption place) (answer.Unread line) is only bad = absurd bad
+by_parser depth before after tokens (grammatical.BadOption place) answer.Memory is only says = tt
+by_parser depth before after tokens (grammatical.BadOption place) (answer.Refused line) is only says = told_parse depth before.files tokens (grammatical.BadOption place) line.items is says (λ sound. let m = only sound.0 sound.1.0 sound.1.1 in absurd (cc m))
 
 -- what is judged of the tokens of a text is judged of the text
-pub by_tokens : (depth : ℕ) (bytes : List ℕ) (tokens : List Token) (a : Answer) → lex.Tokens bytes tokens
+lexed_as : (depth : ℕ) (before after : FolderData) (bytes : List ℕ) (tokens : List Token) (a : Answer) → lex.Tokens bytes tokens
     → ((others : List Token) → lex.Tokens bytes others → tokens ≡ others)
-    → JudgesTokens depth tokens a → Judges depth bytes a
+    → JudgesTokens depth before after tokens a → Judges depth before after bytes a
 unfolding Means IsAcceptable
-by_tokens depth bytes tokens (answer.Accepted output) lexed only judged = record {
+lexed_as depth before after bytes tokens (answer.Accepted output) lexed only judged = record {
   listings = judged.2.listings;
   means = (judged.0, record { tokens = tokens; lexed = lexed; spelled = judged.1 }, judged.2.means);
   prints = judged.2.prints;
 }
-by_tokens depth bytes tokens (answer.Refused line) lexed only judged = record {
+lexed_as depth before after bytes tokens (answer.Refused line) lexed only judged = record {
   refuses = no_program tokens lexed judged.0;
   other = λ a. judged.1 (a.0, subst (λ z. IsTreeIn z a.0) (sym (only a.1.tokens a.1.lexed)) a.1.spelled, a.2);
 }
-by_tokens depth bytes tokens (answer.Unread line) lexed only bad = absurd bad
-by_tokens depth bytes tokens answer.Memory lexed only judged = tt
+lexed_as depth before after bytes tokens (answer.Unread line) lexed only judged =
+    (judged.0, record { tokens = tokens; lexed = lexed; spelled = judged.1 }, judged.2)
+lexed_as depth before after bytes tokens answer.Memory lexed only judged = tt
 
-told_lex : (depth : ℕ) (bytes : List ℕ) (refusal : LexRefusal) (line : List ℕ) → lex.Refuses [] bytes refusal → line ≡ lex_line refusal
-    → ((others : List Token) → lex.Tokens bytes others → ⊥) → IsRefusalOf depth bytes line
+-- the same of a slice of the tokens
+pub by_tokens : (depth : ℕ) (before after : FolderData) (bytes : List ℕ) (tokens slice : List Token) (a : Answer) → lex.Tokens bytes tokens
+    → ((others : List Token) → lex.Tokens bytes others → tokens ≡ others) → slice ≡ tokens
+    → JudgesTokens depth before after slice a → Judges depth before after bytes a
+by_tokens depth before after bytes tokens slice a lexed only is judged =
+    lexed_as depth before after bytes tokens a lexed only (subst (λ (ts : List Token). JudgesTokens depth before after ts a) is judged)
+
+told_lex : (depth : ℕ) (told : Told) (bytes : List ℕ) (refusal : LexRefusal) (line : List ℕ) → lex.Refuses [] bytes refusal → line ≡ lex_line refusal
+    → ((others : List Token) → lex.Tokens bytes others → ⊥) → IsRefusalOf depth told bytes line
 unfolding IsAcceptable
-told_lex depth bytes refusal line refused says none = record { refuses = no_tokens refusal refused says; other = λ a. none a.1.tokens a.1.lexed }
+told_lex depth told bytes refusal line refused says none = record { refuses = no_tokens refusal refused says; other = λ a. none a.1.tokens a.1.lexed }
 
 -- the lexer's refusal, told
-pub by_lexer : (depth : ℕ) (bytes : List ℕ) (refusal : LexRefusal) (a : Answer) → HasFault bytes refusal
+pub by_lexer : (depth : ℕ) (before after : FolderData) (bytes : List ℕ) (refusal : LexRefusal) (a : Answer) → HasFault bytes refusal
     → ((others : List Token) → lex.Tokens bytes others → refusal ≡ lexical.Memory)
-    → TellsLex refusal a → Judges depth bytes a
-by_lexer depth bytes lexical.Memory a is only says = subst (Judges depth bytes) (sym says) tt
-by_lexer depth bytes (lexical.BadByte place) (answer.Accepted output) is only bad = absurd bad
-by_lexer depth bytes (lexical.BadByte place) (answer.Unread line) is only bad = absurd bad
-by_lexer depth bytes (lexical.BadByte place) answer.Memory is only says = tt
-by_lexer depth bytes (lexical.BadByte place) (answer.Refused line) is only says = told_lex depth bytes (lexical.BadByte place) line.items is says (λ others lexed. let m = only others lexed in absurd (cc m))
-by_lexer depth bytes (lexical.OpenText place) (answer.Accepted output) is only bad = absurd bad
-by_lexer depth bytes (lexical.OpenText place) (answer.Unread line) is only bad = absurd bad
-by_lexer depth bytes (lexical.OpenText place) answer.Memory is only says = tt
-by_lexer depth bytes (lexical.OpenText place) (answer.Refused line) is only says = told_lex depth bytes (lexical.OpenText place) line.items is says (λ others lexed. let m = only others lexed in absurd (cc m))
-by_lexer depth bytes (lexical.OpenComment place) (answer.Accepted output) is only bad = absurd bad
-by_lexer depth bytes (lexical.OpenComment place) (answer.Unread line) is only bad = absurd bad
-by_lexer depth bytes (lexical.OpenComment place) answer.Memory is only says = tt
-by_lexer depth bytes (lexical.OpenComment place) (answer.Refused line) is only says = told_lex depth bytes (lexical.OpenComment place) line.items is says (λ others lexed. let m = only others lexed in absurd (cc m))
-by_lexer depth bytes (lexical.LongName place) (answer.Accepted output) is only bad = absurd bad
-by_lexer depth bytes (lexical.LongName place) (answer.Unread line) is only bad = absurd bad
-by_lexer depth bytes (lexical.LongName place) answer.Memory is only says = tt
-by_lexer depth bytes (lexical.LongName place) (answer.Refused line) is only says = told_lex depth bytes (lexical.LongName place) line.items is says (λ others lexed. let m = only others lexed in absurd (cc m))
+    → TellsLex refusal a → Judges depth before after bytes a
+by_lexer depth before after bytes lexical.Memory a is only says = subst (Judges depth before after bytes) (sym says) tt
+by_lexer depth before after bytes (lexical.BadByte place) (answer.Accepted output) is only bad = absurd bad
+by_lexer depth before after bytes (lexical.BadByte place) (answer.Unread line) is only bad = absurd bad
+by_lexer depth before after bytes (lexical.BadByte place) answer.Memory is only says = tt
+by_lexer depth before after bytes (lexical.BadByte place) (answer.Refused line) is only says = told_lex depth before.files bytes (lexical.BadByte place) line.items is says (λ others lexed. let m = only others lexed in absurd (cc m))
+by_lexer depth before after bytes (lexical.OpenText place) (answer.Accepted output) is only bad = absurd bad
+by_lexer depth before after bytes (lexical.OpenText place) (answer.Unread line) is only bad = absurd bad
+by_lexer depth before after bytes (lexical.OpenText place) answer.Memory is only says = tt
+by_lexer depth before after bytes (lexical.OpenText place) (answer.Refused line) is only says = told_lex depth before.files bytes (lexical.OpenText place) line.items is says (λ others lexed. let m = only others lexed in absurd (cc m))
+by_lexer depth before after bytes (lexical.OpenComment place) (answer.Accepted output) is only bad = absurd bad
+by_lexer depth before after bytes (lexical.OpenComment place) (answer.Unread line) is only bad = absurd bad
+by_lexer depth before after bytes (lexical.OpenComment place) answer.Memory is only says = tt
+by_lexer depth before after bytes (lexical.OpenComment place) (answer.Refused line) is only says = told_lex depth before.files bytes (lexical.OpenComment place) line.items is says (λ others lexed. let m = only others lexed in absurd (cc m))
+by_lexer depth before after bytes (lexical.LongName place) (answer.Accepted output) is only bad = absurd bad
+by_lexer depth before after bytes (lexical.LongName place) (answer.Unread line) is only bad = absurd bad
+by_lexer depth before after bytes (lexical.LongName place) answer.Memory is only says = tt
+by_lexer depth before after bytes (lexical.LongName place) (answer.Refused line) is only says = told_lex depth before.files bytes (lexical.LongName place) line.items is says (λ others lexed. let m = only others lexed in absurd (cc m))

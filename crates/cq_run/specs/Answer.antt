@@ -1,17 +1,19 @@
 -- What reading and judging a text gives, before anything is written.
 use Rattle.std.specs.Prelude.{◌≡◌, ℕ, List}
 use Rattle.cq_export.specs.Held.{files_held}
+use Rattle.cq_import.specs.Folders.{FolderData}
+use Rattle.cq_program.specs.Folders.{Told}
 use Rattle.cq_program.specs.Program.{Listing}
+use Rattle.cq_program.specs.declared.reason.ReadCause.{ReadCause}
 use Rattle.cq_run.specs.Ask.{depth_asked}
 use Rattle.cq_run.specs.Clause.{IsTextOf, IsUnreadLine}
 use Rattle.cq_run.specs.Files.{files_of}
 use Rattle.cq_run.specs.Lines.{read_line}
-use Rattle.cq_run.specs.Meaning.{Means, IsAcceptable, RefusesText, transcripts_of}
-use Rattle.cq_run.specs.Scene.{Shelf}
+use Rattle.cq_run.specs.Meaning.{Means, IsAcceptable, IsTreeOf, MissesFile, RefusesText, transcripts_of}
 use Rattle.cq_run.specs.declared.answer.Answer.{Answer}
 use Rattle.cq_run.specs.declared.answer.Answer.TheVariants as answer
-use Rattle.cq_run.specs.declared.answer.ReadCause.{ReadCause}
 use Rattle.cq_run.specs.declared.output.Output.{Output}
+use Rattle.cq_syntax.specs.declared.program.Program.{Program}
 use Rattle.cq_words.specs.Ask.{Ask}
 
 -- the output is that of these instances
@@ -20,32 +22,32 @@ pub record Prints (listings : List Listing) (output : Output) : Type 0 where
   pub files : files_held output.files ≡ files_of listings
 
 -- the output is that of what the text means
-pub record IsOutputOf (text : List ℕ) (output : Output) : Type 0 where
+pub record IsOutputOf (told : Told) (text : List ℕ) (output : Output) : Type 0 where
   pub listings : List Listing
-  pub means : Means text listings
+  pub means : Means told text listings
   pub prints : Prints listings output
 
 -- the text is refused, with this line
-pub record IsRefusalOf (depth : ℕ) (text line : List ℕ) : Type 0 where
-  pub refuses : RefusesText depth text line
-  pub other : IsAcceptable depth text → ⊥
+pub record IsRefusalOf (depth : ℕ) (told : Told) (text line : List ℕ) : Type 0 where
+  pub refuses : RefusesText depth told text line
+  pub other : IsAcceptable depth told text → ⊥
 
--- how a text is judged
-abbrev pub Judges : ℕ → List ℕ → Answer → Type 0
-Judges depth text (answer.Accepted output) = IsOutputOf text output
-Judges depth text (answer.Refused line) = IsRefusalOf depth text line.items
-Judges depth text (answer.Unread line) = ⊥
-Judges depth text answer.Memory = Unit {0}
+-- how a text is judged, over the folder before and after
+abbrev pub Judges : ℕ → FolderData → FolderData → List ℕ → Answer → Type 0
+Judges depth before after text (answer.Accepted output) = IsOutputOf before.files text output
+Judges depth before after text (answer.Refused line) = IsRefusalOf depth before.files text line.items
+Judges depth before after text (answer.Unread line) = (tree : Program) × IsTreeOf text tree × MissesFile before after tree line.items
+Judges depth before after text answer.Memory = Unit {0}
 
-pub record JudgesSome (ask : Ask) (before : Shelf) (answer : Answer) : Type 0 where
+pub record JudgesSome (ask : Ask) (before after : FolderData) (answer : Answer) : Type 0 where
   pub text : List ℕ
   pub is_text : IsTextOf ask before.files text
-  pub judges : Judges (depth_asked ask) text answer
+  pub judges : Judges (depth_asked ask) before after text answer
 
 -- what the answer to a request is
-abbrev pub Answers : Ask → Shelf → Shelf → Answer → Type 0
-Answers ask before after (answer.Accepted output) = JudgesSome ask before (answer.Accepted output)
-Answers ask before after (answer.Refused line) = JudgesSome ask before (answer.Refused line)
+abbrev pub Answers : Ask → FolderData → FolderData → Answer → Type 0
+Answers ask before after (answer.Accepted output) = JudgesSome ask before after (answer.Accepted output)
+Answers ask before after (answer.Refused line) = JudgesSome ask before after (answer.Refused line)
 Answers ask before after (answer.Unread line) = IsUnreadLine ask before after line.items
 Answers ask before after answer.Memory = Unit {0}
 

@@ -1,25 +1,28 @@
 -- What a run gives, for each status.
-use Rattle.std.specs.Prelude.{◌≡◌, ◌⊎◌, ◌≤◌, ℕ, length, true, false, List, [], ◌∷◌, Some, None, IfSome, filter}
+use Rattle.std.specs.Prelude.{◌≡◌, ◌⊎◌, ◌≤◌, ℕ, length, true, List, [], ◌∷◌, Some, None, IfSome, filter}
 use Rattle.std.specs.declared.option.Option.{Option}
 use Rattle.cq_run.specs.Choice.{is_kept}
 use Rattle.cq_export.specs.Handing.{HandsOver}
 use Rattle.cq_export.specs.declared.handing.Handed.{Handed}
 use Rattle.cq_export.specs.declared.handing.Handed.TheVariants as handed
+use Rattle.cq_import.specs.Folders.{FolderData}
 use Rattle.cq_io.specs.Account.{Account}
 use Rattle.cq_io.specs.Content.{File, find_file}
 use Rattle.cq_io.specs.Counts.{Rose}
 use Rattle.cq_io.specs.Reads.{IsLonger}
 use Rattle.cq_io.specs.Writes.{Appends, AppendsSome, LacksRoom}
+use Rattle.cq_program.specs.Folders.{Raised, Told}
 use Rattle.cq_program.specs.Program.{Listing}
+use Rattle.cq_program.specs.declared.reason.ReadCause.{ReadCause}
+use Rattle.cq_program.specs.declared.reason.ReadCause.TheVariants.{Absent, TooLong, Failed}
 use Rattle.cq_run.specs.Ask.{depth_asked, only_asked}
 use Rattle.cq_run.specs.Files.{files_of}
 use Rattle.cq_run.specs.Lines.{usage_line, read_line}
-use Rattle.cq_run.specs.Meaning.{Means, IsAcceptable, RefusesText, transcripts_of}
-use Rattle.cq_run.specs.Scene.{Drain, Outlets, Scene, Shelf}
-use Rattle.cq_run.specs.declared.answer.ReadCause.{ReadCause}
-use Rattle.cq_run.specs.declared.answer.ReadCause.TheVariants.{Absent, TooLong, Failed}
+use Rattle.cq_run.specs.Meaning.{Means, IsAcceptable, IsTreeOf, MissesFile, RefusesText, transcripts_of}
+use Rattle.cq_run.specs.Scene.{Drain, Outlets, Scene}
 use Rattle.cq_run.specs.declared.status.Status.{Status}
 use Rattle.cq_run.specs.declared.status.Status.TheVariants as status
+use Rattle.cq_syntax.specs.declared.program.Program.{Program}
 use Rattle.cq_words.specs.Ask.{Ask, run, example, explain}
 
 -- how long the file may be: 8 MiB
@@ -27,51 +30,63 @@ abbrev pub file_limit : ℕ
 file_limit = 8388608
 
 -- the text of a file: the one under its name, where the folder tells its files, and no longer than the limit
-pub record IsTextIn (file : List ℕ) (files : Option (List File)) (text : List ℕ) : Type 0 where
-  pub found : IfSome files (λ told. find_file file told ≡ Some text)
+pub record IsTextIn (file : List ℕ) (told : Told) (text : List ℕ) : Type 0 where
+  pub found : IfSome told (λ files. find_file file files ≡ Some text)
   pub short : length text ≤ file_limit
 
 -- the text of a run is that of its file
-abbrev pub IsTextOf : Ask → Option (List File) → List ℕ → Type 0
-IsTextOf (run file depth only) files text = IsTextIn file files text
-IsTextOf (example size) files text = ⊥
-IsTextOf (explain file instance left right depth) files text = ⊥
+abbrev pub IsTextOf : Ask → Told → List ℕ → Type 0
+IsTextOf (run file depth only) told text = IsTextIn file told text
+IsTextOf (example size) told text = ⊥
+IsTextOf (explain file instance left right depth) told text = ⊥
 
--- why a file was not read
-abbrev pub IsCauseOf : ReadCause → List ℕ → Shelf → Shelf → Type 0
-IsCauseOf Absent file before after = Rose before.absences after.absences × IfSome before.files (λ told. find_file file told ≡ None)
-IsCauseOf TooLong file before after = Rose before.overruns after.overruns × IfSome before.files (IsLonger file file_limit)
-IsCauseOf Failed file before after = Rose before.faults after.faults × (before.steady ≡ false)
+-- what the cause says of the file, where the folder tells its files: it is missing, or longer than the limit
+abbrev pub IsCauseOf : ReadCause → List ℕ → Told → Type 0
+IsCauseOf Absent file told = IfSome told (λ files. find_file file files ≡ None)
+IsCauseOf TooLong file told = IfSome told (IsLonger file file_limit)
+IsCauseOf Failed file told = Unit {0}
 
 -- the line is the transcripts of the instances that the text of the run means
-pub record IsAccepted (ask : Ask) (files : Option (List File)) (line : List ℕ) : Type 0 where
+pub record IsAccepted (ask : Ask) (told : Told) (line : List ℕ) : Type 0 where
   pub text : List ℕ
-  pub is_text : IsTextOf ask files text
+  pub is_text : IsTextOf ask told text
   pub listings : List Listing
-  pub means : Means text listings
+  pub means : Means told text listings
   pub line_is : line ≡ transcripts_of listings
 
 -- the text of the run is refused, with this line, and is none that would be accepted
-pub record IsRefused (ask : Ask) (files : Option (List File)) (line : List ℕ) : Type 0 where
+pub record IsRefused (ask : Ask) (told : Told) (line : List ℕ) : Type 0 where
   pub text : List ℕ
-  pub is_text : IsTextOf ask files text
-  pub refuses : RefusesText (depth_asked ask) text line
-  pub other : IsAcceptable (depth_asked ask) text → ⊥
+  pub is_text : IsTextOf ask told text
+  pub refuses : RefusesText (depth_asked ask) told text line
+  pub other : IsAcceptable (depth_asked ask) told text → ⊥
 
--- the file was not read, for this cause, and the line says so
-pub record IsUnread (file : List ℕ) (before after : Shelf) (line : List ℕ) : Type 0 where
+-- the file of the run was not read, for a cause whose count rose, and the line says so
+pub record IsUnread (file : List ℕ) (before after : FolderData) (line : List ℕ) : Type 0 where
   pub cause : ReadCause
-  pub holds : IsCauseOf cause file before after
+  pub holds : IsCauseOf cause file before.files
+  pub raised : Raised cause before after
   pub line_is : line ≡ read_line file cause
 
--- a file that is due was not read, and the line says so
-abbrev pub IsUnreadLine : Ask → Shelf → Shelf → List ℕ → Type 0
-IsUnreadLine (run file depth only) before after line = IsUnread file before after line
-IsUnreadLine (example size) before after line = ⊥
-IsUnreadLine (explain file instance left right depth) before after line = ⊥
+abbrev pub LacksText : Ask → FolderData → FolderData → List ℕ → Type 0
+LacksText (run file depth only) before after line = IsUnread file before after line
+LacksText (example size) before after line = ⊥
+LacksText (explain file instance left right depth) before after line = ⊥
+
+-- the text of the run is that of a program, a file that this reads was not read, and the line says so
+pub record LacksFile (ask : Ask) (before after : FolderData) (line : List ℕ) : Type 0 where
+  pub text : List ℕ
+  pub is_text : IsTextOf ask before.files text
+  pub tree : Program
+  pub is_tree : IsTreeOf text tree
+  pub misses : MissesFile before after tree line
+
+-- a file that is due was not read, and the line says so: that of the run, or one that its program reads
+abbrev pub IsUnreadLine : Ask → FolderData → FolderData → List ℕ → Type 0
+IsUnreadLine ask before after line = LacksText ask before after line ⊎ LacksFile ask before after line
 
 -- what a run has to write, and why, by the status that it has where the write succeeds
-abbrev pub HasToWrite : Option Ask → Shelf → Shelf → Status → List ℕ → Type 0
+abbrev pub HasToWrite : Option Ask → FolderData → FolderData → Status → List ℕ → Type 0
 HasToWrite None before after status.Usage line = (line ≡ usage_line) × (after ≡ before)
 HasToWrite (Some ask) before after status.Ok line = IsAccepted ask before.files line
 HasToWrite (Some ask) before after status.Refused line = IsRefused ask before.files line
@@ -114,7 +129,7 @@ pub record Exports (ask : Ask) (before after : Scene) (ended : Handed) : Type 0 
   pub text : List ℕ
   pub is_text : IsTextOf ask before.folder.files text
   pub listings : List Listing
-  pub means : Means text listings
+  pub means : Means before.folder.files text listings
   pub written : Appends before.out.held after.out.held (transcripts_of listings)
   pub hands : HandsOver (files_of listings) (kept_of (Some ask) before.outlets.exporters) after.outlets.exporters before.outlets.spoiled
       after.outlets.spoiled ended
@@ -139,34 +154,34 @@ RunGives ask before after status.Write = FailsToWrite ask before after ⊎ Expor
 RunGives ask before after status.Memory = GivesUp ask before after ⊎ ExportsSome ask before after handed.Memory
 
 -- the text of a run, where the folder tells it within the limit
-pub record IsToldWithin (file : List ℕ) (files : Option (List File)) (text : List ℕ) : Type 0 where
-  pub told : List File
-  pub tells : files ≡ Some told
-  pub found : find_file file told ≡ Some text
+pub record IsToldWithin (file : List ℕ) (told : Told) (text : List ℕ) : Type 0 where
+  pub files : List File
+  pub tells : told ≡ Some files
+  pub found : find_file file files ≡ Some text
   pub short : length text ≤ file_limit
 
-abbrev pub HasText : Ask → Option (List File) → List ℕ → Type 0
-HasText (run file depth only) files text = IsToldWithin file files text
-HasText (example size) files text = ⊥
-HasText (explain file instance left right depth) files text = ⊥
+abbrev pub HasText : Ask → Told → List ℕ → Type 0
+HasText (run file depth only) told text = IsToldWithin file told text
+HasText (example size) told text = ⊥
+HasText (explain file instance left right depth) told text = ⊥
 
 -- none of the exporters ever fails
 abbrev pub AreSteady : List Account → Type 0
 AreSteady [] = Unit {0}
 AreSteady (exporter ∷ exporters) = (exporter.steady ≡ true) × AreSteady exporters
 
--- the words are read, the text is there, has a meaning, breaks no rule and passes no limit at their depth, no device fails, and the sink
--- has room for the transcripts
+-- the words are read, the text is there, has a meaning over the files that are told, breaks no rule and passes no limit at their depth, no
+-- device fails, and the sink has room for the transcripts
 pub record CanSucceed (ask : Option Ask) (before : Scene) : Type 0 where
   pub wanted : Ask
   pub asked : ask ≡ Some wanted
   pub text : List ℕ
   pub there : HasText wanted before.folder.files text
-  pub acceptable : IsAcceptable (depth_asked wanted) text
+  pub acceptable : IsAcceptable (depth_asked wanted) before.folder.files text
   pub folder : before.folder.steady ≡ true
   pub room : ℕ
   pub spare : before.out.spare ≡ Some room
-  pub fits : (listings : List Listing) → Means text listings → length (transcripts_of listings) ≤ room
+  pub fits : (listings : List Listing) → Means before.folder.files text listings → length (transcripts_of listings) ≤ room
   pub exporters : AreSteady before.outlets.exporters
 
 -- such a run succeeds, or has no memory

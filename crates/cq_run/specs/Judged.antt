@@ -6,37 +6,42 @@ use Rattle.cq_lex.specs.declared.refusal.LexRefusal.TheVariants as lexical
 use Rattle.cq_parse.specs.declared.refusal.ParseRefusal.{ParseRefusal}
 use Rattle.cq_parse.specs.declared.refusal.ParseRefusal.TheVariants as grammatical
 use Rattle.cq_syntax.specs.declared.program.Program.{Program}
+use Rattle.cq_import.specs.Folders.{FolderData}
+use Rattle.cq_program.specs.Folders.{Told}
 use Rattle.cq_program.specs.Program as program
 use Rattle.cq_program.specs.Program.{Listing}
 use Rattle.cq_run.specs.Answer.{Prints}
-use Rattle.cq_run.specs.Meaning.{IsSound, IsTreeIn, BreaksRule, RefusesTokens, lex_line, parse_line}
+use Rattle.cq_run.specs.Meaning.{IsSound, IsTreeIn, BreaksRule, MissesFile, RefusesTokens, lex_line, parse_line}
 use Rattle.cq_run.specs.declared.answer.Answer.{Answer}
 use Rattle.cq_run.specs.declared.answer.Answer.TheVariants as answer
 use Rattle.cq_run.specs.declared.output.Output.{Output}
 
 -- the output is that of what the program means
-pub record PrintsProgram (tree : Program) (output : Output) : Type 0 where
+pub record PrintsProgram (told : Told) (tree : Program) (output : Output) : Type 0 where
   pub listings : List Listing
-  pub means : program.Means tree listings
+  pub means : program.Means told tree listings
   pub prints : Prints listings output
 
--- how a program is judged
-abbrev pub JudgesProgram : ℕ → Program → Answer → Type 0
-JudgesProgram depth tree (answer.Accepted output) = PrintsProgram tree output
-JudgesProgram depth tree (answer.Refused line) = BreaksRule depth tree line.items
-JudgesProgram depth tree (answer.Unread line) = ⊥
-JudgesProgram depth tree answer.Memory = Unit {0}
+-- how a program is judged, over the folder before and after
+abbrev pub JudgesProgram : ℕ → FolderData → FolderData → Program → Answer → Type 0
+JudgesProgram depth before after tree (answer.Accepted output) = PrintsProgram before.files tree output
+JudgesProgram depth before after tree (answer.Refused line) = BreaksRule depth before.files tree line.items
+JudgesProgram depth before after tree (answer.Unread line) = MissesFile before after tree line.items
+JudgesProgram depth before after tree answer.Memory = Unit {0}
 
 -- the tokens of an acceptable text
-abbrev pub AreSound : ℕ → List Token → Type 0
-AreSound depth tokens = (tree : Program) × IsTreeIn tokens tree × IsSound depth tree
+abbrev pub AreSound : ℕ → Told → List Token → Type 0
+AreSound depth told tokens = (tree : Program) × IsTreeIn tokens tree × IsSound depth told tree
 
 -- how tokens are judged
-abbrev pub JudgesTokens : ℕ → List Token → Answer → Type 0
-JudgesTokens depth tokens (answer.Accepted output) = (tree : Program) × IsTreeIn tokens tree × PrintsProgram tree output
-JudgesTokens depth tokens (answer.Refused line) = RefusesTokens depth tokens line.items × (AreSound depth tokens → ⊥)
-JudgesTokens depth tokens (answer.Unread line) = ⊥
-JudgesTokens depth tokens answer.Memory = Unit {0}
+abbrev pub JudgesTokens : ℕ → FolderData → FolderData → List Token → Answer → Type 0
+JudgesTokens depth before after tokens (answer.Accepted output) = (tree : Program) × IsTreeIn tokens tree
+    × PrintsProgram before.files tree output
+JudgesTokens depth before after tokens (answer.Refused line) = RefusesTokens depth before.files tokens line.items
+    × (AreSound depth before.files tokens → ⊥)
+JudgesTokens depth before after tokens (answer.Unread line) = (tree : Program) × IsTreeIn tokens tree
+    × MissesFile before after tree line.items
+JudgesTokens depth before after tokens answer.Memory = Unit {0}
 
 -- an answer that refuses with this line
 abbrev pub SaysRefused : List ℕ → Answer → Type 0

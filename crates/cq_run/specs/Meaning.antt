@@ -11,10 +11,14 @@ use Rattle.cq_syntax.specs.Program.{IsProgram, FitsLimits}
 use Rattle.cq_parse.specs.declared.refusal.ParseRefusal.{ParseRefusal}
 use Rattle.cq_parse.specs.declared.refusal.ParseRefusal.TheVariants as grammatical
 use Rattle.cq_parse.specs.Parsed.{RefusedWith}
+use Rattle.cq_import.specs.Folders.{FolderData}
+use Rattle.cq_program.specs.declared.reason.ReadCause.{ReadCause}
 use Rattle.cq_program.specs.declared.reason.Reason.{Reason}
+use Rattle.cq_program.specs.Folders.{Raised, Told}
 use Rattle.cq_program.specs.Lines.{line_of, reason_line}
 use Rattle.cq_program.specs.Program as program
-use Rattle.cq_program.specs.Program.{Breaks, Listing}
+use Rattle.cq_program.specs.Program.{Breaks, Lacks, Listing}
+use Rattle.cq_run.specs.Lines.{read_line}
 use Rattle.cq_text.specs.Transcript as text
 
 -- the tokens spell this program, which keeps the limits
@@ -27,9 +31,9 @@ pub record IsTreeOf (bytes : List ℕ) (tree : Program) : Type 0 where
   pub lexed : lex.Tokens bytes tokens
   pub spelled : IsTreeIn tokens tree
 
--- what a text means: the instances of its program, listed
-unfoldable pub Means : List ℕ → List Listing → Type 0
-Means bytes L = (tree : Program) × IsTreeOf bytes tree × program.Means tree L
+-- what a text means over what a folder tells: the instances of its program, listed
+unfoldable pub Means : Told → List ℕ → List Listing → Type 0
+Means told bytes L = (tree : Program) × IsTreeOf bytes tree × program.Means told tree L
 
 abbrev pub transcript_of : Listing → List ℕ
 transcript_of L = text.transcript_of L.name L.schema L.instance
@@ -55,28 +59,36 @@ parse_line (grammatical.BadOption place) = line_of place 24 (codes "BadOption") 
 parse_line grammatical.Memory = []
 
 -- the program breaks a rule, or passes a limit at the depth to which models are made, and the line tells the first, at its place
-pub record BreaksRule (depth : ℕ) (tree : Program) (line : List ℕ) : Type 0 where
+pub record BreaksRule (depth : ℕ) (told : Told) (tree : Program) (line : List ℕ) : Type 0 where
   pub place : Place
   pub reason : Reason
-  pub breaks : Breaks depth tree place reason
+  pub breaks : Breaks depth told tree place reason
   pub line_is : line ≡ reason_line place reason
 
+-- a file that the program reads was not read, for a cause whose count rose, and the line says so
+pub record MissesFile (before after : FolderData) (tree : Program) (line : List ℕ) : Type 0 where
+  pub file : List ℕ
+  pub cause : ReadCause
+  pub lacks : Lacks before.files tree file cause
+  pub raised : Raised cause before after
+  pub line_is : line ≡ read_line file cause
+
 -- the tokens are no program within the limits, and the line tells the first that decides; or it breaks a rule
-pub data RefusesTokens (depth : ℕ) (tokens : List Token) (line : List ℕ) : Type 0 where
-  no_tree : (refusal : ParseRefusal) → RefusedWith tokens refusal → line ≡ parse_line refusal → RefusesTokens depth tokens line
-  broken : (tree : Program) → IsTreeIn tokens tree → BreaksRule depth tree line → RefusesTokens depth tokens line
+pub data RefusesTokens (depth : ℕ) (told : Told) (tokens : List Token) (line : List ℕ) : Type 0 where
+  no_tree : (refusal : ParseRefusal) → RefusedWith tokens refusal → line ≡ parse_line refusal → RefusesTokens depth told tokens line
+  broken : (tree : Program) → IsTreeIn tokens tree → BreaksRule depth told tree line → RefusesTokens depth told tokens line
 
 -- the text has no tokens, and the line tells the first fault; or the tokens are refused
-pub data RefusesText (depth : ℕ) (bytes line : List ℕ) : Type 0 where
-  no_tokens : (refusal : LexRefusal) → lex.Refuses [] bytes refusal → line ≡ lex_line refusal → RefusesText depth bytes line
-  no_program : (tokens : List Token) → lex.Tokens bytes tokens → RefusesTokens depth tokens line → RefusesText depth bytes line
+pub data RefusesText (depth : ℕ) (told : Told) (bytes line : List ℕ) : Type 0 where
+  no_tokens : (refusal : LexRefusal) → lex.Refuses [] bytes refusal → line ≡ lex_line refusal → RefusesText depth told bytes line
+  no_program : (tokens : List Token) → lex.Tokens bytes tokens → RefusesTokens depth told tokens line → RefusesText depth told bytes line
 
 -- the program has a meaning, breaks no rule, and passes no limit at the depth
-pub record IsSound (depth : ℕ) (tree : Program) : Type 0 where
+pub record IsSound (depth : ℕ) (told : Told) (tree : Program) : Type 0 where
   pub listings : List Listing
-  pub means : program.Means tree listings
-  pub unbroken : (place : Place) (reason : Reason) → Breaks depth tree place reason → ⊥
+  pub means : program.Means told tree listings
+  pub unbroken : (place : Place) (reason : Reason) → Breaks depth told tree place reason → ⊥
 
 -- the same of a text
-unfoldable pub IsAcceptable : ℕ → List ℕ → Type 0
-IsAcceptable depth bytes = (tree : Program) × IsTreeOf bytes tree × IsSound depth tree
+unfoldable pub IsAcceptable : ℕ → Told → List ℕ → Type 0
+IsAcceptable depth told bytes = (tree : Program) × IsTreeOf bytes tree × IsSound depth told tree

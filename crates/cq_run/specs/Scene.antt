@@ -1,17 +1,8 @@
 -- What a contract sees of the objects that are handed to a run.
-use Rattle.std.specs.Prelude.{ℕ, Bool, List}
+use Rattle.std.specs.Prelude.{ℕ, List}
 use Rattle.std.specs.declared.option.Option.{Option}
 use Rattle.cq_io.specs.Account.{Account}
-use Rattle.cq_io.specs.Content.{File}
-
--- of the folder
-pub record Shelf : Type 0 where
-  pub files : Option (List File)
-  pub faults : ℕ
-  pub absences : ℕ
-  pub overruns : ℕ
-  -- it never fails
-  pub steady : Bool
+use Rattle.cq_import.specs.Folders.{FolderData}
 
 -- of the sink
 pub record Drain : Type 0 where
@@ -27,6 +18,6 @@ pub record Outlets : Type 0 where
 
 -- of all
 pub record Scene : Type 0 where
-  pub folder : Shelf
+  pub folder : FolderData
   pub out : Drain
   pub outlets : Outlets

@@ -1,13 +1,14 @@
 //! Reading the text of a file, and judging it.
 ghost use Rattle.std.specs.Prelude.{◌≡◌, ◌≤◌, IfOk};
 ghost use Rattle.cq_run.specs.Ask.{ask_of};
-ghost use Rattle.cq_run.specs.Answer.{Answers, Judges, SaysUnread};
+ghost use Rattle.cq_run.specs.Answer.{Answers, SaysUnread};
 ghost use Rattle.cq_run.specs.Lines.{read_line};
 
 use crate::judge::judge;
 use crate::order::Order;
 use crate::output::Output;
 use cq_io::{Folder, ReadRefusal};
+use cq_program::ReadCause;
 use std::alloc::{AllocError, Global};
 
 /// What is to be written, by what became of the file.
@@ -17,17 +18,9 @@ pub enum Answer {
     Accepted(Output),
     /// The line of a refused text.
     Refused(Vec<u8>),
-    /// The line of a file that was not read.
+    /// The line of a file that was not read: the one that is run, or one that an import reads.
     Unread(Vec<u8>),
     Memory,
-}
-
-/// Why a file was not read.
-#[derive(Clone, Copy, Debug, PartialEq, Eq)]
-pub enum ReadCause {
-    Absent,
-    TooLong,
-    Failed,
 }
 
 /// The most bytes of a program file: 8 MiB.
@@ -40,15 +33,15 @@ pub fn answer_to<F: Folder>(alloc: Global, order: Order<'_>, folder: &mut F) -> 
     ensures answers { Answers (ask_of order.entry)
         (record {
           files = F.files folder.old;
-          faults = F.faults folder.old;
           absences = F.absences folder.old;
+          faults = F.faults folder.old;
           overruns = F.overruns folder.old;
           steady = F.steady folder.old;
         })
         (record {
           files = F.files folder.new;
-          faults = F.faults folder.new;
           absences = F.absences folder.new;
+          faults = F.faults folder.new;
           overruns = F.overruns folder.new;
           steady = F.steady folder.new;
         })
@@ -64,7 +57,8 @@ pub fn answer_to<F: Folder>(alloc: Global, order: Order<'_>, folder: &mut F) -> 
     }
 }
 
-fn unread(alloc: Global, name: &str, cause: ReadCause) -> Answer
+/// What is to be written for a file that was not read.
+pub fn unread(alloc: Global, name: &str, cause: ReadCause) -> Answer
     ensures { SaysUnread name.now cause result }
 {
     match unread_line(alloc, name, cause) {

@@ -1,11 +1,13 @@
-//! What is to be written for a text: what its instances are written as, or the line of the first rule that it breaks.
-ghost use Rattle.std.specs.Prelude.{◌≡◌, ◌≤◌, ◌^◌, ◌∷◌, length, codes, decimal, []};
+//! What is to be written for a text: what its instances are written as, or the line of the first rule that it breaks,
+//! or of a file that one of its imports names and that was not read.
+ghost use Rattle.std.specs.Prelude.{◌≤◌, ◌^◌, ◌∷◌, length, codes, decimal, []};
 ghost use Rattle.cq_lex.specs.Spans.{EndsOnce};
+ghost use Rattle.cq_import.specs.Folders.{Keeps};
 ghost use Rattle.cq_program.specs.Lines.{line_of};
 ghost use Rattle.cq_run.specs.Answer.{Judges};
 ghost use Rattle.cq_run.specs.Judged.{JudgesProgram, JudgesTokens, SaysRefused, TellsLex, TellsParse};
 
-use crate::answer::Answer;
+use crate::answer::{Answer, unread};
 use crate::output::output_of;
 use cq_base::Place;
 use cq_io::Folder;
@@ -15,12 +17,42 @@ use cq_program::{ProgramRefusal, has_few_parts, meaning, numbered_line, refusal_
 use cq_syntax::Program;
 use std::alloc::Global;
 
-/// What the text means, written, with models made to a depth, or the line of its first fault.
+/// What the text means, written, with models made to a depth, or the line of its first fault, or of the file of an
+/// import that was not read.
 pub fn judge<F: Folder>(alloc: Global, text: &[u8], depth: u32, folder: &mut F) -> Answer
     requires length { length text.now ≤ 2 ^ 23 }
     requires depth { depth ≤ 64 }
-    ensures judges { Judges depth text.now result }
-    ensures unread { folder.new ≡ folder.old }
+    ensures judges { Judges depth
+        (record {
+          files = F.files folder.old;
+          absences = F.absences folder.old;
+          faults = F.faults folder.old;
+          overruns = F.overruns folder.old;
+          steady = F.steady folder.old;
+        })
+        (record {
+          files = F.files folder.new;
+          absences = F.absences folder.new;
+          faults = F.faults folder.new;
+          overruns = F.overruns folder.new;
+          steady = F.steady folder.new;
+        })
+        text.now result }
+    ensures keeps { Keeps
+        (record {
+          files = F.files folder.old;
+          absences = F.absences folder.old;
+          faults = F.faults folder.old;
+          overruns = F.overruns folder.old;
+          steady = F.steady folder.old;
+        })
+        (record {
+          files = F.files folder.new;
+          absences = F.absences folder.new;
+          faults = F.faults folder.new;
+          overruns = F.overruns folder.new;
+          steady = F.steady folder.new;
+        }) }
 {
     match lex(alloc, text) {
         Ok(tokens) => judge_tokens(alloc, tokens.as_slice(), depth, folder),
@@ -32,8 +64,37 @@ pub fn judge<F: Folder>(alloc: Global, text: &[u8], depth: u32, folder: &mut F) 
 fn judge_tokens<F: Folder>(alloc: Global, tokens: &[Token], depth: u32, folder: &mut F) -> Answer
     requires end { EndsOnce tokens.now }
     requires depth { depth ≤ 64 }
-    ensures judges { JudgesTokens depth tokens.now result }
-    ensures unread { folder.new ≡ folder.old }
+    ensures judges { JudgesTokens depth
+        (record {
+          files = F.files folder.old;
+          absences = F.absences folder.old;
+          faults = F.faults folder.old;
+          overruns = F.overruns folder.old;
+          steady = F.steady folder.old;
+        })
+        (record {
+          files = F.files folder.new;
+          absences = F.absences folder.new;
+          faults = F.faults folder.new;
+          overruns = F.overruns folder.new;
+          steady = F.steady folder.new;
+        })
+        tokens.now result }
+    ensures keeps { Keeps
+        (record {
+          files = F.files folder.old;
+          absences = F.absences folder.old;
+          faults = F.faults folder.old;
+          overruns = F.overruns folder.old;
+          steady = F.steady folder.old;
+        })
+        (record {
+          files = F.files folder.new;
+          absences = F.absences folder.new;
+          faults = F.faults folder.new;
+          overruns = F.overruns folder.new;
+          steady = F.steady folder.new;
+        }) }
 {
     match parse(alloc, tokens) {
         Ok(tree) => judge_program(alloc, &tree, depth, folder),
@@ -44,8 +105,37 @@ fn judge_tokens<F: Folder>(alloc: Global, tokens: &[Token], depth: u32, folder: 
 /// The same for a program.
 fn judge_program<F: Folder>(alloc: Global, program: &Program, depth: u32, folder: &mut F) -> Answer
     requires { depth ≤ 64 }
-    ensures judges { JudgesProgram depth program.now result }
-    ensures unread { folder.new ≡ folder.old }
+    ensures judges { JudgesProgram depth
+        (record {
+          files = F.files folder.old;
+          absences = F.absences folder.old;
+          faults = F.faults folder.old;
+          overruns = F.overruns folder.old;
+          steady = F.steady folder.old;
+        })
+        (record {
+          files = F.files folder.new;
+          absences = F.absences folder.new;
+          faults = F.faults folder.new;
+          overruns = F.overruns folder.new;
+          steady = F.steady folder.new;
+        })
+        program.now result }
+    ensures keeps { Keeps
+        (record {
+          files = F.files folder.old;
+          absences = F.absences folder.old;
+          faults = F.faults folder.old;
+          overruns = F.overruns folder.old;
+          steady = F.steady folder.old;
+        })
+        (record {
+          files = F.files folder.new;
+          absences = F.absences folder.new;
+          faults = F.faults folder.new;
+          overruns = F.overruns folder.new;
+          steady = F.steady folder.new;
+        }) }
 {
     if !has_few_parts(program) {
         return Answer::Memory;
@@ -59,7 +149,8 @@ fn judge_program<F: Folder>(alloc: Global, program: &Program, depth: u32, folder
             Ok(line) => Answer::Refused(line),
             Err(_) => Answer::Memory,
         },
-        Err(_) => Answer::Memory,
+        Err(ProgramRefusal::Read(file, cause)) => unread(alloc, file.as_str(), cause),
+        Err(ProgramRefusal::Memory) => Answer::Memory,
     }
 }
 

@@ -13,20 +13,3 @@ mod top;
 
 pub use status::Status;
 pub use top::run;
-
-#[cfg(test)]
-mod exporting;
-#[cfg(test)]
-mod glued;
-#[cfg(test)]
-mod limits;
-#[cfg(test)]
-mod mappings;
-#[cfg(test)]
-mod moves;
-#[cfg(test)]
-mod open_types;
-#[cfg(test)]
-mod programs;
-#[cfg(test)]
-mod tests;

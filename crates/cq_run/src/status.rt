@@ -11,7 +11,7 @@ pub enum Status {
     Refused,
     /// The words ask for nothing that there is, and the usage line was written.
     Usage,
-    /// A file could not be read, and the line that says why was written.
+    /// The file that is run, or one that an import of it reads, was not read, and the line that says why was written.
     Read,
     /// The write failed, and a prefix of what was due is written; or some exporters failed.
     Write,

@@ -16,14 +16,18 @@ use std::alloc::Global;
 
 const USAGE: &str = "usage: cqlrun run FILE [--depth K] [--only csv|cql]\n";
 
-/// Runs the words: reads the file that they name from `folder`, and writes the transcripts of its instances, or the
-/// line that says why there are none, to `out`, in one write. Then the files of the instances are handed to each
-/// exporter of the formats that are asked for, in turn; the others are dropped before anything is read. An exporter
-/// that fails is moved to the end of `spoiled`, and the next goes on; one that has no memory ends the run.
+/// Runs the words: reads the file that they name from `folder`, and there the files of its imports, and writes the
+/// transcripts of its instances, or the line that says why there are none, to `out`, in one write. Then the files of
+/// the instances are handed to each exporter of the formats that are asked for, in turn; the others are dropped before
+/// anything is read. An exporter that fails is moved to the end of `spoiled`, and the next goes on; one that has no
+/// memory ends the run.
+///
+/// The files of an import are read when its declaration's turn comes. One that is absent, too long or can't be read
+/// ends the run as the file itself does, with `Read`.
 ///
 /// What each status says stands with the clause `gives`. A run over devices that don't fail, of a text that has a
-/// meaning, breaks no rule and passes no limit at the depth of the words, ends with `Ok` or for want of memory (the
-/// clause `complete`).
+/// meaning over the files that the folder tells, breaks no rule and passes no limit at the depth of the words, ends
+/// with `Ok` or for want of memory (the clause `complete`).
 pub fn run<F: Folder, K: Sink>(
     alloc: Global,
     words: &[String],
@@ -35,19 +39,37 @@ pub fn run<F: Folder, K: Sink>(
     ensures files { F.files folder.new ≡ F.files folder.old }
     ensures gives { RunGives (asked (map string_bytes words.now))
         (record {
-          folder = record { files = F.files folder.old; faults = F.faults folder.old; absences = F.absences folder.old; overruns = F.overruns folder.old; steady = F.steady folder.old };
+          folder = record {
+            files = F.files folder.old;
+            absences = F.absences folder.old;
+            faults = F.faults folder.old;
+            overruns = F.overruns folder.old;
+            steady = F.steady folder.old;
+          };
           out = record { held = K.held out.old; faults = K.faults out.old; spare = K.spare out.old };
           outlets = record { exporters = map account exporters.old.items; spoiled = map account spoiled.old.items };
         })
         (record {
-          folder = record { files = F.files folder.new; faults = F.faults folder.new; absences = F.absences folder.new; overruns = F.overruns folder.new; steady = F.steady folder.new };
+          folder = record {
+            files = F.files folder.new;
+            absences = F.absences folder.new;
+            faults = F.faults folder.new;
+            overruns = F.overruns folder.new;
+            steady = F.steady folder.new;
+          };
           out = record { held = K.held out.new; faults = K.faults out.new; spare = K.spare out.new };
           outlets = record { exporters = map account exporters.new.items; spoiled = map account spoiled.new.items };
         })
         result }
     ensures complete { Succeeds (asked (map string_bytes words.now))
         (record {
-          folder = record { files = F.files folder.old; faults = F.faults folder.old; absences = F.absences folder.old; overruns = F.overruns folder.old; steady = F.steady folder.old };
+          folder = record {
+            files = F.files folder.old;
+            absences = F.absences folder.old;
+            faults = F.faults folder.old;
+            overruns = F.overruns folder.old;
+            steady = F.steady folder.old;
+          };
           out = record { held = K.held out.old; faults = K.faults out.old; spare = K.spare out.old };
           outlets = record { exporters = map account exporters.old.items; spoiled = map account spoiled.old.items };
         })

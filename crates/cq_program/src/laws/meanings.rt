@@ -1,9 +1,12 @@
-//! A program means one thing.
-ghost use Rattle.std.specs.Prelude.{◌≡◌, List};
+//! A program and the files that it reads mean one thing.
+ghost use Rattle.std.specs.Prelude.{◌≡◌, List, Some};
+ghost use Rattle.cq_io.specs.Content.{File};
 ghost use Rattle.cq_syntax.specs.declared.program.Program.{Program};
 ghost use Rattle.cq_program.specs.Program.{Listing, Means};
 
-/// A program means at most one list of instances: each has one name, one schema, one presentation and one model.
+/// Over some files a program means at most one list of instances: each has one name, one schema, one presentation and
+/// one model.
 pub fn one_meaning()
-    ensures { (program : Program) (L M : List Listing) → Means program L → Means program M → L ≡ M }
+    ensures { (files : List File) (program : Program) (L M : List Listing) → Means (Some files) program L
+        → Means (Some files) program M → L ≡ M }
 {}

@@ -1,14 +1,11 @@
-use Rattle.std.proofs.Common.{List, subst}
-use Rattle.cq_lex.specs.declared.token.Token.{Token}
-use Rattle.cq_run.specs.Judged.{JudgesTokens}
 use Rattle.cq_run.proofs.Judging.{by_lexer, by_tokens}
 use Rattle.cq_run.proofs.judge.judge.Goals as goal
 
 pub returns-in-Ok-clause-judges : goal.returns-in-Ok-clause-judges
 returns-in-Ok-clause-judges g c =
-    by_tokens c.args.depth c.args.text.now c.in-Ok.tokens.items c.judge_tokens.result c.in-Ok.ensures.ok (λ others lexed. c.in-Ok.ensures.tokens others lexed)
-    (subst (λ (tokens : List Token). JudgesTokens c.args.depth tokens c.judge_tokens.result) c.as_slice.ensures.value c.judge_tokens.ensures.judges)
+    by_tokens c.args.depth _ _ c.args.text.now c.in-Ok.tokens.items c.as_slice.result.now c.judge_tokens.result c.in-Ok.ensures.ok
+    (λ others lexed. c.in-Ok.ensures.tokens others lexed) c.as_slice.ensures.value c.judge_tokens.ensures.judges
 
 pub returns-in-Err-clause-judges : goal.returns-in-Err-clause-judges
 returns-in-Err-clause-judges g c =
-    by_lexer c.args.depth c.args.text.now c.in-Err.refusal c.lex_refusal.result c.in-Err.ensures.refused (λ others lexed. c.in-Err.ensures.tokens others lexed) c.lex_refusal.ensures
+    by_lexer c.args.depth _ _ c.args.text.now c.in-Err.refusal c.lex_refusal.result c.in-Err.ensures.refused (λ others lexed. c.in-Err.ensures.tokens others lexed) c.lex_refusal.ensures

@@ -1,7 +1,6 @@
-use Rattle.std.proofs.Common.{subst, map}
+use Rattle.std.proofs.Common.{map}
 use Rattle.cq_program.specs.Named.{listed_as}
-use Rattle.cq_program.specs.declared.reason.ProgramRefusal.{ProgramRefusal}
-use Rattle.cq_program.specs.Posing.{RefusesProgram}
+use Rattle.cq_run.proofs.Judging.{by_file, by_rule}
 use Rattle.cq_run.proofs.judge.judge_program.Goals as goal
 
 pub returns-in-Ok-output_of-clause-judges : goal.returns-in-Ok-output_of-clause-judges
@@ -12,9 +11,11 @@ returns-in-Ok-output_of-clause-judges g c = record {
 }
 
 pub returns-in-Ok-line-clause-judges : goal.returns-in-Ok-line-clause-judges
-returns-in-Ok-line-clause-judges g c = record {
-  place = c.in-Err-Broken.place;
-  reason = c.in-Err-Broken.reason;
-  breaks = subst (λ (refusal : ProgramRefusal). RefusesProgram c.args.depth c.args.program.now refusal) c.in-Err-Broken.field-0-is c.in-Err-Broken.ensures.breaks;
-  line_is = c.in-Ok-line.ensures;
-}
+returns-in-Ok-line-clause-judges g c =
+    by_rule c.args.depth _ _ c.args.program.now _ c.in-Err-Broken.place c.in-Err-Broken.reason _ c.in-Err-Broken.field-0-is
+    c.in-Err-Broken.ensures.refuses c.in-Ok-line.ensures
+
+pub returns-in-Err-Read-clause-judges : goal.returns-in-Err-Read-clause-judges
+returns-in-Err-Read-clause-judges g c =
+    by_file c.args.depth _ _ c.args.program.now _ c.in-Err-Read.file c.in-Err-Read.cause c.as_str.result.now c.unread.result
+    c.in-Err-Read.field-0-is c.in-Err-Read.ensures.refuses c.as_str.ensures.value c.unread.ensures

@@ -1,7 +1,7 @@
 //! Instances that are moved along mappings: what they hold, and what is refused.
-use crate::Status;
 use crate::tests::{Case, RUN, folder, passes, run, words};
 use cq_io::MemSink;
+use cq_run::Status;
 use std::alloc::{AllocError, Global};
 use std::test::Fail;
 

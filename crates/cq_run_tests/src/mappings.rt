@@ -1,6 +1,6 @@
 //! Mappings: their parts, their duties, and identities.
-use crate::Status;
 use crate::tests::{AT_ZERO, Case, RUN, passes};
+use cq_run::Status;
 use std::test::Fail;
 
 /// Mappings: literals, their parts and their duties, and identities. The first line of each stands in front of it.

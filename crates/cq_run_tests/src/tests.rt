@@ -1,6 +1,6 @@
 //! Runs over the fakes in memory.
-use crate::Status;
 use cq_io::{Exporter, Folder, MemFolder, MemSink, Sink};
+use cq_run::Status;
 use std::alloc::{AllocError, Global};
 use std::test::Fail;
 
@@ -31,7 +31,7 @@ pub(crate) fn run<F: Folder, K: Sink>(
 ) -> Status {
     let mut exporters: Vec<Box<dyn Exporter>> = Vec::new(alloc);
     let mut spoiled: Vec<Box<dyn Exporter>> = Vec::new(alloc);
-    crate::run(alloc, words, folder, &mut exporters, &mut spoiled, out)
+    cq_run::run(alloc, words, folder, &mut exporters, &mut spoiled, out)
 }
 
 pub(crate) struct Case {

@@ -1,6 +1,6 @@
 //! Runs with exporters.
-use crate::{Status, run};
 use cq_io::{DirExporter, DirFolder, Exporter, Folder, Format, MemExporter, MemFolder, MemSink};
+use cq_run::{Status, run};
 use std::alloc::{AllocError, Global};
 use std::process::Abort;
 use std::test::Fail;

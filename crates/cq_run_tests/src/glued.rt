@@ -1,6 +1,6 @@
 //! Queries, transforms and instances that are made along them: what they hold, and what is refused.
-use crate::Status;
 use crate::tests::{Case, RUN, passes};
+use cq_run::Status;
 use std::test::Fail;
 
 /// Two schemas, which stand in front of each case.

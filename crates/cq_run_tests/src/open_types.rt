@@ -1,7 +1,7 @@
 //! Texts as constants of an open type: which are taken, how they are printed, and what is refused.
-use crate::Status;
 use crate::tests::{Case, RUN, folder, passes, run, words};
 use cq_io::MemSink;
+use cq_run::Status;
 use std::alloc::{AllocError, Global};
 use std::test::Fail;
 

@@ -1,0 +1,21 @@
+//! Tests of runs over the fakes in memory, and over a folder.
+#![tactic(auto)]
+
+#[cfg(test)]
+mod exporting;
+#[cfg(test)]
+mod glued;
+#[cfg(test)]
+mod imports;
+#[cfg(test)]
+mod limits;
+#[cfg(test)]
+mod mappings;
+#[cfg(test)]
+mod moves;
+#[cfg(test)]
+mod open_types;
+#[cfg(test)]
+mod programs;
+#[cfg(test)]
+mod tests;
