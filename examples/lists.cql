@@ -1,0 +1,21 @@
+// The lists of a shop and of a newsletter come as CSV files and become one by their e-mail addresses: each address has
+// one owner, so a customer and a subscriber with one address are one person.
+typeside T = literal { types text literals text }
+
+schema Lists = literal : T {
+  entities Customer Subscriber Address Person
+  foreign_keys
+    mail : Customer -> Address
+    news : Subscriber -> Address
+    owner : Address -> Person
+  attributes
+    name street : Customer -> text
+    nick : Subscriber -> text
+    called home : Person -> text
+  observation_equations
+    forall c : Customer. street(c) = home(owner(mail(c)))
+    forall s : Subscriber. nick(s) = called(owner(news(s)))
+}
+
+// The files are examples/lists/Customer.csv and so on, one for each entity.
+instance Merged = import_csv "examples/lists" : Lists
