@@ -122,7 +122,7 @@ fn behind(kept: &[(String, Vec<u8>)], wanted: &[(&str, &str)], from: usize) -> O
 }
 
 /// Whether the exporters have these files and no others.
-fn have(exporters: &[Box<dyn Exporter>], wanted: &[(&str, &str)]) -> bool {
+pub(crate) fn have(exporters: &[Box<dyn Exporter>], wanted: &[(&str, &str)]) -> bool {
     let mut at = 0;
     for exporter in exporters {
         match behind(exporter.kept(), wanted, at) {

@@ -1,6 +1,7 @@
 //! Programs that read a folder of files: what they mean, what is refused, and files that are not read.
+use crate::exporting::have;
 use crate::tests::{RUN, run, words};
-use cq_io::{MemFolder, MemSink};
+use cq_io::{Exporter, Format, MemExporter, MemFolder, MemSink};
 use cq_run::Status;
 use std::alloc::{AllocError, Global};
 use std::test::Fail;
@@ -261,6 +262,39 @@ fn folders_with_their_outcomes(rt: HostRuntime) -> Result<(), Fail> {
         assert_eq!(rt; status, case.status, "{}", case.e);
         assert!(rt; out.bytes() == case.written.as_bytes(), "{}", case.e);
     }
+    Ok(())
+}
+
+/// The files of the first case.
+const EXPORTED: [(&str, &str); 3] = [
+    ("I/E.csv", "id,x,y,k\n1,\"Smith, Al\",?0,1\n2,?1,?0,1\n"),
+    ("I/D.csv", "id\n1\n"),
+    (
+        "I/entries-2.csv",
+        "format-2,left,right\nnull,?0,s\nnull,?1,s\n",
+    ),
+];
+
+#[test]
+fn what_was_read_is_exported(rt: HostRuntime) -> Result<(), Fail> {
+    let alloc = rt.alloc();
+    let words = words(alloc, RUN)?;
+    let mut folder = folder(alloc, &CASES[0], &[])?;
+    let mut out = MemSink::new(alloc, Vec::new(alloc), 1000)?;
+    let csv = MemExporter::new(alloc, Format::Csv, Vec::new(alloc))?;
+    let mut exporters: Vec<Box<dyn Exporter>> = Vec::new(alloc);
+    exporters.push(Box::new(alloc, csv)?)?;
+    let mut spoiled: Vec<Box<dyn Exporter>> = Vec::new(alloc);
+    let status = cq_run::run(
+        alloc,
+        words.as_slice(),
+        &mut folder,
+        &mut exporters,
+        &mut spoiled,
+        &mut out,
+    );
+    assert_eq!(rt; status, Status::Ok);
+    assert!(rt; have(exporters.as_slice(), EXPORTED.as_slice()));
     Ok(())
 }
 
