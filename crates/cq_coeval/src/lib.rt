@@ -4,6 +4,3 @@
 pub mod gluing;
 
 pub use gluing::coeval;
-
-#[cfg(test)]
-mod tests;

@@ -3,7 +3,7 @@ ghost use Rattle.std.specs.Prelude.{◌≡◌, ◌≤◌};
 
 mod given;
 
-use crate::coeval;
+use cq_coeval::coeval;
 use cq_model::{Instance, MoveRefusal};
 use cq_query::Query;
 use cq_theory::Con;

@@ -1,0 +1,5 @@
+//! Tests of what instances become along queries.
+#![tactic(auto)]
+
+#[cfg(test)]
+mod tests;
