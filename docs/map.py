@@ -3,7 +3,8 @@
 
     docs/map.py
 
-A crate stands above those that it uses, in the row of its longest chain. Lines that follow from others are left away.
+A crate stands above those that it uses, in the row of its longest chain. Lines that follow from others are left away,
+and so are crates of tests.
 """
 import pathlib
 
@@ -14,8 +15,8 @@ WIDTH, HEIGHT, ACROSS, DOWN, EDGE = 104, 26, 122, 62, 20
 def uses():
     lines = (line.split("#")[0].strip() for line in (ROOT / "crates.txt").read_text().splitlines())
     parts = [line.split(":") for line in lines if line]
-    names = [name.strip() for name, _ in parts]
-    return {name.strip(): [word for word in used.split() if word in names] for name, used in parts}
+    names = [name.strip() for name, _ in parts if not name.endswith("_tests")]
+    return {name.strip(): [word for word in used.split() if word in names] for name, used in parts if name in names}
 
 
 def levels(graph):
