@@ -10,7 +10,6 @@ PROGRAM is by default crates/cqlrun/out/cqlrun, which `./cqlrun` builds. Cases, 
   chain     four variables, each behind the one before by a foreign key
   triangle  x.f = y.g, y.f = z.g and z.f = x.g
   target    a target with a foreign key, whose assignment is an answer of another block
-  backwards coeval of a target of two variables and a foreign key's assignment
 
 For each it prints the seconds of a whole run (the best of three), the same without the query's use, the ratio of their
 difference to that at a tenth, and the bytes of peak memory for each row. Where Python has sqlite3, it times the same join over
@@ -98,16 +97,6 @@ def target(rows):
     return schema + query + ring(rows), None, None
 
 
-def backwards(rows):
-    schema = T + "schema S = literal : T { entities E attributes x : E -> s }\n"
-    schema += "schema R = literal : T { entities P O foreign_keys t : P -> O attributes w : P -> s }\n"
-    query = "query Q = literal : S -> R { entity P -> { from y z : E attributes w -> x(y) foreign_keys t -> { o -> z } }"
-    query += " entity O -> { from o : E } }\n"
-    half = rows // 2
-    keys = " ".join(f"t(p{n}) = o{n}" for n in range(half))
-    return schema + query + one([rows_of("P", "p", half, keys), rows_of("O", "o", half)], "R"), None, None
-
-
 def by_sqlite(select, tables, rows):
     base = sqlite3.connect(":memory:")
     start = time.perf_counter()
@@ -143,13 +132,12 @@ def main():
     program = str(pathlib.Path(sys.argv[1]).resolve() if len(sys.argv) > 1 else ROOT / "crates/cqlrun/out/cqlrun")
     print("| case | rows | seconds | without it | the rest, of a tenth | bytes a row | the rest, of sqlite3 |")
     print("|---|---|---|---|---|---|---|")
-    for case in (cells, key, chain, triangle, target, backwards):
+    for case in (cells, key, chain, triangle, target):
         before = None
         for rows in (2_000, 20_000, 200_000):
             start, select, made = case(rows)
-            last = "instance J = coeval Q I\n" if case is backwards else "instance J = eval Q I\n"
             without, _ = measure(program, start)
-            seconds, peak = measure(program, start + last)
+            seconds, peak = measure(program, start + "instance J = eval Q I\n")
             rest = seconds - without
             ratio = f"{rest / before:.1f}" if before else ""
             before = rest
