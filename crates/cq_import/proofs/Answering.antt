@@ -50,7 +50,7 @@ column_no_read : (sheets : List Sheet) (T : Typeside) (room : Room) (labels : La
 column_no_read sheets T room labels cell (Attribute a type) = content_no_read T room labels cell type (content_of T type cell.field)
 column_no_read sheets T room labels cell (Key k target) = key_no_read sheets cell target cell.field
 
-cells_no_read : (sheets : List Sheet) (T : Typeside) (room : Room) (labels : Labels) (cells : List Cell) → NoRead (cells_fault sheets T room labels cells)
+pub cells_no_read : (sheets : List Sheet) (T : Typeside) (room : Room) (labels : Labels) (cells : List Cell) → NoRead (cells_fault sheets T room labels cells)
 cells_no_read sheets T room labels [] = tt
 cells_no_read sheets T room labels (cell ∷ cells) =
     or_no_read (cell_fault sheets T room labels cell) _ (column_no_read sheets T room labels cell cell.column) (cells_no_read sheets T room (with_uses labels (cell_uses T cell)) cells)

@@ -119,6 +119,11 @@ raises_after {A} {B} a b c r keeps raises = moved r (weaker (Err r) raises)
     moved (refusal.TooLong file) h = record { absent = tt; failed = tt; too_long = h.too_long; fails = tt }
     moved _ h = record { absent = tt; failed = tt; too_long = tt; fails = tt }
 
+-- what is answered after other reads
+pub raises_later : {A : Type 0} (a b c : FolderData) (result : Result A CsvRefusal) → Keeps a b → Raises b c result → Raises a c result
+raises_later a b c (Ok x) keeps raises = record { absent = tt; failed = tt; too_long = tt; fails = tt }
+raises_later a b c (Err r) keeps raises = raises_after a b c r keeps raises
+
 pub name_here : (S : Schema) (entities : List Name) (entity : ℕ) (x t : Name) → entities ≡ S.entities → entity < length S.entities → x ≡ get_or entities entity x → t ≡ x
     → t ≡ name_at (slice_get S.entities entity)
 name_here S entities entity x t same within is text =

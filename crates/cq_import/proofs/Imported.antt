@@ -27,17 +27,17 @@ use Rattle.cq_import.proofs.Faulty.{after_none, both_none, first_fault-append, r
 use Rattle.cq_import.proofs.FolderReads.{NoRead, NotReading, sheet_no_read, told_no_read}
 use Rattle.cq_import.proofs.Named.{range_more}
 
-not_longer : (m n : ℕ) → n ≤ m → nat_lt m n ≡ false
+pub not_longer : (m n : ℕ) → n ≤ m → nat_lt m n ≡ false
 not_longer m n h = grind (arith, nat_tests)
 
-longer : (m n : ℕ) → m < n → nat_lt m n ≡ true
+pub longer : (m n : ℕ) → m < n → nat_lt m n ≡ true
 longer m n h = grind (arith, nat_tests)
 
-if_false : (f : Fault) (b : Bool) → b ≡ false → (if b then Some f else None) ≡ None
+pub if_false : (f : Fault) (b : Bool) → b ≡ false → (if b then Some f else None) ≡ None
 if_false f true e = cc e
 if_false f false e = refl
 
-if_true : (f : Fault) (b : Bool) → b ≡ true → (if b then Some f else None) ≡ Some f
+pub if_true : (f : Fault) (b : Bool) → b ≡ true → (if b then Some f else None) ≡ Some f
 if_true f true e = refl
 if_true f false e = cc e
 
@@ -52,7 +52,7 @@ item_at (x ∷ xs) zero within = x
 item_at (x ∷ xs) (suc k) within = item_at xs k (omega arith)
 
 module _ (files : List File) (dir : Name) (S : Schema) where
-  abbrev fault_at : Option (List ℕ) → ℕ → Option Fault
+  abbrev pub fault_at : Option (List ℕ) → ℕ → Option Fault
   fault_at o entity = or_else (reading_fault (name_of dir S entity) o) (sheet_fault (name_of dir S entity) (header S entity) (records_of (unwrap_or o [])))
 
   pub read_passes : (entity : ℕ) (file : EntityFile) → IsRead dir S (Some files) entity file → file_fault files dir S entity ≡ None
@@ -87,7 +87,7 @@ module _ (files : List File) (dir : Name) (S : Schema) where
     pub made_pass : files_fault files dir S (length made) ≡ None
     made_pass = files_pass (length made) (λ e less. let d = item_at made e less in read_passes e (get_or made e d) (read e d less))
 
-    sheets_are : (few : length made ≡ length S.entities) → sheets_of files dir S ≡ map sheet_in made
+    pub sheets_are : (few : length made ≡ length S.entities) → sheets_of files dir S ≡ map sheet_in made
     sheets_are few =
         let none : Sheet = record { file = []; rows = [] } in
         sym (fill_by_all (sheet_of files dir S) (map sheet_in made) (length S.entities) none (length-map made sheet_in ∙ few)

@@ -24,3 +24,9 @@ pub mod LabelPlaces
 pub mod ValueTerms
 pub mod CellEquations
 pub mod WellFormed
+pub mod Stepping
+pub mod Sides
+pub mod NullLines
+pub mod Joined
+pub mod WellFormed2
+pub mod Answering2

@@ -51,7 +51,7 @@ misses name (p ∷ pairs) extra d none =
     ap (λ b. if b then Some p.1 else find_file name (pairs ++ extra)) (none zero (omega arith)) ∙ misses name pairs extra d (λ k less. none (suc k) (omega arith))
 
 -- a text that is longer
-a_longer : (n : ℕ) → (text : List ℕ) × (n < length text)
+pub a_longer : (n : ℕ) → (text : List ℕ) × (n < length text)
 a_longer n = (replicate (n + 1) 0, omega (arith, length-replicate {A = ℕ} (n + 1) 0))
 
 same_itself : (a : List ℕ) → bytes_eq a a ≡ true

@@ -71,7 +71,7 @@ inside [] entity row within = absurd (omega arith)
 inside (s ∷ sheets) zero row within = omega arith
 inside (s ∷ sheets) (suc entity) row within = omega (arith, inside sheets entity row within)
 
-few : (count : ℕ) → size_fault count ≡ None → count ≤ 16000000
+pub few : (count : ℕ) → size_fault count ≡ None → count ≤ 16000000
 few count none = at_test (nat_lt 16000000 count) refl none
   where
     at_most : (n : ℕ) → nat_lt 16000000 n ≡ false → n ≤ 16000000

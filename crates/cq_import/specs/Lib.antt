@@ -1,8 +1,10 @@
 pub mod Cells
 pub mod Columns
 pub mod Context
+pub mod Entries
 pub mod Faults
 pub mod Folders
+pub mod Folders2
 pub mod Imports
 pub mod Labels
 pub mod Records

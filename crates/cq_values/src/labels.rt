@@ -2,6 +2,7 @@
 ghost use Rattle.std.specs.Prelude.{◌≡◌, ◌≤◌, length, option_map};
 ghost use Rattle.std.specs.List.{list_all, prefix_len};
 ghost use Rattle.std.specs.Char.{is_ascii_digit};
+ghost use Rattle.cq_values.specs.Built.{label_in};
 ghost use Rattle.cq_values.specs.Reading as reading;
 
 use cq_theory::Value;
@@ -62,5 +63,15 @@ pub(crate) fn null(bytes: &[u8]) -> Option<(Value, &[u8])>
     match label_of(digits) {
         Some(label) => Some((Value::Null(label), rest)),
         None => None,
+    }
+}
+
+/// The label of the null whose text this is: `?` and one to nine digits, of which the first is 0 only alone.
+pub fn read_label(text: &[u8]) -> Option<u64>
+    ensures { result ≡ label_in text.now }
+{
+    match text {
+        [b'?', digits @ ..] => label_of(digits),
+        _ => None,
     }
 }

@@ -39,7 +39,7 @@ pub(crate) fn is_word(bytes: &[u8]) -> bool
 }
 
 /// The name with these bytes, if they are at most 255 bytes of UTF-8.
-pub(crate) fn name_of(alloc: Global, bytes: &[u8]) -> Result<Option<Name>, AllocError>
+pub fn name_of(alloc: Global, bytes: &[u8]) -> Result<Option<Name>, AllocError>
     ensures { IfOk result (λ found. found ≡ as_name bytes.now) }
 {
     let Ok(text) = str::from_utf8(bytes) else {
