@@ -7,5 +7,5 @@ mod fields;
 mod records;
 mod rows;
 
-pub use cq_import::{CsvRefusal, import};
+pub use cq_import::{CsvRefusal, import, import2};
 pub use export::files;

@@ -1,7 +1,6 @@
 -- A program that has a meaning breaks no rule, and a program breaks one rule first.
 use Rattle.std.proofs.Common.{◌≡◌, ◌⊎◌, inl, inr, Bool, true, false, ℕ, List, [], ◌∷◌, ◌++◌, refl, sym, ap, ◌∙◌, subst}
 use Rattle.std.specs.Prelude.{Some, Ok, Err}
-use Rattle.cq_base.specs.declared.name.Name.{Name}
 use Rattle.cq_base.specs.declared.place.Place.{Place}
 use Rattle.cq_io.specs.Content.{File}
 use Rattle.cq_syntax.specs.declared.program.Decl.{Decl}

@@ -1,19 +1,17 @@
 -- Over some files a program means one list of instances.
-use Rattle.std.proofs.Common.{◌≡◌, List, [], ◌∷◌, ◌++◌, Ok, Some, refl, sym, ap, subst, ◌∙◌}
+use Rattle.std.proofs.Common.{◌≡◌, List, [], ◌∷◌, ◌++◌, Ok, Some, sym, ap, subst, ◌∙◌}
 use Rattle.std.specs.List.{filter_map}
-use Rattle.cq_base.specs.declared.name.Name.{Name}
 use Rattle.cq_io.specs.Content.{File}
 use Rattle.cq_syntax.specs.declared.program.Decl.{Decl}
 use Rattle.cq_syntax.specs.declared.program.Program.{Program}
 use Rattle.cq_theory.specs.declared.presentation.Presentation.{Presentation}
-use Rattle.cq_theory.specs.declared.term.EntTerm.{EntTerm}
 use Rattle.cq_theory.specs.SchemaData.{SchemaData}
-use Rattle.cq_theory.specs.Tables.{Tables, Assignment}
+use Rattle.cq_theory.specs.Tables.{Tables}
 use Rattle.cq_theory.specs.Listed.{Lists}
 use Rattle.cq_theory.proofs.OneModel.{same_models, same_assignments, same_lists_of_names}
 use Rattle.cq_model.specs.InstanceData.{InstanceData}
 use Rattle.cq_model.specs.Given.{given}
-use Rattle.cq_program.specs.Checks.{Meant, instance, transform, Environment, Posed, a_typeside, a_schema, a_mapping, an_identity, a_query, a_presentation, a_made, a_delta, an_eval, a_transform, Stated, stated_by}
+use Rattle.cq_program.specs.Checks.{Meant, instance, transform, Environment, Posed, a_typeside, a_schema, a_mapping, an_identity, a_query, a_presentation, a_made, a_delta, an_eval, a_transform, Stated}
 use Rattle.cq_program.specs.Folders.{Reads}
 use Rattle.cq_program.proofs.OneEval.{one_eval}
 use Rattle.cq_program.proofs.OneReading.{reads_one}

@@ -1,5 +1,5 @@
 -- What an import answers is what a folder poses, its first fault, or a file that was not read.
-use Rattle.std.proofs.Common.{◌≡◌, ◌≤◌, ℕ, true, false, List, Option, Some, None, refl, sym, ap, ◌∙◌, subst, arith}
+use Rattle.std.proofs.Common.{◌≡◌, ℕ, false, List, Option, Some, None, refl, ap, ◌∙◌, subst, arith}
 use Rattle.std.specs.Prelude.{Result, Ok, Err, option_and_then, string_bytes}
 use Rattle.cq_base.specs.declared.name.Name.{Name}
 use Rattle.cq_base.specs.declared.place.Place.{Place}
@@ -11,15 +11,18 @@ use Rattle.cq_import.specs.declared.refusal.CsvRefusal.{CsvRefusal}
 use Rattle.cq_import.specs.declared.refusal.CsvRefusal.TheVariants as refusal
 use Rattle.cq_import.specs.Faults as fault
 use Rattle.cq_import.specs.Faults.{Fault, told}
-use Rattle.cq_import.specs.Folders.{FolderData, Keeps}
-use Rattle.cq_import.specs.Imports.{IsImport, IsNext, OfFiles, IfAbsent, IfReadFault, IfTooLong, fault_of}
+use Rattle.cq_import.specs.Entries.{IsImport2Over, OfFiles2, entries_text}
+use Rattle.cq_import.specs.Folders.{FolderData, Keeps, Raises}
+use Rattle.cq_import.specs.Imports.{IsImport, OfFiles, IfAbsent, IfReadFault, IfTooLong}
 use Rattle.cq_program.specs.declared.reason.Reason.{Reason}
 use Rattle.cq_program.specs.declared.reason.ReadCause.{ReadCause}
 use Rattle.cq_program.specs.declared.reason.ReadCause.TheVariants.{Absent, TooLong, Failed}
 use Rattle.cq_program.specs.declared.reason.ProgramRefusal.{ProgramRefusal}
 use Rattle.cq_program.specs.declared.reason.ProgramRefusal.TheVariants as program_refusal
+use Rattle.cq_program.specs.declared.stating.Format.{Format}
+use Rattle.cq_program.specs.declared.stating.Format.TheVariants.{First, Second}
 use Rattle.cq_program.specs.Checks.{a_folder, a_presentation}
-use Rattle.cq_program.specs.Folders.{Told, Reads, IsUnreadIn, Raised, rule_of, unread_fault}
+use Rattle.cq_program.specs.Folders.{Told, Content, content_1, content_2, OfFolder, IsImportOf, Reads, IsUnreadIn, Raised, rule_of, unread_fault}
 use Rattle.cq_program.specs.Posing.{RefusesReading, TellsImport}
 
 pub keeps_itself : (a : FolderData) → Keeps a a
@@ -38,23 +41,69 @@ keeps_then a b c first second = record {
 none_some : {X : Type 0} (x : X) → None ≡ Some x → ⊥
 none_some x h = absurd (cc h)
 
-of_map : (files : Told) (P Q : List File → Type 0) → ((each : List File) → P each → Q each) → OfFiles files P → OfFiles files Q
-of_map None P Q f h = (h.0, f h.0 h.1)
-of_map (Some files) P Q f h = f files h
+of_files : (files : Told) (P Q : List File → Type 0) → ((each : List File) → P each → Q each) → OfFiles files P → OfFiles files Q
+of_files None P Q f h = (h.0, f h.0 h.1)
+of_files (Some files) P Q f h = f files h
+
+of_files_2 : (files : Told) (dir : Name) (P Q : List File → Option (List ℕ) → Type 0) → ((each : List File) (text : Option (List ℕ)) → P each text → Q each text) → OfFiles2 files dir P → OfFiles2 files dir Q
+of_files_2 None dir P Q f h = (h.0, h.1, f h.0 h.1 h.2)
+of_files_2 (Some files) dir P Q f h = f files (entries_text files dir) h
+
+-- a claim on what stands in a folder follows from another
+of_map : (files : Told) (format : Format) (dir : Name) (S : SchemaData) (P Q : Content → Type 0) → ((c : Content) → P c → Q c) → OfFolder files format dir S P → OfFolder files format dir S Q
+of_map files First dir S P Q f h = of_files files _ _ (λ each. f (content_1 each dir S)) h
+of_map files Second dir S P Q f h = of_files_2 files dir _ _ (λ each text. f (content_2 each text dir S)) h
+
+first_import : (files : List File) (dir : Name) (S : SchemaData) (r : Result Presentation CsvRefusal) → IsImport files dir S r → IsImportOf (content_1 files dir S) r
+first_import files dir S (Ok made) is = is
+first_import files dir S (Err (refusal.Absent file)) is = is
+first_import files dir S (Err (refusal.ReadFault file)) is = is
+first_import files dir S (Err (refusal.TooLong file)) is = is
+first_import files dir S (Err (refusal.NotCsv file number)) is = is
+first_import files dir S (Err (refusal.BadHeader file)) is = is
+first_import files dir S (Err (refusal.BadCell file number column)) is = is
+first_import files dir S (Err (refusal.DoubleId file number)) is = is
+first_import files dir S (Err (refusal.NoSuchId file number column)) is = is
+first_import files dir S (Err refusal.TooLarge) is = is
+first_import files dir S (Err refusal.Memory) is = tt
+
+second_import : (files : List File) (text : Option (List ℕ)) (dir : Name) (S : SchemaData) (r : Result Presentation CsvRefusal) → IsImport2Over files text dir S r → IsImportOf (content_2 files text dir S) r
+second_import files text dir S (Ok made) is = is
+second_import files text dir S (Err (refusal.Absent file)) is = is
+second_import files text dir S (Err (refusal.ReadFault file)) is = is
+second_import files text dir S (Err (refusal.TooLong file)) is = is
+second_import files text dir S (Err (refusal.NotCsv file number)) is = is
+second_import files text dir S (Err (refusal.BadHeader file)) is = is
+second_import files text dir S (Err (refusal.BadCell file number column)) is = is
+second_import files text dir S (Err (refusal.DoubleId file number)) is = is
+second_import files text dir S (Err (refusal.NoSuchId file number column)) is = is
+second_import files text dir S (Err refusal.TooLarge) is = is
+second_import files text dir S (Err refusal.Memory) is = tt
+
+-- what the imports answer is what an import of the format answers
+pub answers_first : (files : Told) (dir : Name) (S : SchemaData) (r : Result Presentation CsvRefusal)
+    → OfFiles files (λ each. IsImport each dir S r) → OfFolder files First dir S (λ c. IsImportOf c r)
+answers_first files dir S r h = of_files files _ _ (λ each. first_import each dir S r) h
+
+pub answers_second : (files : Told) (dir : Name) (S : SchemaData) (r : Result Presentation CsvRefusal)
+    → OfFiles2 files dir (λ each text. IsImport2Over each text dir S r) → OfFolder files Second dir S (λ c. IsImportOf c r)
+answers_second files dir S r h = of_files_2 files dir _ _ (λ each text. second_import each text dir S r) h
 
 -- what an import gives is posed
-pub reads_folder : (files : Told) (n : Name) (S : SchemaData) (dir : Name) (made : Presentation)
-    → OfFiles files (λ each. IsImport each dir S (Ok made)) → Reads files (a_folder n S dir) (a_presentation n S made)
-reads_folder files n S dir made h = of_map files _ _ (λ each is. (is.0, ap (a_presentation n S) is.1)) h
+pub reads_folder : (files : Told) (format : Format) (n : Name) (S : SchemaData) (dir : Name) (made : Presentation)
+    → OfFolder files format dir S (λ c. IsImportOf c (Ok made)) → Reads files (a_folder format n S dir) (a_presentation n S made)
+reads_folder files format n S dir made h =
+    of_map files format dir S (λ c. IsImportOf c (Ok made)) (λ c. (c.first ≡ None) × (a_presentation n S made ≡ a_presentation n S c.presented))
+    (λ c is. (is.0, ap (a_presentation n S) is.1)) h
 
-module _ (files : List File) (dir : Name) (S : SchemaData) where
+module _ (c : Content) where
   -- what a fault says of the files: that it is the first, or that the file is read next
   abbrev Found : Fault → Type 0
-  Found (fault.ReadFault file) = IsNext files dir S file
+  Found (fault.ReadFault file) = c.IsNextFile file
   Found fault.Memory = Unit {0}
-  Found f = fault_of files dir S ≡ Some f
+  Found f = c.first ≡ Some f
 
-  found : (r : CsvRefusal) → IsImport files dir S (Err r) → Found (told r)
+  found : (r : CsvRefusal) → IsImportOf c (Err r) → Found (told r)
   found (refusal.Absent file) is = is
   found (refusal.ReadFault file) is = is
   found (refusal.TooLong file) is = is
@@ -66,7 +115,7 @@ module _ (files : List File) (dir : Name) (S : SchemaData) where
   found refusal.TooLarge is = is
   found refusal.Memory is = tt
 
-  faulty : (f : Fault) (reason : Reason) → Found f → rule_of f ≡ Some reason → option_and_then rule_of (fault_of files dir S) ≡ Some reason
+  faulty : (f : Fault) (reason : Reason) → Found f → rule_of f ≡ Some reason → option_and_then rule_of c.first ≡ Some reason
   faulty (fault.Absent file) reason is rule = absurd (none_some reason rule)
   faulty (fault.ReadFault file) reason is rule = absurd (none_some reason rule)
   faulty (fault.TooLong file) reason is rule = absurd (none_some reason rule)
@@ -78,20 +127,20 @@ module _ (files : List File) (dir : Name) (S : SchemaData) where
   faulty fault.TooLarge reason is rule = ap (option_and_then rule_of) is ∙ rule
   faulty fault.Memory reason is rule = absurd (none_some reason rule)
 
-  unread : (file : List ℕ) (cause : ReadCause) → Found (unread_fault file cause) → IsUnreadIn files dir S file cause
+  unread : (file : List ℕ) (cause : ReadCause) → Found (unread_fault file cause) → IsUnreadIn c file cause
   unread file Absent is = is
   unread file TooLong is = is
   unread file Failed is = is
 
 module _ (old new : FolderData) where
   -- what a fault says of the counts
-  abbrev pub RaisedBy : Fault → Type 0
+  abbrev RaisedBy : Fault → Type 0
   RaisedBy (fault.Absent file) = Rose old.absences new.absences
   RaisedBy (fault.ReadFault file) = Rose old.faults new.faults × (old.steady ≡ false)
   RaisedBy (fault.TooLong file) = Rose old.overruns new.overruns
   RaisedBy _ = Unit {0}
 
-  pub raised_by : (r : CsvRefusal) → IfAbsent {A = Presentation} (Err r) (Rose old.absences new.absences) → IfReadFault {A = Presentation} (Err r) (Rose old.faults new.faults)
+  raised_by : (r : CsvRefusal) → IfAbsent {A = Presentation} (Err r) (Rose old.absences new.absences) → IfReadFault {A = Presentation} (Err r) (Rose old.faults new.faults)
       → IfTooLong {A = Presentation} (Err r) (Rose old.overruns new.overruns) → IfReadFault {A = Presentation} (Err r) (old.steady ≡ false) → RaisedBy (told r)
   raised_by (refusal.Absent file) absent failed long fails = absent
   raised_by (refusal.ReadFault file) absent failed long fails = (failed, fails)
@@ -110,12 +159,16 @@ module _ (old new : FolderData) where
   raised file Failed by = by
 
   -- what an import tells is refused
-  pub refuses_folder : (at : Place) (n : Name) (S : SchemaData) (dir : Name) (r : CsvRefusal) (answer : ProgramRefusal) → OfFiles old.files (λ each. IsImport each dir S (Err r))
-      → RaisedBy (told r) → TellsImport at (told r) answer → RefusesReading at old new (a_folder n S dir) answer
-  refuses_folder at n S dir r (program_refusal.Broken place reason) is by tells =
-      (tells.0, of_map old.files _ _ (λ each here. faulty each dir S (told r) reason (found each dir S r here) tells.1) is)
-  refuses_folder at n S dir r (program_refusal.Read file cause) is by tells = (
-    of_map old.files _ _ (λ each here. unread each dir S (string_bytes file) cause (subst (Found each dir S) tells (found each dir S r here))) is,
-    raised (string_bytes file) cause (subst RaisedBy tells by),
+  pub refuses_folder : (at : Place) (format : Format) (n : Name) (S : SchemaData) (dir : Name) (r : CsvRefusal) (answer : ProgramRefusal)
+      → OfFolder old.files format dir S (λ c. IsImportOf c (Err r))
+      → Raises {A = Presentation} old new (Err r) → TellsImport at (told r) answer → RefusesReading at old new (a_folder format n S dir) answer
+  refuses_folder at format n S dir r (program_refusal.Broken place reason) is by tells = (
+    tells.0,
+    of_map old.files format dir S (λ c. IsImportOf c (Err r)) (λ c. option_and_then rule_of c.first ≡ Some reason) (λ c here. faulty c (told r) reason (found c r here) tells.1) is,
   )
-  refuses_folder at n S dir r program_refusal.Memory is by tells = tt
+  refuses_folder at format n S dir r (program_refusal.Read file cause) is by tells = (
+    of_map old.files format dir S (λ c. IsImportOf c (Err r)) (λ c. IsUnreadIn c (string_bytes file) cause)
+        (λ c here. unread c (string_bytes file) cause (subst (Found c) tells (found c r here))) is,
+    raised (string_bytes file) cause (subst RaisedBy tells (raised_by r by.absent by.failed by.too_long by.fails)),
+  )
+  refuses_folder at format n S dir r program_refusal.Memory is by tells = tt

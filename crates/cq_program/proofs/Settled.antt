@@ -11,6 +11,8 @@ use Rattle.cq_theory.specs.SchemaData.{SchemaData}
 use Rattle.cq_program.specs.Checks.{Meant, typeside, schema, mapping, query, instance, transform, Ends, SchemaMeant, MappingMeant, QueryMeant, InstanceMeant, TransformMeant, Environment, Checked, Posed, a_typeside, a_schema, a_mapping, an_identity, a_query, a_presentation, a_made, a_delta, an_eval, a_transform, Stated, at_once, a_folder, meant_by, as_schema, as_mapping, as_query, as_instance, as_transform, schema_used, mapping_used, query_used, instance_used, transform_used}
 use Rattle.cq_program.specs.Environment.{AreEnds, IsModelled, IsPrinted, IsTermModel, IsSettled, AreSettled, WillSettle}
 use Rattle.cq_program.specs.Program.{Stands}
+use Rattle.cq_program.specs.declared.stating.Format.{Format}
+use Rattle.cq_program.specs.declared.stating.Format.TheVariants.{First, Second}
 use Rattle.cq_program.specs.Folders.{Told, Reads}
 use Rattle.cq_program.specs.Posing.{IsGrounded, IsStatedOver}
 
@@ -217,13 +219,16 @@ stands_settled env name (an_eval n Q M) m grounded stands modelled = subst (Will
 stands_settled env name (a_transform e images) m grounded stands modelled = subst (WillSettle env name) (sym stands.1) (grounded, stands.2.goes)
 
 -- what is read of a grounded statement is grounded
-grounded_files : (env : Environment) (name : Name) (files : Told) (n : Name) (S : SchemaData) (dir : Name) (posed : Posed) → IsPrinted env n S → Reads files (a_folder n S dir) posed → IsGrounded env name posed
-grounded_files env name None n S dir posed printed reads = subst (IsGrounded env name) (sym reads.1.1) printed
-grounded_files env name (Some files) n S dir posed printed reads = subst (IsGrounded env name) (sym reads.1) printed
+grounded_files : (env : Environment) (name : Name) (files : Told) (format : Format) (n : Name) (S : SchemaData) (dir : Name) (posed : Posed)
+    → IsPrinted env n S → Reads files (a_folder format n S dir) posed → IsGrounded env name posed
+grounded_files env name None First n S dir posed printed reads = subst (IsGrounded env name) (sym reads.1.1) printed
+grounded_files env name (Some files) First n S dir posed printed reads = subst (IsGrounded env name) (sym reads.1) printed
+grounded_files env name None Second n S dir posed printed reads = subst (IsGrounded env name) (sym reads.2.1) printed
+grounded_files env name (Some files) Second n S dir posed printed reads = subst (IsGrounded env name) (sym reads.1) printed
 
 pub grounded_reading : (env : Environment) (name : Name) (files : Told) (stated : Stated) (posed : Posed) → IsStatedOver env name stated → Reads files stated posed → IsGrounded env name posed
 grounded_reading env name files (at_once p) posed grounded reads = subst (IsGrounded env name) (sym reads) grounded
-grounded_reading env name files (a_folder n S dir) posed printed reads = grounded_files env name files n S dir posed printed reads
+grounded_reading env name files (a_folder format n S dir) posed printed reads = grounded_files env name files format n S dir posed printed reads
 
 pub settled_result : {X R : Type 0} (view : X → Meant) (env : Environment) (name : Name) (posed : Posed) (r : Result X R) → IsGrounded env name posed
     → IfOk r (λ x. Stands posed (view x)) → IfOk r (λ x. IsModelled (view x)) → IfOk r (λ x. WillSettle env name (view x))

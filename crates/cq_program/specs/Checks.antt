@@ -43,6 +43,8 @@ use Rattle.cq_push.specs.Gluing.{coproduct_of, pushout_of}
 use Rattle.cq_program.specs.declared.reason.Reason.{Reason}
 use Rattle.cq_program.specs.declared.reason.Reason.TheVariants.{NameTaken, NameUnknown, WrongKind, WrongSchema, Duplicate, Unknown}
 use Rattle.cq_program.specs.declared.reason.Reason.TheVariants.{WrongCount, WrongSort, Reserved, TooLarge, Missing, NotASpan, NotBuilt}
+use Rattle.cq_program.specs.declared.stating.Format.{Format}
+use Rattle.cq_program.specs.declared.stating.Format.TheVariants.{First, Second}
 use Rattle.cq_program.specs.Parts.{typeside_parts, typeside_places, schema_parts, schema_places, instance_parts, instance_places}
 use Rattle.cq_program.specs.Parts.{mapping_parts, mapping_places, query_parts, query_places}
 
@@ -362,7 +364,6 @@ is_built (Schema (schema_exp.GetSchema spot)) = false
 is_built (Colimit lit) = false
 is_built (Transformed (transform_exp.Literal lit)) = false
 is_built (Mapping (mapping_exp.GetMapping colimit part)) = false
-is_built (Instance (instance_exp.ImportCsv2 folder spot options)) = false
 is_built _ = true
 
 abbrev pub body_posed : Environment → Place → Name → Body → Checked Posed
@@ -381,23 +382,30 @@ body_posed env place name (Instance (instance_exp.Pushout first second)) = pusho
 body_posed env place name (Transformed (transform_exp.Identity spot)) = identical_posed env spot
 body_posed env place name _ = Err (place, NotBuilt)
 
--- What a declaration states whose names and parts break no rule: what it poses at once, or a folder of files over the schema of a printed
--- name, whose files are to be read.
+-- What a declaration states whose names and parts break no rule: what it poses at once, or a folder of files, by its format, over the
+-- schema of a printed name, whose files are to be read.
 pub data Stated : Type 0 where
   at_once : Posed → Stated
-  a_folder : Name → SchemaData → Name → Stated
+  a_folder : Format → Name → SchemaData → Name → Stated
 
-abbrev pub folder_stated : Environment → Name → Spot → Checked Stated
-folder_stated env dir spot = and_then (schema_used env spot) (λ over. Ok (a_folder over.name over.schema dir))
+-- a folder, with the format of its files and the name of its schema
+pub record FolderNamed : Type 0 where
+  pub format : Format
+  pub dir : Name
+  pub schema : Spot
 
--- the folder that a body names, and the name of its schema
-abbrev pub folder_of : Body → Option (Name × Spot)
-folder_of (Instance (instance_exp.ImportCsv dir spot options)) = Some (dir, spot)
+abbrev pub folder_stated : Environment → FolderNamed → Checked Stated
+folder_stated env folder = and_then (schema_used env folder.schema) (λ over. Ok (a_folder folder.format over.name over.schema folder.dir))
+
+-- the folder that a body names
+abbrev pub folder_of : Body → Option FolderNamed
+folder_of (Instance (instance_exp.ImportCsv dir spot options)) = Some (record { format = First; dir = dir; schema = spot })
+folder_of (Instance (instance_exp.ImportCsv2 dir spot options)) = Some (record { format = Second; dir = dir; schema = spot })
 folder_of _ = None
 
-abbrev pub stated_from : Environment → Option (Name × Spot) → Checked Posed → Checked Stated
+abbrev pub stated_from : Environment → Option FolderNamed → Checked Posed → Checked Stated
 stated_from env None check = and_then check (λ posed. Ok (at_once posed))
-stated_from env (Some folder) check = folder_stated env folder.0 folder.1
+stated_from env (Some folder) check = folder_stated env folder
 
 -- A body that names a folder states it, and each other one states what it poses.
 abbrev pub body_stated : Environment → Place → Name → Body → Checked Stated

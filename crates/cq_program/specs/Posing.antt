@@ -97,7 +97,7 @@ IsGrounded env name (a_transform e images) = AreEnds env e
 -- what the code states
 abbrev pub stated_as : TheStated → Stated
 stated_as (stated.AtOnce s) = at_once (posed_as s)
-stated_as (stated.Folder f) = a_folder f.name f.schema.value f.dir
+stated_as (stated.Folder f) = a_folder f.format f.name f.schema.value f.dir
 
 abbrev pub IsStated : TheStated → Type 0
 IsStated (stated.AtOnce s) = IsPosed s
@@ -106,7 +106,7 @@ IsStated (stated.Folder f) = Unit {0}
 -- the same as `IsGrounded`, of what is stated
 abbrev pub IsStatedOver : Environment → Name → Stated → Type 0
 IsStatedOver env name (at_once posed) = IsGrounded env name posed
-IsStatedOver env name (a_folder n S dir) = IsPrinted env n S
+IsStatedOver env name (a_folder format n S dir) = IsPrinted env n S
 
 -- The refusal tells what an import tells: a rule that is broken, at the declaration's place; a file that was not read; or want of memory.
 abbrev pub TellsImport : Place → Fault → ProgramRefusal → Type 0

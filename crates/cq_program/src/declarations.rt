@@ -52,8 +52,8 @@ pub struct Named {
 /// An import reads its files when its turn comes, after its names and before its model is made. Each file is read and
 /// tested in turn: a file that is absent, too long or can't be read ends the program (`Read`, only where the count of
 /// this answer rose in this call), and the first fault in what was read is told (`NotCsv` to `ManyRecords`, as `import`
-/// of `cq_import` orders them). Where the folder tells its files, all clauses speak of these; where it tells none,
-/// of some files for each import.
+/// and `import2` of `cq_import` order them). Where the folder tells its files, all clauses speak of these; where it
+/// tells none, of some files for each import.
 pub fn meaning<F: Folder>(
     alloc: Global,
     program: &Program,

@@ -84,7 +84,7 @@ fn is_built_instance(expression: &InstanceExp) -> bool
         InstanceExp::Coproduct(_, _) => true,
         InstanceExp::Pushout(_, _) => true,
         InstanceExp::ImportCsv(_, _, _) => true,
-        InstanceExp::ImportCsv2(_, _, _) => false,
+        InstanceExp::ImportCsv2(_, _, _) => true,
     }
 }
 

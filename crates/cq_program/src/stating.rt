@@ -2,13 +2,14 @@
 ghost use Rattle.std.specs.Prelude.{◌≡◌, ◌<◌, ◌^◌, None, IfOk, IfErr, option_map, string_bytes};
 ghost use Rattle.cq_base.specs.declared.name.Name.{Name as TheName};
 ghost use Rattle.cq_import.specs.Faults.{told};
-ghost use Rattle.cq_import.specs.Folders.{Keeps};
+ghost use Rattle.cq_import.specs.Folders.{Keeps, Raises};
 ghost use Rattle.cq_syntax.specs.declared.program.Body.TheVariants.{Instance as Instanced};
+ghost use Rattle.cq_theory.specs.Presentation.{IsPresentation};
 ghost use Rattle.cq_program.specs.Program.{part_count};
 ghost use Rattle.cq_program.specs.Checks.{a_folder, body_posed, body_stated, folder_of, folder_stated, stated_by};
 ghost use Rattle.cq_program.specs.Checks.{stated_from};
 ghost use Rattle.cq_program.specs.Environment.{Answers, AreSettled, environment_of};
-ghost use Rattle.cq_program.specs.Folders.{Reads};
+ghost use Rattle.cq_program.specs.Folders.{IsImportOf, OfFolder, Reads};
 ghost use Rattle.cq_program.specs.Posing.{IsGrounded, IsPosed, IsStated, IsStatedOver, RefusesReading, TellsImport};
 ghost use Rattle.cq_program.specs.Posing.{posed_as, stated_as};
 
@@ -16,16 +17,24 @@ use crate::environment::Environment;
 use crate::posing::{Statement, is_built, pose_body};
 use crate::reason::{ProgramRefusal, ReadCause, Reason};
 use cq_base::{Name, Place, Seq};
-use cq_import::{CsvRefusal, import};
+use cq_import::{CsvRefusal, import, import2};
 use cq_io::Folder;
 use cq_syntax::{Body, Decl, InstanceExp, Spot};
-use cq_theory::Schema;
+use cq_theory::{Presentation, Schema};
 use std::alloc::Global;
 use std::rc::Rc;
+
+/// The format of a folder of CSV files.
+#[derive(Clone, Copy)]
+pub(crate) enum Format {
+    First,
+    Second,
+}
 
 /// A folder of CSV files over the schema of a printed name.
 #[derive(Drop)]
 pub(crate) struct FolderImport {
+    pub format: Format,
     pub name: Name,
     pub schema: Rc<Schema>,
     pub dir: Name,
@@ -73,14 +82,15 @@ fn state_body(
     ensures grounded { IfOk result (λ s. IsStatedOver (environment_of env.now.entries.items) name.now (stated_as s)) }
 {
     match folder_of(body) {
-        Some((dir, used)) => state_folder(env, dir, used),
+        Some((format, dir, used)) => state_folder(env, format, dir, used),
         None => state_at_once(alloc, env, place, name, body),
     }
 }
 
-/// The folder that a body names, and the name of its schema.
-fn folder_of(body: &Body) -> Option<(&Name, &Spot)>
-    ensures { option_map (λ found. (found.0.now, found.1.now)) result ≡ folder_of body.now }
+/// The folder that a body names, with its format and the name of its schema.
+fn folder_of(body: &Body) -> Option<(Format, &Name, &Spot)>
+    ensures { option_map (λ found. record { format = found.0; dir = found.1.now; schema = found.2.now }) result
+        ≡ folder_of body.now }
 {
     match body {
         Body::Typeside(_) => None,
@@ -93,8 +103,9 @@ fn folder_of(body: &Body) -> Option<(&Name, &Spot)>
     }
 }
 
-fn folder_in(expression: &InstanceExp) -> Option<(&Name, &Spot)>
-    ensures { option_map (λ found. (found.0.now, found.1.now)) result ≡ folder_of (Instanced expression.now) }
+fn folder_in(expression: &InstanceExp) -> Option<(Format, &Name, &Spot)>
+    ensures { option_map (λ found. record { format = found.0; dir = found.1.now; schema = found.2.now }) result
+        ≡ folder_of (Instanced expression.now) }
 {
     match expression {
         InstanceExp::Literal(_) => None,
@@ -104,8 +115,8 @@ fn folder_in(expression: &InstanceExp) -> Option<(&Name, &Spot)>
         InstanceExp::Coeval(_, _) => None,
         InstanceExp::Coproduct(_, _) => None,
         InstanceExp::Pushout(_, _) => None,
-        InstanceExp::ImportCsv(dir, used, _) => Some((dir, used)),
-        InstanceExp::ImportCsv2(_, _, _) => None,
+        InstanceExp::ImportCsv(dir, used, _) => Some((Format::First, dir, used)),
+        InstanceExp::ImportCsv2(dir, used, _) => Some((Format::Second, dir, used)),
     }
 }
 
@@ -132,9 +143,16 @@ fn state_at_once(
 }
 
 /// A folder over the schema for which a used name stands.
-fn state_folder(env: &Environment, dir: &Name, used: &Spot) -> Result<Stated, ProgramRefusal>
+fn state_folder(
+    env: &Environment,
+    format: Format,
+    dir: &Name,
+    used: &Spot,
+) -> Result<Stated, ProgramRefusal>
     requires settled { AreSettled (environment_of env.now.entries.items) }
-    ensures stated { Answers stated_as result (folder_stated (environment_of env.now.entries.items) dir.now used.now) }
+    ensures stated { Answers stated_as result
+        (folder_stated (environment_of env.now.entries.items)
+        (record { format = format; dir = dir.now; schema = used.now })) }
     ensures well_sorted { IfOk result IsStated }
     ensures grounded { (name : TheName) → IfOk result
         (λ s. IsStatedOver (environment_of env.now.entries.items) name (stated_as s)) }
@@ -142,6 +160,7 @@ fn state_folder(env: &Environment, dir: &Name, used: &Spot) -> Result<Stated, Pr
     let over = env.schema(used)?;
     let dir = dir.clone()?;
     Ok(Stated::Folder(FolderImport {
+        format,
         name: over.name,
         schema: over.schema,
         dir,
@@ -203,8 +222,8 @@ fn read_folder<F: Folder>(
     files: FolderImport,
     folder: &mut F,
 ) -> Result<Statement, ProgramRefusal>
-    ensures reads { IfOk result (λ s. Reads (F.files folder.old) (a_folder files.name files.schema.value files.dir)
-        (posed_as s)) }
+    ensures reads { IfOk result (λ s. Reads (F.files folder.old)
+        (a_folder files.format files.name files.schema.value files.dir) (posed_as s)) }
     ensures well_sorted { IfOk result IsPosed }
     ensures keeps { Keeps
         (record {
@@ -236,11 +255,57 @@ fn read_folder<F: Folder>(
           overruns = F.overruns folder.new;
           steady = F.steady folder.new;
         })
-        (a_folder files.name files.schema.value files.dir)) }
+        (a_folder files.format files.name files.schema.value files.dir)) }
 {
-    match import(alloc, folder, &files.dir, &files.schema) {
+    match import_files(alloc, &files, folder) {
         Ok(presentation) => Ok(Statement::Presentation(files.name, files.schema, presentation)),
         Err(refusal) => Err(import_refusal(place, refusal)),
+    }
+}
+
+/// The import of a folder by its format.
+fn import_files<F: Folder>(
+    alloc: Global,
+    files: &FolderImport,
+    folder: &mut F,
+) -> Result<Presentation, CsvRefusal>
+    ensures answer { OfFolder (F.files folder.old) files.now.format files.now.dir files.now.schema.value
+        (λ c. IsImportOf c result) }
+    ensures presentation { IfOk result (IsPresentation files.now.schema.value) }
+    ensures keeps { Keeps
+        (record {
+          files = F.files folder.old;
+          absences = F.absences folder.old;
+          faults = F.faults folder.old;
+          overruns = F.overruns folder.old;
+          steady = F.steady folder.old;
+        })
+        (record {
+          files = F.files folder.new;
+          absences = F.absences folder.new;
+          faults = F.faults folder.new;
+          overruns = F.overruns folder.new;
+          steady = F.steady folder.new;
+        }) }
+    ensures raises { Raises
+        (record {
+          files = F.files folder.old;
+          absences = F.absences folder.old;
+          faults = F.faults folder.old;
+          overruns = F.overruns folder.old;
+          steady = F.steady folder.old;
+        })
+        (record {
+          files = F.files folder.new;
+          absences = F.absences folder.new;
+          faults = F.faults folder.new;
+          overruns = F.overruns folder.new;
+          steady = F.steady folder.new;
+        }) result }
+{
+    match files.format {
+        Format::First => import(alloc, folder, &files.dir, &files.schema),
+        Format::Second => import2(alloc, folder, &files.dir, &files.schema),
     }
 }
 
