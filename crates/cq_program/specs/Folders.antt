@@ -76,7 +76,8 @@ abbrev pub TellsFault : Told → Stated → Reason → Type 0
 TellsFault files (at_once posed) reason = ⊥
 TellsFault files (a_folder format n S dir) reason = OfFolder files format dir S (λ c. option_and_then rule_of c.first ≡ Some reason)
 
--- Why a file was not read: that it is absent, or too long, is the first fault in the folder; or its read failed, where it is the file that is read next.
+-- Why a file was not read: that it is absent, or too long, is the first fault in the folder; or its read failed, where it is the file that
+-- is read next.
 abbrev pub IsUnreadIn : Content → List ℕ → ReadCause → Type 0
 IsUnreadIn c file Absent = c.first ≡ Some (fault.Absent file)
 IsUnreadIn c file TooLong = c.first ≡ Some (fault.TooLong file)
