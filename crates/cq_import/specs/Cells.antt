@@ -1,5 +1,6 @@
 -- What stands in the cells of the files, and what is wrong in them.
-use Rattle.std.specs.Prelude.{ℕ, Bool, List, [], ◌∷◌, ◌++◌, ◌+◌, ◌-◌, ◌==◌, ◌&&◌, Option, Some, None, if◌then◌else◌, nat_le, length, map, sum, take, slice_get, slice_index, slice_index_or}
+use Rattle.std.specs.Prelude.{ℕ, Bool, List, [], ◌∷◌, ◌++◌, ◌+◌, ◌-◌, ◌==◌, ◌&&◌, Option, Some, None, if◌then◌else◌, nat_le, length, map}
+use Rattle.std.specs.Prelude.{sum, take, slice_get, slice_index, slice_index_or}
 use Rattle.std.specs.List.{flat_map, enumerate_from}
 use Rattle.cq_base.specs.Names.{number_of}
 use Rattle.cq_theory.specs.declared.constant.Con.{Con}
@@ -63,12 +64,13 @@ constant_of_name T type name = typed_constant T type (named_constant name (numbe
 abbrev pub constant_content : Typeside → ℕ → List ℕ → Content
 constant_content T type text = if is_name text then constant_of_name T type text else Wrong
 
--- What stands in an attribute's column: nothing, where the field is empty; behind `=` a value by its text; where the field begins with `?`, a null by its text;
--- else a constant by its content.
+-- What stands in an attribute's column: nothing, where the field is empty; behind `=` a value by its text; where the field begins with `?`,
+-- a null by its text; else a constant by its content.
 abbrev pub content_of : Typeside → ℕ → List ℕ → Content
 content_of T type [] = Blank
 content_of T type (first ∷ rest) =
-    if first == 63 then found (value_in T type (first ∷ rest)) else (if first == 61 then found (value_in T type rest) else constant_content T type (first ∷ rest))
+    if first == 63 then found (value_in T type (first ∷ rest))
+    else (if first == 61 then found (value_in T type rest) else constant_content T type (first ∷ rest))
 
 abbrev pub uses_of : Typeside → ℕ → Content → List Use
 uses_of T type (Means v) = uses_in T v type
@@ -151,11 +153,13 @@ module _ (sheets : List Sheet) where
   -- the first thing that is wrong in some cells in order
   abbrev pub cells_fault : Typeside → Room → Labels → List Cell → Option Fault
   cells_fault T room labels [] = None
-  cells_fault T room labels (cell ∷ cells) = or_else (cell_fault T room labels cell) (cells_fault T room (with_uses labels (cell_uses T cell)) cells)
+  cells_fault T room labels (cell ∷ cells) = or_else (cell_fault T room labels cell)
+      (cells_fault T room (with_uses labels (cell_uses T cell)) cells)
 
   -- the attribute of the record's generator is the value in the cell
   abbrev pub content_equations : ℕ → Labels → Cell → ℕ → Content → List Equation
-  content_equations first labels cell a (Means v) = Typ (term.Att a (record { generator = cell.generator; path = [] })) (value_term first labels v) ∷ []
+  content_equations first labels cell a (Means v) = Typ (term.Att a (record { generator = cell.generator; path = [] }))
+      (value_term first labels v) ∷ []
   content_equations first labels cell a Blank = []
   content_equations first labels cell a Wrong = []
 

@@ -40,9 +40,11 @@ abbrev pub header : Schema → ℕ → Record
 header S entity = header_with S (columns S entity)
 
 -- one list for each of so many entities: some columns, and then one for each edge from it
-pub record IsGrouped (before : ℕ → List Column) (f : ℕ × Edge → Column) (edges : List Edge) (count : ℕ) (lists : List (Vec Column Global)) : Type 0 where
+pub record IsGrouped (before : ℕ → List Column) (f : ℕ × Edge → Column) (edges : List Edge) (count : ℕ) (lists : List (Vec Column Global))
+    : Type 0 where
   pub size : length lists ≡ count
-  pub group : (entity : ℕ) (d : Vec Column Global) → entity < count → (slice_index_or lists entity d).items ≡ before entity ++ map f (edges_from entity edges)
+  pub group : (entity : ℕ) (d : Vec Column Global) → entity < count → (slice_index_or lists entity d).items ≡ before entity
+      ++ map f (edges_from entity edges)
 
 -- one list for each entity, with its columns
 abbrev pub AreColumns : Schema → List (Vec Column Global) → Type 0

@@ -54,7 +54,8 @@ IsColumn S (Key k target) = target < length S.entities
 pub record Reads (context : Context) (old new : Made) (cells : List Cell) : Type 0 where
   pub fault : cells_fault (sheets_in context) (typeside_in context) context.room old.labels cells ≡ None
   pub labels : new.labels ≡ with_uses old.labels (flat_map (cell_uses (typeside_in context)) cells)
-  pub equations : new.equations.items ≡ old.equations.items ++ equations_from (sheets_in context) (typeside_in context) context.first old.labels cells
+  pub equations : new.equations.items ≡ old.equations.items ++ equations_from (sheets_in context) (typeside_in context) context.first
+      old.labels cells
 
 abbrev pub fault_in : Context → Made → Cell → Option Fault
 fault_in context made cell = cell_fault (sheets_in context) (typeside_in context) context.room made.labels cell
@@ -63,7 +64,8 @@ fault_in context made cell = cell_fault (sheets_in context) (typeside_in context
 pub record ReadsCell (context : Context) (old new : Made) (cell : Cell) : Type 0 where
   pub fault : fault_in context old cell ≡ None
   pub labels : new.labels ≡ with_uses old.labels (cell_uses (typeside_in context) cell)
-  pub equations : new.equations.items ≡ old.equations.items ++ cell_equations (sheets_in context) (typeside_in context) context.first new.labels cell
+  pub equations : new.equations.items ≡ old.equations.items ++ cell_equations (sheets_in context) (typeside_in context) context.first
+      new.labels cell
 
 -- the first thing that is wrong in some cells
 abbrev pub faults_in : Context → Made → List Cell → Option Fault

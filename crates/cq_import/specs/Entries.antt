@@ -1,5 +1,6 @@
 -- The file of the nulls and the entries, and what a folder with it presents.
-use Rattle.std.specs.Prelude.{ℕ, Bool, List, [], ◌∷◌, ◌++◌, ◌+◌, ◌≡◌, ◌⊎◌, Option, Some, None, Result, Ok, Err, if◌then◌else◌, length, map, filter, unwrap_or, codes, string_bytes, is_some, option_and_then}
+use Rattle.std.specs.Prelude.{ℕ, Bool, List, [], ◌∷◌, ◌++◌, ◌+◌, ◌≡◌, ◌⊎◌, Option, Some, None, Result, Ok, Err, if◌then◌else◌, length, map}
+use Rattle.std.specs.Prelude.{filter, unwrap_or, codes, string_bytes, is_some, option_and_then}
 use Rattle.std.specs.List.{flat_map}
 use Rattle.cq_base.specs.declared.name.Name.{Name}
 use Rattle.cq_base.specs.Names.{number_of, same_name}
@@ -82,7 +83,8 @@ module _ (T : Typeside) where
     -- a null has a label that didn't stand before, and the name of a type
     abbrev pub null_fault : Labels → ℕ → Record → Option Fault
     null_fault labels number fields =
-        or_else (or_bad (is_new labels (label_in (field_in fields 1))) (BadCell file number 2)) (or_bad (type_named T (field_in fields 2)) (BadCell file number 3))
+        or_else (or_bad (is_new labels (label_in (field_in fields 1))) (BadCell file number 2))
+        (or_bad (type_named T (field_in fields 2)) (BadCell file number 3))
 
     -- a record is a null's or an entry's
     abbrev pub kind_fault : Labels → ℕ → Record → Option Fault
@@ -92,7 +94,8 @@ module _ (T : Typeside) where
     -- the first fault in the first columns and in the nulls' records, where these labels stood before
     abbrev pub nulls_fault : Labels → ℕ → List Record → Option Fault
     nulls_fault labels number [] = None
-    nulls_fault labels number (fields ∷ lines) = or_else (kind_fault labels number fields) (nulls_fault (with_null labels fields) (number + 1) lines)
+    nulls_fault labels number (fields ∷ lines) = or_else (kind_fault labels number fields)
+        (nulls_fault (with_null labels fields) (number + 1) lines)
 
     -- each label in a value is given, with the type of its place
     abbrev pub uses_fault : Labels → ℕ → ℕ → Value → ℕ → Option Fault
@@ -104,11 +107,13 @@ module _ (T : Typeside) where
 
     abbrev pub sides_fault : Labels → ℕ → Option (ℕ × Value) → List ℕ → Option Fault
     sides_fault labels number None right = Some (BadCell file number 2)
-    sides_fault labels number (Some left) right = or_else (uses_fault labels number 2 left.1 left.0) (right_fault labels number left.0 (value_in T left.0 right))
+    sides_fault labels number (Some left) right = or_else (uses_fault labels number 2 left.1 left.0)
+        (right_fault labels number left.0 (value_in T left.0 right))
 
     -- an entry has a built value, and a value of its type, over labels that are given
     abbrev pub entry_fault : Labels → ℕ → Record → Option Fault
-    entry_fault labels number fields = if is_entry fields then sides_fault labels number (built_in T (field_in fields 1)) (field_in fields 2) else None
+    entry_fault labels number fields = if is_entry fields then sides_fault labels number (built_in T (field_in fields 1))
+        (field_in fields 2) else None
 
     abbrev pub entries_fault : Labels → ℕ → List Record → Option Fault
     entries_fault labels number [] = None
@@ -137,10 +142,12 @@ module _ (S : Schema) (sheets : List Sheet) (lines : List Record) where
 
   -- where these labels are given: what is wrong in the cells of the other files, and then in the records of entries
   abbrev pub rest_fault : Labels → List ℕ → Option Fault
-  rest_fault labels file = or_else (cells_fault sheets S.typeside None labels (all_cells S sheets)) (entries_fault S.typeside file labels 1 lines)
+  rest_fault labels file = or_else (cells_fault sheets S.typeside None labels (all_cells S sheets))
+      (entries_fault S.typeside file labels 1 lines)
 
   abbrev pub rest_equations : ℕ → Labels → List Equation
-  rest_equations first labels = equations_from sheets S.typeside first labels (all_cells S sheets) ++ flat_map (entry_equations S.typeside first labels) lines
+  rest_equations first labels = equations_from sheets S.typeside first labels (all_cells S sheets)
+      ++ flat_map (entry_equations S.typeside first labels) lines
 
   -- what is wrong in the records: those of nulls, then the cells of the other files, then those of entries
   abbrev pub contents2_fault : List ℕ → Option Fault

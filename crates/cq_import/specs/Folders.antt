@@ -1,5 +1,6 @@
 -- Reading the files of a folder, one after the other.
-use Rattle.std.specs.Prelude.{ℕ, Bool, true, false, List, [], ◌+◌, ◌≡◌, ◌≤◌, ◌<◌, ◌⊎◌, Option, Some, None, Result, Ok, Err, String, Vec, IfSome, length, slice_index_or, string_bytes}
+use Rattle.std.specs.Prelude.{ℕ, Bool, true, false, List, [], ◌+◌, ◌≡◌, ◌≤◌, ◌<◌, ◌⊎◌, Option, Some, None, Result, Ok, Err, String, Vec}
+use Rattle.std.specs.Prelude.{IfSome, length, slice_index_or, string_bytes}
 use Rattle.std.specs.declared.alloc.Global.{Global}
 use Rattle.cq_base.specs.declared.name.Name.{Name}
 use Rattle.cq_io.specs.Content.{File, find_file}

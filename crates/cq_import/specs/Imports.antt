@@ -1,5 +1,6 @@
 -- What a folder of files presents, or the first fault in it.
-use Rattle.std.specs.Prelude.{ℕ, Bool, List, [], ◌∷◌, ◌++◌, ◌+◌, ◌-◌, ◌*◌, ◌<◌, ◌≡◌, Option, Some, None, Result, Ok, Err, if◌then◌else◌, nat_lt, length, map, sum, replicate, unwrap_or, codes, string_bytes, slice_get}
+use Rattle.std.specs.Prelude.{ℕ, Bool, List, [], ◌∷◌, ◌++◌, ◌+◌, ◌-◌, ◌*◌, ◌<◌, ◌≡◌, Option, Some, None, Result, Ok, Err, if◌then◌else◌}
+use Rattle.std.specs.Prelude.{nat_lt, length, map, sum, replicate, unwrap_or, codes, string_bytes, slice_get}
 use Rattle.std.specs.List.{flat_map}
 use Rattle.cq_base.specs.declared.name.Name.{Name}
 use Rattle.cq_io.specs.Content.{File, find_file}
@@ -48,7 +49,8 @@ module _ (files : List File) (dir : Name) (S : Schema) where
   -- an entity's file is read and tested
   abbrev pub file_fault : ℕ → Option Fault
   file_fault entity =
-      or_else (reading_fault (file_of entity) (find_file (file_of entity) files)) (sheet_fault (file_of entity) (header S entity) (records_of (text_of entity)))
+      or_else (reading_fault (file_of entity) (find_file (file_of entity) files))
+      (sheet_fault (file_of entity) (header S entity) (records_of (text_of entity)))
 
   -- the first fault of the files of so many entities
   abbrev pub files_fault : ℕ → Option Fault

@@ -1,5 +1,6 @@
 -- The labels of nulls that stand in the cells, each of one type.
-use Rattle.std.specs.Prelude.{ℕ, Bool, List, [], ◌∷◌, ◌++◌, ◌+◌, ◌==◌, Option, Some, None, if◌then◌else◌, nat_lt, nat_eq, length, map, position, unwrap_or, slice_get}
+use Rattle.std.specs.Prelude.{ℕ, Bool, List, [], ◌∷◌, ◌++◌, ◌+◌, ◌==◌, Option, Some, None, if◌then◌else◌, nat_lt, nat_eq, length, map}
+use Rattle.std.specs.Prelude.{position, unwrap_or, slice_get}
 use Rattle.std.specs.Map.{lookup}
 use Rattle.cq_theory.specs.declared.typeside.Fun.{Fun as Function}
 use Rattle.cq_theory.specs.declared.term.TypeTerm.{TypeTerm}

@@ -1,5 +1,6 @@
 -- The records of an entity's file, and the first fault in them that is seen without the other files.
-use Rattle.std.specs.Prelude.{ℕ, Bool, true, false, not, List, [], ◌∷◌, ◌++◌, ◌+◌, ◌==◌, ◌&&◌, Option, Some, None, if◌then◌else◌, length, drop, map, is_some}
+use Rattle.std.specs.Prelude.{ℕ, Bool, true, false, not, List, [], ◌∷◌, ◌++◌, ◌+◌, ◌==◌, ◌&&◌, Option, Some, None, if◌then◌else◌, length}
+use Rattle.std.specs.Prelude.{drop, map, is_some}
 use Rattle.std.specs.List.{list_all}
 use Rattle.std.specs.Str.{is_utf8}
 use Rattle.std.specs.Cmp.Lexicographic.{pointwise}
@@ -33,7 +34,8 @@ rows_fault file width ids number (fields ∷ rows) =
 -- the first record is the header that the file must have, and each other one is a row with an id of its own
 abbrev pub sheet_fault : List ℕ → Record → List Record → Option Fault
 sheet_fault file wanted [] = Some (BadHeader file)
-sheet_fault file wanted (first ∷ rows) = if same_record first wanted then rows_fault file (length wanted) [] 1 rows else Some (BadHeader file)
+sheet_fault file wanted (first ∷ rows) = if same_record first wanted then rows_fault file (length wanted) [] 1 rows
+    else Some (BadHeader file)
 
 -- the rows of a file, and their ids
 abbrev pub rows_of : List ℕ → List Record

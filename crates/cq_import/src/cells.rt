@@ -1,5 +1,6 @@
 //! The cells of the files of entities.
-ghost use Rattle.std.specs.Prelude.{ℕ, ◌≡◌, ◌+◌, ◌≤◌, ◌<◌, ◌∷◌, ◌++◌, [], Some, None, IfOk, OnOk, IfErr, length, option_map};
+ghost use Rattle.std.specs.Prelude.{ℕ, ◌≡◌, ◌+◌, ◌≤◌, ◌<◌, ◌∷◌, ◌++◌, [], Some, None, IfOk, OnOk, IfErr, length};
+ghost use Rattle.std.specs.Prelude.{option_map};
 ghost use Rattle.cq_theory.specs.declared.presentation.Equation.TheVariants as equation;
 ghost use Rattle.cq_import.specs.declared.content.Content.TheVariants as content;
 ghost use Rattle.cq_import.specs.Cells.{content_equations, row_with_id, start_of, trouble_fault};
@@ -94,7 +95,8 @@ fn key_term(alloc: Global, generator: u32, key: u32) -> Result<EntTerm, AllocErr
 fn find_record(context: &Context, target: u32, id: &[u8]) -> Result<Option<u32>, AllocError>
     requires context { IsContext context.now }
     requires target { target < length context.now.schema.now.entities }
-    ensures { IfOk result (λ found. found ≡ option_map (λ row. start_of (sheets_in context.now) target + row) (row_with_id (sheets_in context.now) target id.now)) }
+    ensures { IfOk result (λ found. found ≡ option_map (λ row. start_of (sheets_in context.now) target + row)
+        (row_with_id (sheets_in context.now) target id.now)) }
 {
     let id = Id::new(context.alloc, id)?;
     match context.files[target as usize].ids.find(&id) {
@@ -111,7 +113,9 @@ fn push_reference(
     value: u32,
     equations: &mut Vec<Equation>,
 ) -> Result<(), AllocError>
-    ensures { OnOk result (equations.new.items ≡ equations.old.items ++ equation.Ent (record { generator = generator; path = key ∷ [] }) (record { generator = value; path = [] }) ∷ []) }
+    ensures { OnOk result (equations.new.items ≡ equations.old.items
+        ++ equation.Ent (record { generator = generator; path = key ∷ [] })
+        (record { generator = value; path = [] }) ∷ []) }
 {
     let left = key_term(alloc, generator, key)?;
     let right = generator_term(alloc, value);
@@ -161,7 +165,9 @@ fn push_value(
 ) -> Result<(), AllocError>
     requires { context.now.first + length made.old.labels ≤ 16000000 }
     ensures labels { OnOk result (made.new.labels ≡ made.old.labels) }
-    ensures equations { OnOk result (made.new.equations.items ≡ made.old.equations.items ++ content_equations (sheets_in context.now) context.now.first made.old.labels (shown_cell cell.now) attribute (content.Means value.now)) }
+    ensures equations { OnOk result (made.new.equations.items ≡ made.old.equations.items
+        ++ content_equations (sheets_in context.now) context.now.first made.old.labels (shown_cell cell.now) attribute
+        (content.Means value.now)) }
 {
     let left = TypeTerm::Att(attribute, generator_term(context.alloc, cell.generator));
     let right = value_term(context.alloc, context.first, &made.labels, value)?;
@@ -178,9 +184,11 @@ fn note_value(
     value: &Value,
     labels: &mut Labels,
 ) -> Result<(), CsvRefusal>
-    ensures passed { OnOk result (uses_trouble context.now.room labels.old (uses_in typeside.now value.now sort) ≡ None) }
+    ensures passed { OnOk result (uses_trouble context.now.room labels.old
+        (uses_in typeside.now value.now sort) ≡ None) }
     ensures labels { OnOk result (labels.new ≡ with_uses labels.old (uses_in typeside.now value.now sort)) }
-    ensures refused { IfErr result (λ r. Refuses r (trouble_fault (shown_cell cell.now) (uses_trouble context.now.room labels.old (uses_in typeside.now value.now sort)))) }
+    ensures refused { IfErr result (λ r. Refuses r (trouble_fault (shown_cell cell.now)
+        (uses_trouble context.now.room labels.old (uses_in typeside.now value.now sort)))) }
 {
     match note_labels(typeside, context.room, value, sort, labels)? {
         None => Ok(()),

@@ -1,6 +1,7 @@
 //! The columns of an entity's file.
 ghost use Rattle.std.specs.Prelude.{ℕ, ◌≡◌, ◌<◌, ◌^◌, ◌++◌, [], All, IfOk, OnOk, length, codes, slice_get};
-ghost use Rattle.cq_import.specs.Columns.{AreColumns, IsGrouped, attribute_columns, attribute_of, column_name, edge_name as edge_name_of, header_with as header_of, key_of};
+ghost use Rattle.cq_import.specs.Columns.{AreColumns, IsGrouped, attribute_columns, attribute_of, column_name};
+ghost use Rattle.cq_import.specs.Columns.{edge_name as edge_name_of, header_with as header_of, key_of};
 
 use cq_base::Name;
 use cq_theory::{Edge, Schema};

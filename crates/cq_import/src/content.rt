@@ -1,6 +1,7 @@
 //! What stands in an attribute's cell.
 ghost use Rattle.std.specs.Prelude.{◌≡◌, IfOk};
-ghost use Rattle.cq_import.specs.Cells.{constant_content as content_of_constant, content_of, constant_of_name, found as content_found, typed_constant as content_typed};
+ghost use Rattle.cq_import.specs.Cells.{constant_content as content_of_constant, content_of, constant_of_name};
+ghost use Rattle.cq_import.specs.Cells.{found as content_found, typed_constant as content_typed};
 
 use cq_base::{Name, NameRefusal};
 use cq_theory::{Con, Typeside, Value};

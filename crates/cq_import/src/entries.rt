@@ -1,11 +1,13 @@
 //! The records of entries.
-ghost use Rattle.std.specs.Prelude.{ℕ, List, ◌≡◌, ◌+◌, ◌≤◌, ◌<◌, ◌^◌, ◌++◌, ◌∷◌, [], None, Some, true, false, length, IfOk, OnOk, IfErr};
+ghost use Rattle.std.specs.Prelude.{ℕ, List, ◌≡◌, ◌+◌, ◌≤◌, ◌<◌, ◌^◌, ◌++◌, ◌∷◌, [], None, Some, true, false, length};
+ghost use Rattle.std.specs.Prelude.{IfOk, OnOk, IfErr};
 ghost use Rattle.std.specs.List.{flat_map};
 ghost use Rattle.csv.specs.Records.{fields_of};
 ghost use Rattle.cq_theory.specs.declared.presentation.Equation.TheVariants as equation;
 ghost use Rattle.cq_values.specs.Built.{built_in};
 ghost use Rattle.cq_values.specs.Reading.{value_in};
-ghost use Rattle.cq_import.specs.Entries.{entries_fault, entry_equations, entry_fault, right_fault, sides_equations, sides_fault, trouble_in, uses_fault};
+ghost use Rattle.cq_import.specs.Entries.{entries_fault, entry_equations, entry_fault, right_fault, sides_equations};
+ghost use Rattle.cq_import.specs.Entries.{sides_fault, trouble_in, uses_fault};
 ghost use Rattle.cq_import.specs.Faults.{Fault, Refuses, BadCell as BadCellFault};
 ghost use Rattle.cq_import.specs.Labels.{uses_in, uses_trouble, value_term as term_of_value};
 ghost use Rattle.cq_import.specs.Records.{Record, Remains, field_in};
@@ -38,8 +40,10 @@ fn are_given(
     sort: u32,
     labels: &mut Labels,
 ) -> Result<bool, AllocError>
-    ensures told { IfOk result (λ given. given ≡ true → uses_trouble None labels.old (uses_in typeside.now value.now sort) ≡ None) }
-    ensures wrong { IfOk result (λ given. given ≡ false → (fault : Fault) → trouble_in (uses_trouble None labels.old (uses_in typeside.now value.now sort)) fault ≡ Some fault) }
+    ensures told { IfOk result (λ given. given ≡ true
+        → uses_trouble None labels.old (uses_in typeside.now value.now sort) ≡ None) }
+    ensures wrong { IfOk result (λ given. given ≡ false → (fault : Fault)
+        → trouble_in (uses_trouble None labels.old (uses_in typeside.now value.now sort)) fault ≡ Some fault) }
     ensures kept { IfOk result (λ given. given ≡ true → labels.new ≡ labels.old) }
 {
     match note_labels(typeside, None, value, sort, labels)? {
@@ -61,10 +65,14 @@ fn read_left(
     fields: &ByteRecord,
     labels: &mut Labels,
 ) -> Result<(u32, Value), CsvRefusal>
-    ensures read { IfOk result (λ left. built_in over.now.typeside.now (field_in (fields_of fields.now) 1) ≡ Some left) }
-    ensures passed { IfOk result (λ left. uses_fault over.now.typeside.now over.now.file.now labels.old number 2 left.1 left.0 ≡ None) }
+    ensures read { IfOk result (λ left. built_in over.now.typeside.now (field_in (fields_of fields.now) 1)
+        ≡ Some left) }
+    ensures passed { IfOk result (λ left. uses_fault over.now.typeside.now over.now.file.now labels.old number 2 left.1
+        left.0 ≡ None) }
     ensures kept { OnOk result (labels.new ≡ labels.old) }
-    ensures refused { (right : List ℕ) → IfErr result (λ r. Refuses r (sides_fault over.now.typeside.now over.now.file.now labels.old number (built_in over.now.typeside.now (field_in (fields_of fields.now) 1)) right)) }
+    ensures refused { (right : List ℕ) → IfErr result
+        (λ r. Refuses r (sides_fault over.now.typeside.now over.now.file.now labels.old number
+        (built_in over.now.typeside.now (field_in (fields_of fields.now) 1)) right)) }
 {
     let Some((sort, value)) = read_built(over.alloc, over.typeside, field(fields, 1))? else {
         return Err(wrong(over, number, 2));
@@ -84,10 +92,13 @@ fn read_right(
     fields: &ByteRecord,
     labels: &mut Labels,
 ) -> Result<Value, CsvRefusal>
-    ensures read { IfOk result (λ right. value_in over.now.typeside.now sort (field_in (fields_of fields.now) 2) ≡ Some right) }
-    ensures passed { OnOk result (right_fault over.now.typeside.now over.now.file.now labels.old number sort (value_in over.now.typeside.now sort (field_in (fields_of fields.now) 2)) ≡ None) }
+    ensures read { IfOk result (λ right. value_in over.now.typeside.now sort (field_in (fields_of fields.now) 2)
+        ≡ Some right) }
+    ensures passed { OnOk result (right_fault over.now.typeside.now over.now.file.now labels.old number sort
+        (value_in over.now.typeside.now sort (field_in (fields_of fields.now) 2)) ≡ None) }
     ensures kept { OnOk result (labels.new ≡ labels.old) }
-    ensures refused { IfErr result (λ r. Refuses r (right_fault over.now.typeside.now over.now.file.now labels.old number sort (value_in over.now.typeside.now sort (field_in (fields_of fields.now) 2)))) }
+    ensures refused { IfErr result (λ r. Refuses r (right_fault over.now.typeside.now over.now.file.now labels.old
+        number sort (value_in over.now.typeside.now sort (field_in (fields_of fields.now) 2)))) }
 {
     let Some(value) = read_value(over.alloc, over.typeside, sort, field(fields, 2))? else {
         return Err(wrong(over, number, 3));
@@ -110,11 +121,17 @@ fn with_right(
 ) -> Result<(Value, Value), CsvRefusal>
     requires left { built_in over.now.typeside.now (field_in (fields_of fields.now) 1) ≡ Some (sort, left) }
     requires given { uses_fault over.now.typeside.now over.now.file.now labels.old number 2 left sort ≡ None }
-    ensures passed { OnOk result (sides_fault over.now.typeside.now over.now.file.now labels.old number (built_in over.now.typeside.now (field_in (fields_of fields.now) 1)) (field_in (fields_of fields.now) 2) ≡ None) }
-    ensures equations { IfOk result (λ sides. (first : ℕ) (given : List (ℕ × ℕ)) → sides_equations over.now.typeside.now first given (built_in over.now.typeside.now (field_in (fields_of fields.now) 1)) (field_in (fields_of fields.now) 2)
+    ensures passed { OnOk result (sides_fault over.now.typeside.now over.now.file.now labels.old number
+        (built_in over.now.typeside.now (field_in (fields_of fields.now) 1))
+        (field_in (fields_of fields.now) 2) ≡ None) }
+    ensures equations { IfOk result (λ sides. (first : ℕ) (given : List (ℕ × ℕ))
+        → sides_equations over.now.typeside.now first given
+        (built_in over.now.typeside.now (field_in (fields_of fields.now) 1)) (field_in (fields_of fields.now) 2)
         ≡ equation.Typ (term_of_value first given sides.0) (term_of_value first given sides.1) ∷ []) }
     ensures kept { OnOk result (labels.new ≡ labels.old) }
-    ensures refused { IfErr result (λ r. Refuses r (sides_fault over.now.typeside.now over.now.file.now labels.old number (built_in over.now.typeside.now (field_in (fields_of fields.now) 1)) (field_in (fields_of fields.now) 2))) }
+    ensures refused { IfErr result (λ r. Refuses r (sides_fault over.now.typeside.now over.now.file.now labels.old
+        number (built_in over.now.typeside.now (field_in (fields_of fields.now) 1))
+        (field_in (fields_of fields.now) 2))) }
 {
     match read_right(over, number, sort, fields, labels) {
         Ok(right) => Ok((left, right)),
@@ -129,11 +146,17 @@ fn read_sides(
     fields: &ByteRecord,
     labels: &mut Labels,
 ) -> Result<(Value, Value), CsvRefusal>
-    ensures passed { OnOk result (sides_fault over.now.typeside.now over.now.file.now labels.old number (built_in over.now.typeside.now (field_in (fields_of fields.now) 1)) (field_in (fields_of fields.now) 2) ≡ None) }
-    ensures equations { IfOk result (λ sides. (first : ℕ) (given : List (ℕ × ℕ)) → sides_equations over.now.typeside.now first given (built_in over.now.typeside.now (field_in (fields_of fields.now) 1)) (field_in (fields_of fields.now) 2)
+    ensures passed { OnOk result (sides_fault over.now.typeside.now over.now.file.now labels.old number
+        (built_in over.now.typeside.now (field_in (fields_of fields.now) 1))
+        (field_in (fields_of fields.now) 2) ≡ None) }
+    ensures equations { IfOk result (λ sides. (first : ℕ) (given : List (ℕ × ℕ))
+        → sides_equations over.now.typeside.now first given
+        (built_in over.now.typeside.now (field_in (fields_of fields.now) 1)) (field_in (fields_of fields.now) 2)
         ≡ equation.Typ (term_of_value first given sides.0) (term_of_value first given sides.1) ∷ []) }
     ensures kept { OnOk result (labels.new ≡ labels.old) }
-    ensures refused { IfErr result (λ r. Refuses r (sides_fault over.now.typeside.now over.now.file.now labels.old number (built_in over.now.typeside.now (field_in (fields_of fields.now) 1)) (field_in (fields_of fields.now) 2))) }
+    ensures refused { IfErr result (λ r. Refuses r (sides_fault over.now.typeside.now over.now.file.now labels.old
+        number (built_in over.now.typeside.now (field_in (fields_of fields.now) 1))
+        (field_in (fields_of fields.now) 2))) }
 {
     match read_left(over, number, fields, labels) {
         Ok((sort, left)) => with_right(over, number, fields, sort, left, labels),
@@ -146,7 +169,8 @@ fn push_entry(over: &Over, left: &Value, right: &Value, made: &mut Made) -> Resu
     requires { over.now.first + length made.old.labels ≤ 16000000 }
     ensures labels { OnOk result (made.new.labels ≡ made.old.labels) }
     ensures equations { OnOk result (made.new.equations.items ≡ made.old.equations.items
-        ++ equation.Typ (term_of_value over.now.first made.old.labels left.now) (term_of_value over.now.first made.old.labels right.now) ∷ []) }
+        ++ equation.Typ (term_of_value over.now.first made.old.labels left.now)
+        (term_of_value over.now.first made.old.labels right.now) ∷ []) }
 {
     let left = value_term(over.alloc, over.first, &made.labels, left)?;
     let right = value_term(over.alloc, over.first, &made.labels, right)?;
@@ -162,10 +186,16 @@ fn read_entry(
     made: &mut Made,
 ) -> Result<(), CsvRefusal>
     requires { over.now.first + length made.old.labels ≤ 16000000 }
-    ensures passed { OnOk result (sides_fault over.now.typeside.now over.now.file.now made.old.labels number (built_in over.now.typeside.now (field_in (fields_of fields.now) 1)) (field_in (fields_of fields.now) 2) ≡ None) }
+    ensures passed { OnOk result (sides_fault over.now.typeside.now over.now.file.now made.old.labels number
+        (built_in over.now.typeside.now (field_in (fields_of fields.now) 1))
+        (field_in (fields_of fields.now) 2) ≡ None) }
     ensures labels { OnOk result (made.new.labels ≡ made.old.labels) }
-    ensures equations { OnOk result (made.new.equations.items ≡ made.old.equations.items ++ sides_equations over.now.typeside.now over.now.first made.old.labels (built_in over.now.typeside.now (field_in (fields_of fields.now) 1)) (field_in (fields_of fields.now) 2)) }
-    ensures refused { IfErr result (λ r. Refuses r (sides_fault over.now.typeside.now over.now.file.now made.old.labels number (built_in over.now.typeside.now (field_in (fields_of fields.now) 1)) (field_in (fields_of fields.now) 2))) }
+    ensures equations { OnOk result (made.new.equations.items ≡ made.old.equations.items
+        ++ sides_equations over.now.typeside.now over.now.first made.old.labels
+        (built_in over.now.typeside.now (field_in (fields_of fields.now) 1)) (field_in (fields_of fields.now) 2)) }
+    ensures refused { IfErr result (λ r. Refuses r (sides_fault over.now.typeside.now over.now.file.now made.old.labels
+        number (built_in over.now.typeside.now (field_in (fields_of fields.now) 1))
+        (field_in (fields_of fields.now) 2))) }
 {
     match read_sides(over, number, fields, &mut made.labels) {
         Ok((left, right)) => Ok(push_entry(over, &left, &right, made)?),
@@ -181,10 +211,13 @@ fn read_line(
     made: &mut Made,
 ) -> Result<(), CsvRefusal>
     requires { over.now.first + length made.old.labels ≤ 16000000 }
-    ensures passed { OnOk result (entry_fault over.now.typeside.now over.now.file.now made.old.labels number (fields_of fields.now) ≡ None) }
+    ensures passed { OnOk result (entry_fault over.now.typeside.now over.now.file.now made.old.labels number
+        (fields_of fields.now) ≡ None) }
     ensures labels { OnOk result (made.new.labels ≡ made.old.labels) }
-    ensures equations { OnOk result (made.new.equations.items ≡ made.old.equations.items ++ entry_equations over.now.typeside.now over.now.first made.old.labels (fields_of fields.now)) }
-    ensures refused { IfErr result (λ r. Refuses r (entry_fault over.now.typeside.now over.now.file.now made.old.labels number (fields_of fields.now))) }
+    ensures equations { OnOk result (made.new.equations.items ≡ made.old.equations.items
+        ++ entry_equations over.now.typeside.now over.now.first made.old.labels (fields_of fields.now)) }
+    ensures refused { IfErr result (λ r. Refuses r (entry_fault over.now.typeside.now over.now.file.now made.old.labels
+        number (fields_of fields.now))) }
 {
     if is_entry(fields) {
         read_entry(over, number, fields, made)
@@ -201,10 +234,15 @@ fn read_lines(
     made: &mut Made,
 ) -> Result<(), CsvRefusal>
     requires { over.now.first + length made.old.labels ≤ 16000000 }
-    ensures passed { (lines : List Record) → Remains reader.old lines → OnOk result (entries_fault over.now.typeside.now over.now.file.now made.old.labels 1 lines ≡ None) }
+    ensures passed { (lines : List Record) → Remains reader.old lines
+        → OnOk result (entries_fault over.now.typeside.now over.now.file.now made.old.labels 1 lines ≡ None) }
     ensures labels { OnOk result (made.new.labels ≡ made.old.labels) }
-    ensures equations { (lines : List Record) → Remains reader.old lines → OnOk result (made.new.equations.items ≡ made.old.equations.items ++ flat_map (entry_equations over.now.typeside.now over.now.first made.old.labels) lines) }
-    ensures refused { (lines : List Record) → Remains reader.old lines → IfErr result (λ r. Refuses r (entries_fault over.now.typeside.now over.now.file.now made.old.labels 1 lines)) }
+    ensures equations { (lines : List Record) → Remains reader.old lines
+        → OnOk result (made.new.equations.items ≡ made.old.equations.items
+        ++ flat_map (entry_equations over.now.typeside.now over.now.first made.old.labels) lines) }
+    ensures refused { (lines : List Record) → Remains reader.old lines
+        → IfErr result (λ r. Refuses r (entries_fault over.now.typeside.now over.now.file.now
+        made.old.labels 1 lines)) }
 {
     for number in 1..u32::MAX {
         if !next(reader, fields)? {
@@ -220,10 +258,13 @@ fn read_lines(
 /// Reads the records of entries, whose labels are given, and appends their equations.
 pub fn read_entries(over: &Over, text: &[u8], made: &mut Made) -> Result<(), CsvRefusal>
     requires { over.now.first + length made.old.labels ≤ 16000000 }
-    ensures passed { OnOk result (entries_fault over.now.typeside.now over.now.file.now made.old.labels 1 (rows_of text.now) ≡ None) }
+    ensures passed { OnOk result (entries_fault over.now.typeside.now over.now.file.now made.old.labels 1
+        (rows_of text.now) ≡ None) }
     ensures labels { OnOk result (made.new.labels ≡ made.old.labels) }
-    ensures equations { OnOk result (made.new.equations.items ≡ made.old.equations.items ++ flat_map (entry_equations over.now.typeside.now over.now.first made.old.labels) (rows_of text.now)) }
-    ensures refused { IfErr result (λ r. Refuses r (entries_fault over.now.typeside.now over.now.file.now made.old.labels 1 (rows_of text.now))) }
+    ensures equations { OnOk result (made.new.equations.items ≡ made.old.equations.items
+        ++ flat_map (entry_equations over.now.typeside.now over.now.first made.old.labels) (rows_of text.now)) }
+    ensures refused { IfErr result (λ r. Refuses r (entries_fault over.now.typeside.now over.now.file.now
+        made.old.labels 1 (rows_of text.now))) }
 {
     let Some(mut reader) = start_behind(over.alloc, text)? else {
         return Ok(());

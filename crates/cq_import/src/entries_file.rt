@@ -16,7 +16,8 @@ use std::alloc::Global;
 
 /// Tests the text of the file.
 fn check_text(alloc: Global, name: String, text: Vec<u8>) -> Result<EntriesFile, CsvRefusal>
-    ensures named { IfOk result (λ file. (string_bytes file.name ≡ string_bytes name) × (file.text.items ≡ text.items)) }
+    ensures named { IfOk result (λ file. (string_bytes file.name ≡ string_bytes name)
+        × (file.text.items ≡ text.items)) }
     ensures passed { OnOk result (marked_fault (string_bytes name) (records_of text.items) ≡ None) }
     ensures refused { IfErr result (λ r. Refuses r (marked_fault (string_bytes name) (records_of text.items))) }
 {
@@ -33,11 +34,35 @@ pub fn read_entries_file<F: Folder>(
     dir: &Name,
 ) -> Result<EntriesFile, CsvRefusal>
     ensures keeps { Keeps
-        (record { files = F.files folder.old; absences = F.absences folder.old; faults = F.faults folder.old; overruns = F.overruns folder.old; steady = F.steady folder.old })
-        (record { files = F.files folder.new; absences = F.absences folder.new; faults = F.faults folder.new; overruns = F.overruns folder.new; steady = F.steady folder.new }) }
+        (record {
+          files = F.files folder.old;
+          absences = F.absences folder.old;
+          faults = F.faults folder.old;
+          overruns = F.overruns folder.old;
+          steady = F.steady folder.old;
+        })
+        (record {
+          files = F.files folder.new;
+          absences = F.absences folder.new;
+          faults = F.faults folder.new;
+          overruns = F.overruns folder.new;
+          steady = F.steady folder.new;
+        }) }
     ensures raises { Raises
-        (record { files = F.files folder.old; absences = F.absences folder.old; faults = F.faults folder.old; overruns = F.overruns folder.old; steady = F.steady folder.old })
-        (record { files = F.files folder.new; absences = F.absences folder.new; faults = F.faults folder.new; overruns = F.overruns folder.new; steady = F.steady folder.new }) result }
+        (record {
+          files = F.files folder.old;
+          absences = F.absences folder.old;
+          faults = F.faults folder.old;
+          overruns = F.overruns folder.old;
+          steady = F.steady folder.old;
+        })
+        (record {
+          files = F.files folder.new;
+          absences = F.absences folder.new;
+          faults = F.faults folder.new;
+          overruns = F.overruns folder.new;
+          steady = F.steady folder.new;
+        }) result }
     ensures read { IfOk result (IsEntriesRead dir.now (F.files folder.old)) }
     ensures refused { IfErr result (IsEntriesRefused dir.now (F.files folder.old)) }
 {

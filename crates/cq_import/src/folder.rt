@@ -33,11 +33,35 @@ pub fn file_name(alloc: Global, dir: &Name, file: &str) -> Result<String, AllocE
 /// Reads a file of at most 64 MiB.
 pub fn read_text<F: Folder>(folder: &mut F, name: String) -> Result<(String, Vec<u8>), CsvRefusal>
     ensures keeps { Keeps
-        (record { files = F.files folder.old; absences = F.absences folder.old; faults = F.faults folder.old; overruns = F.overruns folder.old; steady = F.steady folder.old })
-        (record { files = F.files folder.new; absences = F.absences folder.new; faults = F.faults folder.new; overruns = F.overruns folder.new; steady = F.steady folder.new }) }
+        (record {
+          files = F.files folder.old;
+          absences = F.absences folder.old;
+          faults = F.faults folder.old;
+          overruns = F.overruns folder.old;
+          steady = F.steady folder.old;
+        })
+        (record {
+          files = F.files folder.new;
+          absences = F.absences folder.new;
+          faults = F.faults folder.new;
+          overruns = F.overruns folder.new;
+          steady = F.steady folder.new;
+        }) }
     ensures raises { Raises
-        (record { files = F.files folder.old; absences = F.absences folder.old; faults = F.faults folder.old; overruns = F.overruns folder.old; steady = F.steady folder.old })
-        (record { files = F.files folder.new; absences = F.absences folder.new; faults = F.faults folder.new; overruns = F.overruns folder.new; steady = F.steady folder.new }) result }
+        (record {
+          files = F.files folder.old;
+          absences = F.absences folder.old;
+          faults = F.faults folder.old;
+          overruns = F.overruns folder.old;
+          steady = F.steady folder.old;
+        })
+        (record {
+          files = F.files folder.new;
+          absences = F.absences folder.new;
+          faults = F.faults folder.new;
+          overruns = F.overruns folder.new;
+          steady = F.steady folder.new;
+        }) result }
     ensures read { IfOk result (IsReadText (F.files folder.old) (string_bytes name)) }
     ensures unread { IfErr result (IsUnread (F.files folder.old) (string_bytes name)) }
 {
@@ -58,9 +82,12 @@ fn check_text(
     name: String,
     text: Vec<u8>,
 ) -> Result<EntityFile, CsvRefusal>
-    ensures named { IfOk result (λ file. (string_bytes file.name ≡ string_bytes name) × (file.text.items ≡ text.items)) }
-    ensures passed { OnOk result (sheet_fault (string_bytes name) (header_with schema.now columns.now) (records_of text.items) ≡ None) }
-    ensures refused { IfErr result (λ r. Refuses r (sheet_fault (string_bytes name) (header_with schema.now columns.now) (records_of text.items))) }
+    ensures named { IfOk result (λ file. (string_bytes file.name ≡ string_bytes name)
+        × (file.text.items ≡ text.items)) }
+    ensures passed { OnOk result (sheet_fault (string_bytes name) (header_with schema.now columns.now)
+        (records_of text.items) ≡ None) }
+    ensures refused { IfErr result (λ r. Refuses r (sheet_fault (string_bytes name) (header_with schema.now columns.now)
+        (records_of text.items))) }
 {
     let wanted = header(alloc, schema, columns)?;
     match check_sheet(alloc, name.as_str(), wanted.as_slice(), text.as_slice()) {
@@ -81,11 +108,35 @@ fn read_entity_file<F: Folder>(
     requires entity { entity < length schema.now.entities }
     requires columns { columns.now ≡ columns_of schema.now entity }
     ensures keeps { Keeps
-        (record { files = F.files folder.old; absences = F.absences folder.old; faults = F.faults folder.old; overruns = F.overruns folder.old; steady = F.steady folder.old })
-        (record { files = F.files folder.new; absences = F.absences folder.new; faults = F.faults folder.new; overruns = F.overruns folder.new; steady = F.steady folder.new }) }
+        (record {
+          files = F.files folder.old;
+          absences = F.absences folder.old;
+          faults = F.faults folder.old;
+          overruns = F.overruns folder.old;
+          steady = F.steady folder.old;
+        })
+        (record {
+          files = F.files folder.new;
+          absences = F.absences folder.new;
+          faults = F.faults folder.new;
+          overruns = F.overruns folder.new;
+          steady = F.steady folder.new;
+        }) }
     ensures raises { Raises
-        (record { files = F.files folder.old; absences = F.absences folder.old; faults = F.faults folder.old; overruns = F.overruns folder.old; steady = F.steady folder.old })
-        (record { files = F.files folder.new; absences = F.absences folder.new; faults = F.faults folder.new; overruns = F.overruns folder.new; steady = F.steady folder.new }) result }
+        (record {
+          files = F.files folder.old;
+          absences = F.absences folder.old;
+          faults = F.faults folder.old;
+          overruns = F.overruns folder.old;
+          steady = F.steady folder.old;
+        })
+        (record {
+          files = F.files folder.new;
+          absences = F.absences folder.new;
+          faults = F.faults folder.new;
+          overruns = F.overruns folder.new;
+          steady = F.steady folder.new;
+        }) result }
     ensures read { IfOk result (IsRead dir.now schema.now (F.files folder.old) entity) }
     ensures refused { IfErr result (IsRefused dir.now schema.now (F.files folder.old) entity) }
 {
@@ -107,11 +158,35 @@ pub fn read_files<F: Folder>(
 ) -> Result<Vec<EntityFile>, CsvRefusal>
     requires { AreColumns schema.now columns.now }
     ensures keeps { Keeps
-        (record { files = F.files folder.old; absences = F.absences folder.old; faults = F.faults folder.old; overruns = F.overruns folder.old; steady = F.steady folder.old })
-        (record { files = F.files folder.new; absences = F.absences folder.new; faults = F.faults folder.new; overruns = F.overruns folder.new; steady = F.steady folder.new }) }
+        (record {
+          files = F.files folder.old;
+          absences = F.absences folder.old;
+          faults = F.faults folder.old;
+          overruns = F.overruns folder.old;
+          steady = F.steady folder.old;
+        })
+        (record {
+          files = F.files folder.new;
+          absences = F.absences folder.new;
+          faults = F.faults folder.new;
+          overruns = F.overruns folder.new;
+          steady = F.steady folder.new;
+        }) }
     ensures raises { Raises
-        (record { files = F.files folder.old; absences = F.absences folder.old; faults = F.faults folder.old; overruns = F.overruns folder.old; steady = F.steady folder.old })
-        (record { files = F.files folder.new; absences = F.absences folder.new; faults = F.faults folder.new; overruns = F.overruns folder.new; steady = F.steady folder.new }) result }
+        (record {
+          files = F.files folder.old;
+          absences = F.absences folder.old;
+          faults = F.faults folder.old;
+          overruns = F.overruns folder.old;
+          steady = F.steady folder.old;
+        })
+        (record {
+          files = F.files folder.new;
+          absences = F.absences folder.new;
+          faults = F.faults folder.new;
+          overruns = F.overruns folder.new;
+          steady = F.steady folder.new;
+        }) result }
     ensures count { IfOk result (λ made. length made.items ≡ length schema.now.entities) }
     ensures read { IfOk result (λ made. AreRead dir.now schema.now (F.files folder.old) made.items) }
     ensures refused { IfErr result (λ r. (r ≡ CsvRefusal.Memory) ⊎ Stops dir.now schema.now (F.files folder.old) r) }

@@ -1,5 +1,6 @@
 //! The generators of a presentation.
-ghost use Rattle.std.specs.Prelude.{ℕ, ◌≡◌, ◌+◌, ◌++◌, ◌∷◌, ◌<◌, ◌^◌, [], IfOk, OnOk, length, map, codes, decimal, replicate};
+ghost use Rattle.std.specs.Prelude.{ℕ, ◌≡◌, ◌+◌, ◌++◌, ◌∷◌, ◌<◌, ◌^◌, [], IfOk, OnOk, length, map, codes, decimal};
+ghost use Rattle.std.specs.Prelude.{replicate};
 ghost use Rattle.std.specs.List.{flat_map};
 ghost use Rattle.cq_theory.specs.declared.presentation.Sort.TheVariants.{Entity};
 ghost use Rattle.cq_theory.specs.Canonical.{below, named};
@@ -66,7 +67,8 @@ fn push_copies(sort: Sort, count: u32, made: &mut Vec<Sort>) -> Result<(), Alloc
 /// Appends the sorts of the generators of the records.
 pub fn push_row_sorts(files: &[EntityFile], made: &mut Vec<Sort>) -> Result<(), AllocError>
     requires { length files.now < 2 ^ 32 }
-    ensures { OnOk result (made.new.items ≡ made.old.items ++ flat_map (entity_sorts (map sheet_in files.now)) (below (length files.now))) }
+    ensures { OnOk result (made.new.items ≡ made.old.items
+        ++ flat_map (entity_sorts (map sheet_in files.now)) (below (length files.now))) }
 {
     for entity in 0..files.len() {
         push_copies(Sort::Entity(entity as u32), files[entity].ids.len(), made)?;

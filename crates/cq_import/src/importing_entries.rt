@@ -32,12 +32,37 @@ fn import_rest<F: Folder>(
     requires count { length files.now ≡ length schema.now.entities }
     requires read { AreRead dir.now schema.now (F.files folder.old) files.now }
     ensures keeps { Keeps
-        (record { files = F.files folder.old; absences = F.absences folder.old; faults = F.faults folder.old; overruns = F.overruns folder.old; steady = F.steady folder.old })
-        (record { files = F.files folder.new; absences = F.absences folder.new; faults = F.faults folder.new; overruns = F.overruns folder.new; steady = F.steady folder.new }) }
+        (record {
+          files = F.files folder.old;
+          absences = F.absences folder.old;
+          faults = F.faults folder.old;
+          overruns = F.overruns folder.old;
+          steady = F.steady folder.old;
+        })
+        (record {
+          files = F.files folder.new;
+          absences = F.absences folder.new;
+          faults = F.faults folder.new;
+          overruns = F.overruns folder.new;
+          steady = F.steady folder.new;
+        }) }
     ensures raises { Raises
-        (record { files = F.files folder.old; absences = F.absences folder.old; faults = F.faults folder.old; overruns = F.overruns folder.old; steady = F.steady folder.old })
-        (record { files = F.files folder.new; absences = F.absences folder.new; faults = F.faults folder.new; overruns = F.overruns folder.new; steady = F.steady folder.new }) result }
-    ensures answer { OfFiles2 (F.files folder.old) dir.now (λ told text. IsImport2Over told text dir.now schema.now result) }
+        (record {
+          files = F.files folder.old;
+          absences = F.absences folder.old;
+          faults = F.faults folder.old;
+          overruns = F.overruns folder.old;
+          steady = F.steady folder.old;
+        })
+        (record {
+          files = F.files folder.new;
+          absences = F.absences folder.new;
+          faults = F.faults folder.new;
+          overruns = F.overruns folder.new;
+          steady = F.steady folder.new;
+        }) result }
+    ensures answer { OfFiles2 (F.files folder.old) dir.now
+        (λ told text. IsImport2Over told text dir.now schema.now result) }
     ensures presentation { IfOk result (IsPresentation schema.now) }
 {
     schema.is_well_sorted();
@@ -60,7 +85,8 @@ fn import_rest<F: Folder>(
 /// last file is read (`Absent`, `ReadFault`, `TooLong`), its first record is tested (`BadHeader`), and then each record
 /// in turn: `NotCsv` where it hasn't three fields, each of UTF-8. Then `TooLarge`, where the records of the entities'
 /// files and those of nulls are over 16,000,000. Then, record by record, `BadCell` in column 1 where it is neither
-/// `null` nor `entry`, in column 2 where a null has no label or one that stood before, in column 3 where it has no type.
+/// `null` nor `entry`, in column 2 where a null has no label or one that stood before, in column 3 where it has no
+/// type.
 /// Then the cells in order, as by `import`: `BadCell`, also where a label isn't given or has another type, and
 /// `NoSuchId`. Then the entries: `BadCell` in column 2 where no built value has the text, in column 3 where no value of
 /// its type has it, and in either where a label isn't given or has another type. `Memory` may come at any time.
@@ -72,7 +98,8 @@ pub fn import2<F: Folder>(
 ) -> Result<Presentation, CsvRefusal>
     // Where the folder tells its files, the answer is decided by them, but for a read that fails and want of memory;
     // where it tells none, there are files over which it is.
-    ensures answer { OfFiles2 (F.files folder.old) dir.now (λ told text. IsImport2Over told text dir.now schema.now result) }
+    ensures answer { OfFiles2 (F.files folder.old) dir.now
+        (λ told text. IsImport2Over told text dir.now schema.now result) }
     ensures presentation { IfOk result (IsPresentation schema.now) }
     ensures files { F.files folder.new ≡ F.files folder.old }
 

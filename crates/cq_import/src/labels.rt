@@ -1,7 +1,8 @@
 //! The labels of nulls.
 ghost use Rattle.std.specs.Prelude.{◌≡◌, ◌+◌, ◌++◌, ◌∷◌, ◌≤◌, ◌<◌, ◌^◌, [], None, IfOk, OnOk, length, map, slice_get};
 ghost use Rattle.cq_theory.specs.declared.presentation.Sort.TheVariants.{Plain};
-ghost use Rattle.cq_import.specs.Labels.{function_types, place_of_label, type_of_label, use_trouble, uses_in, uses_trouble, with_use, with_uses, value_term as term_of_value};
+ghost use Rattle.cq_import.specs.Labels.{function_types, place_of_label, type_of_label, use_trouble, uses_in};
+ghost use Rattle.cq_import.specs.Labels.{uses_trouble, with_use, with_uses, value_term as term_of_value};
 
 use cq_base::Seq;
 use cq_theory::{Sort, TypeTerm, Typeside, Value};
@@ -133,8 +134,10 @@ pub fn note_labels(
     sort: u32,
     labels: &mut Labels,
 ) -> Result<Option<Trouble>, AllocError>
-    ensures told { IfOk result (λ trouble. trouble ≡ uses_trouble room labels.old (uses_in typeside.now value.now sort)) }
-    ensures noted { IfOk result (λ trouble. trouble ≡ None → labels.new ≡ with_uses labels.old (uses_in typeside.now value.now sort)) }
+    ensures told { IfOk result (λ trouble. trouble ≡ uses_trouble room labels.old
+        (uses_in typeside.now value.now sort)) }
+    ensures noted { IfOk result (λ trouble. trouble ≡ None
+        → labels.new ≡ with_uses labels.old (uses_in typeside.now value.now sort)) }
 {
     match value {
         Value::Const(_) => Ok(None),

@@ -1,7 +1,9 @@
 //! The records of the file of the nulls and the entries, before the cells of the other files are read.
-ghost use Rattle.std.specs.Prelude.{ℕ, List, ◌≡◌, ◌+◌, ◌-◌, ◌<◌, ◌^◌, [], if◌then◌else◌, filter, length, drop, codes, IfOk, OnOk, IfErr, MatchOption};
+ghost use Rattle.std.specs.Prelude.{ℕ, List, ◌≡◌, ◌+◌, ◌-◌, ◌<◌, ◌^◌, [], if◌then◌else◌, filter, length, drop, codes};
+ghost use Rattle.std.specs.Prelude.{IfOk, OnOk, IfErr, MatchOption};
 ghost use Rattle.csv.specs.Records.{fields_of};
-ghost use Rattle.cq_import.specs.Entries.{is_entry as entry_is, is_null as null_is, lines_fault, mark as mark_is, marked_fault};
+ghost use Rattle.cq_import.specs.Entries.{is_entry as entry_is, is_null as null_is, lines_fault, mark as mark_is};
+ghost use Rattle.cq_import.specs.Entries.{marked_fault};
 ghost use Rattle.cq_import.specs.Faults.{Refuses};
 ghost use Rattle.cq_import.specs.Records.{Record, Remains, records_of};
 ghost use Rattle.cq_import.specs.Rows.{rows_of};
@@ -29,7 +31,8 @@ pub fn is_entry(fields: &ByteRecord) -> bool
 
 /// A reader of the records behind the first one, where there is a first one.
 pub fn start_behind(alloc: Global, text: &[u8]) -> Result<Option<Reader<&[u8]>>, AllocError>
-    ensures { IfOk result (λ found. MatchOption found (records_of text.now ≡ []) (λ reader. Remains reader (rows_of text.now))) }
+    ensures { IfOk result (λ found. MatchOption found (records_of text.now ≡ [])
+        (λ reader. Remains reader (rows_of text.now))) }
 {
     let mut reader = start(alloc, text);
     let mut fields = ByteRecord::new(alloc);
@@ -75,9 +78,12 @@ fn check_lines(
     reader: &mut Reader<&[u8]>,
     fields: &mut ByteRecord,
 ) -> Result<u32, CsvRefusal>
-    ensures passed { (lines : List Record) → Remains reader.old lines → OnOk result (lines_fault file.now 1 lines ≡ None) }
-    ensures count { (lines : List Record) → Remains reader.old lines → IfOk result (λ nulls. nulls ≡ length (filter null_is lines)) }
-    ensures refused { (lines : List Record) → Remains reader.old lines → IfErr result (λ r. Refuses r (lines_fault file.now 1 lines)) }
+    ensures passed { (lines : List Record) → Remains reader.old lines
+        → OnOk result (lines_fault file.now 1 lines ≡ None) }
+    ensures count { (lines : List Record) → Remains reader.old lines
+        → IfOk result (λ nulls. nulls ≡ length (filter null_is lines)) }
+    ensures refused { (lines : List Record) → Remains reader.old lines
+        → IfErr result (λ r. Refuses r (lines_fault file.now 1 lines)) }
 {
     let mut nulls = 0;
     for number in 1..u32::MAX {
@@ -101,9 +107,12 @@ fn check_records(
     fields: &mut ByteRecord,
 ) -> Result<u32, CsvRefusal>
     requires { wanted.now ≡ mark_is }
-    ensures passed { (lines : List Record) → Remains reader.old lines → OnOk result (marked_fault file.now lines ≡ None) }
-    ensures count { (lines : List Record) → Remains reader.old lines → IfOk result (λ nulls. nulls ≡ length (filter null_is (drop 1 lines))) }
-    ensures refused { (lines : List Record) → Remains reader.old lines → IfErr result (λ r. Refuses r (marked_fault file.now lines)) }
+    ensures passed { (lines : List Record) → Remains reader.old lines
+        → OnOk result (marked_fault file.now lines ≡ None) }
+    ensures count { (lines : List Record) → Remains reader.old lines
+        → IfOk result (λ nulls. nulls ≡ length (filter null_is (drop 1 lines))) }
+    ensures refused { (lines : List Record) → Remains reader.old lines
+        → IfErr result (λ r. Refuses r (marked_fault file.now lines)) }
 {
     if !next(reader, fields)? {
         return Err(bad_header(alloc, file));

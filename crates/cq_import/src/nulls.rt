@@ -2,7 +2,8 @@
 ghost use Rattle.std.specs.Prelude.{ℕ, List, ◌≡◌, ◌++◌, ◌∷◌, [], None, Some, IfOk, OnOk, IfErr, IfSome};
 ghost use Rattle.csv.specs.Records.{fields_of};
 ghost use Rattle.cq_values.specs.Built.{label_in};
-ghost use Rattle.cq_import.specs.Entries.{given, is_new, kind_fault, null_fault, null_use, nulls_fault, type_named as named_type, with_null};
+ghost use Rattle.cq_import.specs.Entries.{given, is_new, kind_fault, null_fault, null_use, nulls_fault};
+ghost use Rattle.cq_import.specs.Entries.{type_named as named_type, with_null};
 ghost use Rattle.cq_import.specs.Faults.{Refuses};
 ghost use Rattle.cq_import.specs.Labels.{type_of_label};
 ghost use Rattle.cq_import.specs.Records.{Record, Remains};
@@ -52,7 +53,8 @@ fn read_null(
 ) -> Result<(), CsvRefusal>
     ensures passed { OnOk result (null_fault typeside.now file.now labels.old number (fields_of fields.now) ≡ None) }
     ensures added { OnOk result (labels.new ≡ labels.old ++ null_use typeside.now (fields_of fields.now) ∷ []) }
-    ensures refused { IfErr result (λ r. Refuses r (null_fault typeside.now file.now labels.old number (fields_of fields.now))) }
+    ensures refused { IfErr result (λ r. Refuses r (null_fault typeside.now file.now labels.old number
+        (fields_of fields.now))) }
 {
     let Some(label) = new_label(labels, field(fields, 1)) else {
         return Err(bad_cell(alloc, file, number, 2));
@@ -75,7 +77,8 @@ fn read_line(
 ) -> Result<(), CsvRefusal>
     ensures passed { OnOk result (kind_fault typeside.now file.now labels.old number (fields_of fields.now) ≡ None) }
     ensures added { OnOk result (labels.new ≡ with_null typeside.now labels.old (fields_of fields.now)) }
-    ensures refused { IfErr result (λ r. Refuses r (kind_fault typeside.now file.now labels.old number (fields_of fields.now))) }
+    ensures refused { IfErr result (λ r. Refuses r (kind_fault typeside.now file.now labels.old number
+        (fields_of fields.now))) }
 {
     if is_null(fields) {
         read_null(alloc, typeside, file, number, fields, labels)
@@ -95,9 +98,12 @@ fn read_lines(
     fields: &mut ByteRecord,
     labels: &mut Labels,
 ) -> Result<(), CsvRefusal>
-    ensures passed { (lines : List Record) → Remains reader.old lines → OnOk result (nulls_fault typeside.now file.now labels.old 1 lines ≡ None) }
-    ensures added { (lines : List Record) → Remains reader.old lines → OnOk result (labels.new ≡ labels.old ++ given typeside.now lines) }
-    ensures refused { (lines : List Record) → Remains reader.old lines → IfErr result (λ r. Refuses r (nulls_fault typeside.now file.now labels.old 1 lines)) }
+    ensures passed { (lines : List Record) → Remains reader.old lines
+        → OnOk result (nulls_fault typeside.now file.now labels.old 1 lines ≡ None) }
+    ensures added { (lines : List Record) → Remains reader.old lines
+        → OnOk result (labels.new ≡ labels.old ++ given typeside.now lines) }
+    ensures refused { (lines : List Record) → Remains reader.old lines
+        → IfErr result (λ r. Refuses r (nulls_fault typeside.now file.now labels.old 1 lines)) }
 {
     for number in 1..u32::MAX {
         if !next(reader, fields)? {
@@ -120,7 +126,8 @@ pub fn read_nulls(
 ) -> Result<(), CsvRefusal>
     ensures passed { OnOk result (nulls_fault typeside.now file.now labels.old 1 (rows_of text.now) ≡ None) }
     ensures added { OnOk result (labels.new ≡ labels.old ++ given typeside.now (rows_of text.now)) }
-    ensures refused { IfErr result (λ r. Refuses r (nulls_fault typeside.now file.now labels.old 1 (rows_of text.now))) }
+    ensures refused { IfErr result (λ r. Refuses r (nulls_fault typeside.now file.now labels.old 1
+        (rows_of text.now))) }
 {
     let Some(mut reader) = start_behind(alloc, text)? else {
         return Ok(());

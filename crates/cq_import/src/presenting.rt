@@ -1,5 +1,6 @@
 //! The presentation of files that are read and tested.
-ghost use Rattle.std.specs.Prelude.{◌≡◌, ◌+◌, ◌-◌, ◌≤◌, ◌<◌, ◌^◌, ◌++◌, [], Some, None, IfOk, OnOk, IfErr, MatchOption, length, map, sum};
+ghost use Rattle.std.specs.Prelude.{◌≡◌, ◌+◌, ◌-◌, ◌≤◌, ◌<◌, ◌^◌, ◌++◌, [], Some, None, IfOk, OnOk, IfErr, MatchOption};
+ghost use Rattle.std.specs.Prelude.{length, map, sum};
 ghost use Rattle.std.specs.List.{flat_map};
 ghost use Rattle.cq_theory.specs.Canonical.{below, named};
 ghost use Rattle.cq_theory.specs.Presentation.{IsPresentation};
@@ -30,7 +31,9 @@ pub fn find_starts(
     alloc: Global,
     files: &[EntityFile],
 ) -> Result<Option<(Vec<u32>, u32)>, AllocError>
-    ensures { IfOk result (λ found. MatchOption found (16000000 < sum (counts (map sheet_in files.now))) (λ f. (f.0.items ≡ map (start_of (map sheet_in files.now)) (below (length files.now))) × (f.1 ≡ sum (counts (map sheet_in files.now))) × (f.1 ≤ 16000000))) }
+    ensures { IfOk result (λ found. MatchOption found (16000000 < sum (counts (map sheet_in files.now)))
+        (λ f. (f.0.items ≡ map (start_of (map sheet_in files.now)) (below (length files.now)))
+        × (f.1 ≡ sum (counts (map sheet_in files.now))) × (f.1 ≤ 16000000))) }
 {
     let mut starts = Vec::new(alloc);
     let mut total = 0;
@@ -48,7 +51,9 @@ pub fn find_starts(
 /// The presentation of what was read.
 pub fn finish(context: &Context, made: Made) -> Result<Presentation, AllocError>
     requires { length context.now.files.now < 2 ^ 32 }
-    ensures generators { IfOk result (λ p. p.generators ≡ named (flat_map (entity_sorts (sheets_in context.now)) (below (length context.now.files.now)) ++ map (λ u. Plain u.1) made.labels)) }
+    ensures generators { IfOk result (λ p. p.generators ≡ named
+        (flat_map (entity_sorts (sheets_in context.now)) (below (length context.now.files.now))
+        ++ map (λ u. Plain u.1) made.labels)) }
     ensures equations { IfOk result (λ p. p.equations ≡ made.equations.items) }
 {
     let Made { labels, equations } = made;
@@ -70,10 +75,16 @@ pub fn finish(context: &Context, made: Made) -> Result<Presentation, AllocError>
 fn present_cells(context: &Context) -> Result<Presentation, CsvRefusal>
     requires context { IsContext context.now }
     requires few { length context.now.files.now < 2 ^ 32 }
-    ensures passed { OnOk result (cells_fault (sheets_in context.now) (typeside_in context.now) context.now.room [] (all_cells context.now.schema.now (sheets_in context.now)) ≡ None) }
-    ensures generators { IfOk result (λ p. p.generators ≡ named (flat_map (entity_sorts (sheets_in context.now)) (below (length context.now.files.now)) ++ map (λ u. Plain u.1) (with_uses [] (flat_map (cell_uses (typeside_in context.now)) (all_cells context.now.schema.now (sheets_in context.now)))))) }
-    ensures equations { IfOk result (λ p. p.equations ≡ equations_from (sheets_in context.now) (typeside_in context.now) context.now.first [] (all_cells context.now.schema.now (sheets_in context.now))) }
-    ensures refused { IfErr result (λ r. Refuses r (cells_fault (sheets_in context.now) (typeside_in context.now) context.now.room [] (all_cells context.now.schema.now (sheets_in context.now)))) }
+    ensures passed { OnOk result (cells_fault (sheets_in context.now) (typeside_in context.now) context.now.room []
+        (all_cells context.now.schema.now (sheets_in context.now)) ≡ None) }
+    ensures generators { IfOk result (λ p. p.generators ≡ named
+        (flat_map (entity_sorts (sheets_in context.now)) (below (length context.now.files.now))
+        ++ map (λ u. Plain u.1) (with_uses [] (flat_map (cell_uses (typeside_in context.now))
+        (all_cells context.now.schema.now (sheets_in context.now)))))) }
+    ensures equations { IfOk result (λ p. p.equations ≡ equations_from (sheets_in context.now) (typeside_in context.now)
+        context.now.first [] (all_cells context.now.schema.now (sheets_in context.now))) }
+    ensures refused { IfErr result (λ r. Refuses r (cells_fault (sheets_in context.now) (typeside_in context.now)
+        context.now.room [] (all_cells context.now.schema.now (sheets_in context.now)))) }
 {
     let mut made = Made {
         labels: Labels::new(context.alloc),

@@ -18,7 +18,8 @@ pub fn start(alloc: Global, text: &[u8]) -> Reader<&[u8]>
 
 /// Reads the next record, and tells whether there was one.
 pub fn next(reader: &mut Reader<&[u8]>, fields: &mut ByteRecord) -> Result<bool, AllocError>
-    ensures { IfOk result (λ found. (rows : List Record) → Remains reader.old rows → Steps reader.new rows (fields_of fields.new) found) }
+    ensures { IfOk result (λ found. (rows : List Record) → Remains reader.old rows
+        → Steps reader.new rows (fields_of fields.new) found) }
 {
     let Ok(found) = reader.read_byte_record(fields) else {
         return Err(AllocError);

@@ -1,11 +1,14 @@
 //! The records of an entity's file, before the other files are read.
-ghost use Rattle.std.specs.Prelude.{ℕ, List, ◌≡◌, ◌+◌, ◌<◌, ◌^◌, ◌-◌, ◌++◌, ◌∷◌, [], Some, None, true, not, is_some, length, drop, IfOk, OnOk, IfErr};
+ghost use Rattle.std.specs.Prelude.{ℕ, List, ◌≡◌, ◌+◌, ◌<◌, ◌^◌, ◌-◌, ◌++◌, ◌∷◌, [], Some, None, true, not, is_some};
+ghost use Rattle.std.specs.Prelude.{length, drop, IfOk, OnOk, IfErr};
 ghost use Rattle.std.specs.Str.{is_utf8};
 ghost use Rattle.csv.specs.Records.{fields_of};
 ghost use Rattle.cq_base.specs.Names.{number_of};
-ghost use Rattle.cq_import.specs.Faults.{Refuses, NotCsv as NotCsvFault, BadHeader as BadHeaderFault, BadCell as BadCellFault, DoubleId as DoubleIdFault};
+ghost use Rattle.cq_import.specs.Faults.{Refuses, NotCsv as NotCsvFault, BadHeader as BadHeaderFault};
+ghost use Rattle.cq_import.specs.Faults.{BadCell as BadCellFault, DoubleId as DoubleIdFault};
 ghost use Rattle.cq_import.specs.Records.{Record, Remains, records_of};
-ghost use Rattle.cq_import.specs.Rows.{id_of, ids_of, is_row as row_is, row_fault, rows_fault, rows_of, same_record, sheet_fault};
+ghost use Rattle.cq_import.specs.Rows.{id_of, ids_of, is_row as row_is, row_fault, rows_fault, rows_of, same_record};
+ghost use Rattle.cq_import.specs.Rows.{sheet_fault};
 
 use crate::ids::{Id, Ids};
 use crate::records::{field, next, start, width};
@@ -139,9 +142,11 @@ fn check_rows(
     ids: &mut Ids,
 ) -> Result<(), CsvRefusal>
     requires { ids.old ≡ [] }
-    ensures passed { (rows : List Record) → Remains reader.old rows → OnOk result (rows_fault file.now count [] 1 rows ≡ None) }
+    ensures passed { (rows : List Record) → Remains reader.old rows
+        → OnOk result (rows_fault file.now count [] 1 rows ≡ None) }
     ensures added { (rows : List Record) → Remains reader.old rows → OnOk result (ids.new ≡ ids_of rows) }
-    ensures refused { (rows : List Record) → Remains reader.old rows → IfErr result (λ r. Refuses r (rows_fault file.now count [] 1 rows)) }
+    ensures refused { (rows : List Record) → Remains reader.old rows
+        → IfErr result (λ r. Refuses r (rows_fault file.now count [] 1 rows)) }
 {
     for number in 1..u32::MAX {
         if !next(reader, fields)? {
@@ -164,9 +169,11 @@ fn check_records(
     ids: &mut Ids,
 ) -> Result<(), CsvRefusal>
     requires { ids.old ≡ [] }
-    ensures passed { (rows : List Record) → Remains reader.old rows → OnOk result (sheet_fault file.now wanted.now rows ≡ None) }
+    ensures passed { (rows : List Record) → Remains reader.old rows
+        → OnOk result (sheet_fault file.now wanted.now rows ≡ None) }
     ensures added { (rows : List Record) → Remains reader.old rows → OnOk result (ids.new ≡ ids_of (drop 1 rows)) }
-    ensures refused { (rows : List Record) → Remains reader.old rows → IfErr result (λ r. Refuses r (sheet_fault file.now wanted.now rows)) }
+    ensures refused { (rows : List Record) → Remains reader.old rows
+        → IfErr result (λ r. Refuses r (sheet_fault file.now wanted.now rows)) }
 {
     if !next(reader, fields)? {
         return Err(bad_header(alloc, file));

@@ -42,9 +42,11 @@ fn read_row(
     requires columns { All (IsColumn context.now.schema.now) columns.now }
     requires narrow { length columns.now ≤ 2 ^ 31 }
     requires room { context.now.first + length made.old.labels ≤ 16000000 }
-    ensures passed { OnOk result (Reads context.now made.old made.new (row_cells row.now.file.now columns.now row.now.generator row.now.number (fields_of row.now.fields.now))) }
+    ensures passed { OnOk result (Reads context.now made.old made.new
+        (row_cells row.now.file.now columns.now row.now.generator row.now.number (fields_of row.now.fields.now))) }
     ensures room { OnOk result (context.now.first + length made.new.labels ≤ 16000000) }
-    ensures refused { IfErr result (λ r. Refuses r (faults_in context.now made.old (row_cells row.now.file.now columns.now row.now.generator row.now.number (fields_of row.now.fields.now)))) }
+    ensures refused { IfErr result (λ r. Refuses r (faults_in context.now made.old
+        (row_cells row.now.file.now columns.now row.now.generator row.now.number (fields_of row.now.fields.now)))) }
 {
     for (place, column) in columns.iter().enumerate() {
         let cell = Cell {
@@ -74,9 +76,13 @@ fn read_rows(
     requires columns { All (IsColumn context.now.schema.now) table.now.columns.now }
     requires narrow { length table.now.columns.now ≤ 2 ^ 31 }
     requires room { context.now.first + length made.old.labels ≤ 16000000 }
-    ensures passed { (rows : List Record) → Remains reader.old rows → table.now.start + length rows ≤ 16000000 → OnOk result (Reads context.now made.old made.new (rows_cells table.now.file.now table.now.columns.now table.now.start 1 rows)) }
+    ensures passed { (rows : List Record) → Remains reader.old rows → table.now.start + length rows ≤ 16000000
+        → OnOk result (Reads context.now made.old made.new
+        (rows_cells table.now.file.now table.now.columns.now table.now.start 1 rows)) }
     ensures room { OnOk result (context.now.first + length made.new.labels ≤ 16000000) }
-    ensures refused { (rows : List Record) → Remains reader.old rows → table.now.start + length rows ≤ 16000000 → IfErr result (λ r. Refuses r (faults_in context.now made.old (rows_cells table.now.file.now table.now.columns.now table.now.start 1 rows))) }
+    ensures refused { (rows : List Record) → Remains reader.old rows → table.now.start + length rows ≤ 16000000
+        → IfErr result (λ r. Refuses r (faults_in context.now made.old
+        (rows_cells table.now.file.now table.now.columns.now table.now.start 1 rows))) }
 {
     for number in 1..u32::MAX {
         if !next(reader, fields)? {
@@ -108,9 +114,13 @@ fn read_records(
     requires columns { All (IsColumn context.now.schema.now) table.now.columns.now }
     requires narrow { length table.now.columns.now ≤ 2 ^ 31 }
     requires room { context.now.first + length made.old.labels ≤ 16000000 }
-    ensures passed { (rows : List Record) → Remains reader.old rows → table.now.start + length (drop 1 rows) ≤ 16000000 → OnOk result (Reads context.now made.old made.new (rows_cells table.now.file.now table.now.columns.now table.now.start 1 (drop 1 rows))) }
+    ensures passed { (rows : List Record) → Remains reader.old rows → table.now.start + length (drop 1 rows) ≤ 16000000
+        → OnOk result (Reads context.now made.old made.new
+        (rows_cells table.now.file.now table.now.columns.now table.now.start 1 (drop 1 rows))) }
     ensures room { OnOk result (context.now.first + length made.new.labels ≤ 16000000) }
-    ensures refused { (rows : List Record) → Remains reader.old rows → table.now.start + length (drop 1 rows) ≤ 16000000 → IfErr result (λ r. Refuses r (faults_in context.now made.old (rows_cells table.now.file.now table.now.columns.now table.now.start 1 (drop 1 rows)))) }
+    ensures refused { (rows : List Record) → Remains reader.old rows → table.now.start + length (drop 1 rows) ≤ 16000000
+        → IfErr result (λ r. Refuses r (faults_in context.now made.old
+        (rows_cells table.now.file.now table.now.columns.now table.now.start 1 (drop 1 rows)))) }
 {
     if !next(reader, fields)? {
         return Ok(());
@@ -130,9 +140,11 @@ fn read_table(
     requires narrow { length table.now.columns.now ≤ 2 ^ 31 }
     requires room { context.now.first + length made.old.labels ≤ 16000000 }
     requires few { table.now.start + length (rows_of text.now) ≤ 16000000 }
-    ensures passed { OnOk result (Reads context.now made.old made.new (rows_cells table.now.file.now table.now.columns.now table.now.start 1 (rows_of text.now))) }
+    ensures passed { OnOk result (Reads context.now made.old made.new
+        (rows_cells table.now.file.now table.now.columns.now table.now.start 1 (rows_of text.now))) }
     ensures room { OnOk result (context.now.first + length made.new.labels ≤ 16000000) }
-    ensures refused { IfErr result (λ r. Refuses r (faults_in context.now made.old (rows_cells table.now.file.now table.now.columns.now table.now.start 1 (rows_of text.now)))) }
+    ensures refused { IfErr result (λ r. Refuses r (faults_in context.now made.old
+        (rows_cells table.now.file.now table.now.columns.now table.now.start 1 (rows_of text.now)))) }
 {
     let mut reader = start(context.alloc, text);
     let mut fields = ByteRecord::new(context.alloc);
@@ -147,9 +159,11 @@ fn read_entity(context: &Context, entity: usize, made: &mut Made) -> Result<(), 
     requires context { IsContext context.now }
     requires entity { entity < length context.now.files.now }
     requires room { context.now.first + length made.old.labels ≤ 16000000 }
-    ensures passed { OnOk result (Reads context.now made.old made.new (entity_cells context.now.schema.now (sheets_in context.now) entity)) }
+    ensures passed { OnOk result (Reads context.now made.old made.new
+        (entity_cells context.now.schema.now (sheets_in context.now) entity)) }
     ensures room { OnOk result (context.now.first + length made.new.labels ≤ 16000000) }
-    ensures refused { IfErr result (λ r. Refuses r (faults_in context.now made.old (entity_cells context.now.schema.now (sheets_in context.now) entity))) }
+    ensures refused { IfErr result (λ r. Refuses r (faults_in context.now made.old
+        (entity_cells context.now.schema.now (sheets_in context.now) entity))) }
 {
     let schema: &Schema = context.schema;
     schema.is_well_sorted();
@@ -171,9 +185,11 @@ fn read_entity(context: &Context, entity: usize, made: &mut Made) -> Result<(), 
 pub fn read_cells(context: &Context, made: &mut Made) -> Result<(), CsvRefusal>
     requires context { IsContext context.now }
     requires room { context.now.first + length made.old.labels ≤ 16000000 }
-    ensures passed { OnOk result (Reads context.now made.old made.new (all_cells context.now.schema.now (sheets_in context.now))) }
+    ensures passed { OnOk result (Reads context.now made.old made.new
+        (all_cells context.now.schema.now (sheets_in context.now))) }
     ensures room { OnOk result (context.now.first + length made.new.labels ≤ 16000000) }
-    ensures refused { IfErr result (λ r. Refuses r (faults_in context.now made.old (all_cells context.now.schema.now (sheets_in context.now)))) }
+    ensures refused { IfErr result (λ r. Refuses r (faults_in context.now made.old
+        (all_cells context.now.schema.now (sheets_in context.now)))) }
 {
     for entity in 0..context.files.len() {
         if let Err(refusal) = read_entity(context, entity, made) {
