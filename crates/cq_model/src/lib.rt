@@ -1,7 +1,7 @@
 //! Instances: the models of presentations, with their rows, cells, nulls and entries.
 #![tactic(auto)]
 
-mod application;
+pub mod application;
 pub mod building;
 pub mod canonical;
 pub mod edges;
