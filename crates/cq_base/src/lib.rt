@@ -1,12 +1,14 @@
 //! Names, places in a file, terms as they are written, and lists that contracts see as their items.
 #![tactic(auto)]
 
+pub mod hashing;
 pub mod name;
 pub mod names;
 pub mod place;
 pub mod raw;
 pub mod seq;
 
+pub use hashing::Hashing;
 pub use name::{Name, NameRefusal};
 pub use names::{Names, NamesRefusal};
 pub use place::Place;

@@ -3,6 +3,7 @@ ghost use Rattle.std.specs.Prelude.{◌≡◌, ◌+◌, ◌-◌, ◌<◌, ◌^�
 ghost use Rattle.std.specs.Prelude.{None, slice_get};
 ghost use Rattle.cq_base.specs.Names.{number_of};
 
+use crate::hashing::Hashing;
 use crate::name::Name;
 use indexmap::IndexSet;
 use std::alloc::Global;
@@ -11,7 +12,7 @@ use std::marker::Model;
 /// Names with their numbers, from 0. Contracts see the list of the names, in which no name stands twice.
 #[derive(Drop)]
 pub struct Names {
-    names: IndexSet<Name>,
+    names: IndexSet<Name, Hashing>,
 }
 
 impl Model for Names {
@@ -40,7 +41,7 @@ impl Names {
         ensures { result ≡ [] }
     {
         Names {
-            names: IndexSet::new(alloc),
+            names: IndexSet::with_hasher(alloc, Hashing::new()),
         }
     }
 

@@ -3,7 +3,7 @@ ghost use Rattle.std.specs.Prelude.{◌≡◌, ℕ, List, [], ◌∷◌, Some, I
 ghost use Rattle.std.specs.Cmp.Lexicographic.{pointwise, nat_list_eq_equiv};
 ghost use Rattle.std.specs.Cmp.{partial_equiv_from_equiv};
 
-use cq_base::Name;
+use cq_base::{Hashing, Name};
 use smallvec::SmallVec;
 use std::alloc::{AllocError, Global};
 use std::collections::HashMap;
@@ -93,7 +93,7 @@ impl Hash for Key {
 /// A node for each key. Contracts see the pairs.
 #[derive(Drop)]
 pub struct Table {
-    nodes: HashMap<Key, u64>,
+    nodes: HashMap<Key, u64, Hashing>,
 }
 
 impl Model for Table {
@@ -112,7 +112,7 @@ impl Table {
         ensures { IfOk result (λ table. table ≡ []) }
     {
         Ok(Table {
-            nodes: HashMap::with_capacity(alloc, count)?,
+            nodes: HashMap::with_capacity_and_hasher(alloc, count, Hashing::new())?,
         })
     }
 

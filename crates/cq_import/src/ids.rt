@@ -8,6 +8,7 @@ ghost use Rattle.std.specs.Cmp.Rules.{hashing};
 ghost use Rattle.std.proofs.Common.{rules};
 ghost use Rattle.cq_base.specs.Names.{number_of};
 
+use cq_base::Hashing;
 use indexmap::IndexSet;
 use std::alloc::{AllocError, Global};
 use std::hash::{Hash, Hasher};
@@ -65,7 +66,7 @@ impl Hash for Id {
 /// Ids, numbered in the order in which they were added. Contracts see the list of the ids.
 #[derive(Drop)]
 pub struct Ids {
-    ids: IndexSet<Id>,
+    ids: IndexSet<Id, Hashing>,
 }
 
 impl Model for Ids {
@@ -84,7 +85,7 @@ impl Ids {
         ensures { result ≡ [] }
     {
         Ids {
-            ids: IndexSet::new(alloc),
+            ids: IndexSet::with_hasher(alloc, Hashing::new()),
         }
     }
 

@@ -11,7 +11,7 @@ ghost use Rattle.cq_query.specs.QueryParts.{first_of, assigned_given as given_as
 use crate::index::Index;
 use crate::missing::{assigned_given, is_key};
 use crate::parts::Clause;
-use cq_base::{Name, Raw};
+use cq_base::{Hashing, Name, Raw};
 use cq_theory::Schema;
 use std::alloc::{AllocError, Global};
 use std::collections::HashMap;
@@ -20,7 +20,7 @@ use std::marker::Model;
 /// For each variable to which a foreign key assigns a term, the place of the clause. Contracts see the pairs.
 #[derive(Drop)]
 pub(crate) struct Assigned {
-    places: HashMap<Name, usize>,
+    places: HashMap<Name, usize, Hashing>,
 }
 
 impl Model for Assigned {
@@ -36,7 +36,7 @@ impl Assigned {
         ensures { result ≡ [] }
     {
         Assigned {
-            places: HashMap::new(alloc),
+            places: HashMap::with_hasher(alloc, Hashing::new()),
         }
     }
 

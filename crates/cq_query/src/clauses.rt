@@ -18,7 +18,7 @@ use crate::given::add_clause;
 use crate::owners::{entity_at, of_query};
 use crate::parts::Clause;
 use crate::scopes::Scope;
-use cq_base::{Name, Raw};
+use cq_base::{Hashing, Name, Raw};
 use cq_theory::lookup::{
     has_reserved, has_unknown, has_wrong_count, in_part_of, is_too_large, sort_of_raw,
 };
@@ -284,8 +284,8 @@ fn first_clause_fault(
     ensures { IfOk result (λ fault. fault ≡ clauses_fault source.now target.now entities.now scopes.now first
         parts.now) }
 {
-    let mut symbols = HashSet::new(alloc);
-    let mut assigned = HashSet::new(alloc);
+    let mut symbols = HashSet::with_hasher(alloc, Hashing::new());
+    let mut assigned = HashSet::with_hasher(alloc, Hashing::new());
     let mut number = first;
     for part in parts {
         let is_given = add_clause(&mut symbols, &mut assigned, &part.1)?;

@@ -8,12 +8,12 @@ ghost use Rattle.cq_query.specs.Given.{same_pair, HasGiven};
 ghost use Rattle.cq_query.specs.QueryParts.{gives_same};
 
 use crate::parts::Clause;
-use cq_base::Name;
+use cq_base::{Hashing, Name};
 use std::alloc::AllocError;
 use std::collections::HashSet;
 
 /// Adds the name of an attribute or foreign key, and tells whether it was there.
-fn add_symbol(symbols: &mut HashSet<Name>, name: &Name) -> Result<bool, AllocError>
+fn add_symbol(symbols: &mut HashSet<Name, Hashing>, name: &Name) -> Result<bool, AllocError>
     ensures taken { IfOk result (λ taken. taken ≡ list_any (same_name name.now) symbols.old.keys) }
     ensures added { OnOk result ((q : List ℕ) → list_any (same_name q) symbols.new.keys ≡ cond
         (same_name name.now q) true (list_any (same_name q) symbols.old.keys)) }
@@ -24,7 +24,7 @@ fn add_symbol(symbols: &mut HashSet<Name>, name: &Name) -> Result<bool, AllocErr
 
 /// Adds a variable with the foreign key that assigns a term to it, and tells whether it was there.
 fn add_assigned(
-    assigned: &mut HashSet<(Name, Name)>,
+    assigned: &mut HashSet<(Name, Name), Hashing>,
     key: &Name,
     variable: &Name,
 ) -> Result<bool, AllocError>
@@ -39,8 +39,8 @@ fn add_assigned(
 
 /// Adds what a clause gives, and tells whether an earlier one gives it.
 pub(crate) fn add_clause(
-    symbols: &mut HashSet<Name>,
-    assigned: &mut HashSet<(Name, Name)>,
+    symbols: &mut HashSet<Name, Hashing>,
+    assigned: &mut HashSet<(Name, Name), Hashing>,
     part: &Clause,
 ) -> Result<bool, AllocError>
     ensures taken { (earlier : List (ℕ × Clause)) → HasGiven earlier symbols.old.keys assigned.old.keys
