@@ -1,0 +1,82 @@
+//! Runs each file of `examples/` in turn, and prints its transcript and the files that it exports, so that no page shows
+//! what the program doesn't print.
+#![tactic(auto)]
+
+use cq_io::{DirFolder, Exporter, Format, MemExporter, Sink, StdSink};
+use cq_run::run;
+use std::alloc::Global;
+use std::process::ExitCode;
+
+const FILES: [&str; 11] = [
+    "examples/first-run.cql",
+    "examples/orders.cql",
+    "examples/departments.cql",
+    "examples/employees.cql",
+    "examples/people.cql",
+    "examples/lists.cql",
+    "examples/moves.cql",
+    "examples/questions.cql",
+    "examples/exercises/chief.cql",
+    "examples/exercises/merged.cql",
+    "examples/exercises/streets.cql",
+];
+
+fn main(rt: HostRuntime) -> ExitCode {
+    let mut out = StdSink::new(rt);
+    for name in FILES {
+        if show(rt, &mut out, name).is_none() {
+            return ExitCode::from(1);
+        }
+    }
+    ExitCode::from(0)
+}
+
+/// Prints the name of a file, what a run of it prints, and what it exports. None: the memory or the output failed.
+fn show(rt: HostRuntime, out: &mut StdSink, name: &str) -> Option<()> {
+    let alloc = rt.alloc();
+    head(out, "== ", name)?;
+    let mut words = Vec::new(alloc);
+    words.push(String::from_str(alloc, "run").ok()?).ok()?;
+    words.push(String::from_str(alloc, name).ok()?).ok()?;
+    let mut folder = DirFolder::new(rt, alloc);
+    let mut exporters = both(alloc)?;
+    let mut spoiled: Vec<Box<dyn Exporter>> = Vec::new(alloc);
+    run(
+        alloc,
+        words.as_slice(),
+        &mut folder,
+        &mut exporters,
+        &mut spoiled,
+        out,
+    );
+    for exporter in exporters.iter() {
+        files(out, exporter.kept())?;
+    }
+    Some(())
+}
+
+/// An exporter in memory of each format.
+fn both(alloc: Global) -> Option<Vec<Box<dyn Exporter>>> {
+    let mut exporters: Vec<Box<dyn Exporter>> = Vec::new(alloc);
+    for format in [Format::Csv, Format::Cql] {
+        let exporter = MemExporter::new(alloc, format, Vec::new(alloc)).ok()?;
+        exporters.push(Box::new(alloc, exporter).ok()?).ok()?;
+    }
+    Some(exporters)
+}
+
+/// Prints files with their names.
+fn files(out: &mut StdSink, kept: &[(String, Vec<u8>)]) -> Option<()> {
+    for (name, bytes) in kept {
+        head(out, "-- ", name.as_str())?;
+        out.write_all(bytes.as_slice()).ok()?;
+    }
+    Some(())
+}
+
+/// Prints a line with a name.
+fn head(out: &mut StdSink, mark: &str, name: &str) -> Option<()> {
+    out.write_all(mark.as_bytes()).ok()?;
+    out.write_all(name.as_bytes()).ok()?;
+    out.write_all(b"\n").ok()
+}
