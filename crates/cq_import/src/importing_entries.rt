@@ -73,7 +73,7 @@ fn import_rest<F: Folder>(
 }
 
 /// The presentation of the CSV files `DIR/ENTITY.csv`, one for each entity of the schema, and `DIR/entries-2.csv`, of
-/// at most 64 MiB each. So what `files` of an instance gives is read back.
+/// at most 64 MiB each. Their form is that in which `files` writes an instance.
 ///
 /// The files of the entities are those that `import` reads, but for their labels: each label that stands in a cell is
 /// given in the last file. Its first record is `format-2,left,right`. Each other record is `null`, `?` and a label, and
