@@ -13,6 +13,7 @@ pub mod Bounded
 pub mod Raws
 pub mod ResolvedSorts
 pub mod DeclaredParts
+pub mod PartLoops
 pub mod MadeTypesides
 pub mod PathKeys
 pub mod RawSources
