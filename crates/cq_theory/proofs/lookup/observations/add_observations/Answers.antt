@@ -18,10 +18,11 @@ loop-part-preserved c =
     let x = c.part-item.result in
     let within : i < length parts = omega arith in
     let one = c.in_ok-observation.ensures.ok in
-    let more = pushed _ _ c.loop-part.made.items c.push.new.self.items c.in_ok-observation.observation c.push.ensures.items c.is_err.ensures.negation c.if-is_err.false in
-    (omega arith,
-     map_more (made_observation c.args.schema.now) parts i x c.loop-part.made.items c.push.new.self.items c.in_ok-observation.observation within c.part-item.is c.loop-part.invariant.1 one.1 more,
-     term_passed (observation_fault c.args.schema.now) parts i c.loop-part.number _ x within c.part-item.is one.0 c.loop-part.invariant.2)
+    let more = pushed _ _ c.loop-part.made.items c.push.new.self.items c.in_ok-observation.observation c.push.ensures.items c.is_err.ensures.negation c.if-is_err.false in (
+      omega arith,
+      map_more (made_observation c.args.schema.now) parts i x c.loop-part.made.items c.push.new.self.items c.in_ok-observation.observation within c.part-item.is c.loop-part.invariant.1 one.1 more,
+      term_passed (observation_fault c.args.schema.now) parts i c.loop-part.number _ x within c.part-item.is one.0 c.loop-part.invariant.2,
+    )
 
 pub returns-clause-accepted : goal.returns-clause-accepted
 returns-clause-accepted c =

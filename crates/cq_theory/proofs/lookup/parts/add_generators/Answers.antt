@@ -19,11 +19,12 @@ loop-generator-preserved c =
     let x = c.generator-item.result in
     let within : i < length parts = omega arith in
     let one = c.in_ok-sort.ensures.ok in
-    let more = pushed _ _ c.loop-generator.sorts.items c.push.new.self.items c.in_ok-sort.sort c.push.ensures.items c.is_err.ensures.negation c.if-is_err.false in
-    (omega arith,
-     map_more (λ p. p.0) parts i x c.loop-generator.names c.add_generator.new.names x.0 within c.generator-item.is c.loop-generator.invariant.1 refl one.1,
-     map_more (λ p. sort_or_first (sort_named c.args.schema.now p.1)) parts i x c.loop-generator.sorts.items c.push.new.self.items c.in_ok-sort.sort within c.generator-item.is c.loop-generator.invariant.2 (sym (ap sort_or_first one.2)) more,
-     part_passed (λ p. p.0) (generator_fault c.args.schema.now) parts i c.loop-generator.names c.loop-generator.part _ x c.add_generator.new.names within c.generator-item.is one.1 one.0 c.loop-generator.invariant.3)
+    let more = pushed _ _ c.loop-generator.sorts.items c.push.new.self.items c.in_ok-sort.sort c.push.ensures.items c.is_err.ensures.negation c.if-is_err.false in (
+      omega arith,
+      map_more (λ p. p.0) parts i x c.loop-generator.names c.add_generator.new.names x.0 within c.generator-item.is c.loop-generator.invariant.1 refl one.1,
+      map_more (λ p. sort_or_first (sort_named c.args.schema.now p.1)) parts i x c.loop-generator.sorts.items c.push.new.self.items c.in_ok-sort.sort within c.generator-item.is c.loop-generator.invariant.2 (sym (ap sort_or_first one.2)) more,
+      part_passed (λ p. p.0) (generator_fault c.args.schema.now) parts i c.loop-generator.names c.loop-generator.part _ x c.add_generator.new.names within c.generator-item.is one.1 one.0 c.loop-generator.invariant.3,
+    )
 
 pub returns-clause-accepted : goal.returns-clause-accepted
 returns-clause-accepted c =
@@ -32,6 +33,7 @@ returns-clause-accepted c =
 
 pub returns-clause-made : goal.returns-clause-made
 returns-clause-made c =
-    let end : length c.args.parts.now ≤ c.loop-generator.generator-index = omega arith in
-    (map_whole (λ p. p.0) c.args.parts.now c.loop-generator.generator-index _ end c.loop-generator.invariant.1,
-     map_whole (λ p. sort_or_first (sort_named c.args.schema.now p.1)) c.args.parts.now c.loop-generator.generator-index _ end c.loop-generator.invariant.2)
+    let end : length c.args.parts.now ≤ c.loop-generator.generator-index = omega arith in (
+      map_whole (λ p. p.0) c.args.parts.now c.loop-generator.generator-index _ end c.loop-generator.invariant.1,
+      map_whole (λ p. sort_or_first (sort_named c.args.schema.now p.1)) c.args.parts.now c.loop-generator.generator-index _ end c.loop-generator.invariant.2,
+    )

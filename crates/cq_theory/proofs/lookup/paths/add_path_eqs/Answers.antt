@@ -18,10 +18,11 @@ loop-path_eq-preserved c =
     let x = c.path_eq-item.result in
     let within : i < length parts = omega arith in
     let one = c.in_ok-path_eq.ensures.ok in
-    let more = pushed _ _ c.loop-path_eq.made.items c.push.new.self.items c.in_ok-path_eq.path_eq c.push.ensures.items c.is_err.ensures.negation c.if-is_err.false in
-    (omega arith,
-     map_more (made_path_eq c.args.schema.now) parts i x c.loop-path_eq.made.items c.push.new.self.items c.in_ok-path_eq.path_eq within c.path_eq-item.is c.loop-path_eq.invariant.1 one.1 more,
-     term_passed (path_eq_fault c.args.schema.now (is_among c.args.attributes.now)) parts i c.loop-path_eq.part _ x within c.path_eq-item.is one.0 c.loop-path_eq.invariant.2)
+    let more = pushed _ _ c.loop-path_eq.made.items c.push.new.self.items c.in_ok-path_eq.path_eq c.push.ensures.items c.is_err.ensures.negation c.if-is_err.false in (
+      omega arith,
+      map_more (made_path_eq c.args.schema.now) parts i x c.loop-path_eq.made.items c.push.new.self.items c.in_ok-path_eq.path_eq within c.path_eq-item.is c.loop-path_eq.invariant.1 one.1 more,
+      term_passed (path_eq_fault c.args.schema.now (is_among c.args.attributes.now)) parts i c.loop-path_eq.part _ x within c.path_eq-item.is one.0 c.loop-path_eq.invariant.2,
+    )
 
 pub returns-clause-accepted : goal.returns-clause-accepted
 returns-clause-accepted c =

@@ -22,11 +22,12 @@ loop-attribute-preserved c =
     let names = function_names c.args.schema.now.typeside ++ edge_names c.args.schema.now.keys in
     let within : i < length parts = omega arith in
     let one = c.in_ok-made.ensures.ok in
-    let more = pushed _ _ c.loop-attribute.attributes.items c.push.new.self.items c.in_ok-made.made c.push.ensures.items c.is_err.ensures.negation c.if-is_err.false in
-    (omega arith,
-     map_more (λ p. p.0) parts i x c.loop-attribute.table c.add_attribute.new.table x.0 within c.attribute-item.is c.loop-attribute.invariant.1 refl one.1,
-     map_more (made_attribute c.args.schema.now.typeside c.args.schema.now.entities) parts i x c.loop-attribute.attributes.items c.push.new.self.items c.in_ok-made.made within c.attribute-item.is c.loop-attribute.invariant.2 one.2 more,
-     part_passed (λ p. p.0) (attribute_fault c.args.schema.now.typeside c.args.schema.now.entities) parts i (names ++ c.loop-attribute.table) c.loop-attribute.part _ x (names ++ c.add_attribute.new.table) within c.attribute-item.is (ap (λ t. names ++ t) one.1 ∙ sym (append_assoc names c.loop-attribute.table (x.0 ∷ []))) one.0 c.loop-attribute.invariant.3)
+    let more = pushed _ _ c.loop-attribute.attributes.items c.push.new.self.items c.in_ok-made.made c.push.ensures.items c.is_err.ensures.negation c.if-is_err.false in (
+      omega arith,
+      map_more (λ p. p.0) parts i x c.loop-attribute.table c.add_attribute.new.table x.0 within c.attribute-item.is c.loop-attribute.invariant.1 refl one.1,
+      map_more (made_attribute c.args.schema.now.typeside c.args.schema.now.entities) parts i x c.loop-attribute.attributes.items c.push.new.self.items c.in_ok-made.made within c.attribute-item.is c.loop-attribute.invariant.2 one.2 more,
+      part_passed (λ p. p.0) (attribute_fault c.args.schema.now.typeside c.args.schema.now.entities) parts i (names ++ c.loop-attribute.table) c.loop-attribute.part _ x (names ++ c.add_attribute.new.table) within c.attribute-item.is (ap (λ t. names ++ t) one.1 ∙ sym (append_assoc names c.loop-attribute.table (x.0 ∷ []))) one.0 c.loop-attribute.invariant.3,
+    )
 
 pub returns-clause-accepted : goal.returns-clause-accepted
 returns-clause-accepted c =
@@ -35,6 +36,7 @@ returns-clause-accepted c =
 
 pub returns-clause-made : goal.returns-clause-made
 returns-clause-made c =
-    let end : length c.args.parts.now ≤ c.loop-attribute.attribute-index = omega arith in
-    (map_whole (λ p. p.0) c.args.parts.now c.loop-attribute.attribute-index _ end c.loop-attribute.invariant.1,
-     map_whole (made_attribute c.args.schema.now.typeside c.args.schema.now.entities) c.args.parts.now c.loop-attribute.attribute-index _ end c.loop-attribute.invariant.2)
+    let end : length c.args.parts.now ≤ c.loop-attribute.attribute-index = omega arith in (
+      map_whole (λ p. p.0) c.args.parts.now c.loop-attribute.attribute-index _ end c.loop-attribute.invariant.1,
+      map_whole (made_attribute c.args.schema.now.typeside c.args.schema.now.entities) c.args.parts.now c.loop-attribute.attribute-index _ end c.loop-attribute.invariant.2,
+    )

@@ -21,11 +21,12 @@ loop-key-preserved c =
     let names = function_names c.args.typeside.now in
     let within : i < length parts = omega arith in
     let one = c.in_ok-made.ensures.ok in
-    let more = pushed _ _ c.loop-key.keys.items c.push.new.self.items c.in_ok-made.made c.push.ensures.items c.is_err.ensures.negation c.if-is_err.false in
-    (omega arith,
-     map_more (λ p. p.0) parts i x c.loop-key.table c.add_key.new.table x.0 within c.key-item.is c.loop-key.invariant.1 refl one.1,
-     map_more (made_key c.args.typeside.now c.args.entities.now) parts i x c.loop-key.keys.items c.push.new.self.items c.in_ok-made.made within c.key-item.is c.loop-key.invariant.2 one.2 more,
-     part_passed (λ p. p.0) (key_fault c.args.typeside.now c.args.entities.now) parts i (names ++ c.loop-key.table) c.loop-key.part _ x (names ++ c.add_key.new.table) within c.key-item.is (ap (λ t. names ++ t) one.1 ∙ sym (append_assoc names c.loop-key.table (x.0 ∷ []))) one.0 c.loop-key.invariant.3)
+    let more = pushed _ _ c.loop-key.keys.items c.push.new.self.items c.in_ok-made.made c.push.ensures.items c.is_err.ensures.negation c.if-is_err.false in (
+      omega arith,
+      map_more (λ p. p.0) parts i x c.loop-key.table c.add_key.new.table x.0 within c.key-item.is c.loop-key.invariant.1 refl one.1,
+      map_more (made_key c.args.typeside.now c.args.entities.now) parts i x c.loop-key.keys.items c.push.new.self.items c.in_ok-made.made within c.key-item.is c.loop-key.invariant.2 one.2 more,
+      part_passed (λ p. p.0) (key_fault c.args.typeside.now c.args.entities.now) parts i (names ++ c.loop-key.table) c.loop-key.part _ x (names ++ c.add_key.new.table) within c.key-item.is (ap (λ t. names ++ t) one.1 ∙ sym (append_assoc names c.loop-key.table (x.0 ∷ []))) one.0 c.loop-key.invariant.3,
+    )
 
 pub returns-clause-accepted : goal.returns-clause-accepted
 returns-clause-accepted c =
@@ -34,6 +35,7 @@ returns-clause-accepted c =
 
 pub returns-clause-made : goal.returns-clause-made
 returns-clause-made c =
-    let end : length c.args.parts.now ≤ c.loop-key.key-index = omega arith in
-    (map_whole (λ p. p.0) c.args.parts.now c.loop-key.key-index _ end c.loop-key.invariant.1,
-     map_whole (made_key c.args.typeside.now c.args.entities.now) c.args.parts.now c.loop-key.key-index _ end c.loop-key.invariant.2)
+    let end : length c.args.parts.now ≤ c.loop-key.key-index = omega arith in (
+      map_whole (λ p. p.0) c.args.parts.now c.loop-key.key-index _ end c.loop-key.invariant.1,
+      map_whole (made_key c.args.typeside.now c.args.entities.now) c.args.parts.now c.loop-key.key-index _ end c.loop-key.invariant.2,
+    )

@@ -18,11 +18,12 @@ loop-constant-preserved c =
     let x = c.constant-item.result in
     let within : i < length parts = omega arith in
     let one = c.in_ok-made.ensures.ok in
-    let more = pushed _ _ c.loop-constant.constants.items c.push.new.self.items c.in_ok-made.made c.push.ensures.items c.is_err.ensures.negation c.if-is_err.false in
-    (omega arith,
-     map_more (λ p. p.0) parts i x c.loop-constant.table c.add_constant.new.table x.0 within c.constant-item.is c.loop-constant.invariant.1 refl one.1,
-     map_more (made_constant c.args.types.now) parts i x c.loop-constant.constants.items c.push.new.self.items c.in_ok-made.made within c.constant-item.is c.loop-constant.invariant.2 one.2 more,
-     part_passed (λ p. p.0) (constant_fault c.args.types.now) parts i c.loop-constant.table c.loop-constant.part _ x c.add_constant.new.table within c.constant-item.is one.1 one.0 c.loop-constant.invariant.3)
+    let more = pushed _ _ c.loop-constant.constants.items c.push.new.self.items c.in_ok-made.made c.push.ensures.items c.is_err.ensures.negation c.if-is_err.false in (
+      omega arith,
+      map_more (λ p. p.0) parts i x c.loop-constant.table c.add_constant.new.table x.0 within c.constant-item.is c.loop-constant.invariant.1 refl one.1,
+      map_more (made_constant c.args.types.now) parts i x c.loop-constant.constants.items c.push.new.self.items c.in_ok-made.made within c.constant-item.is c.loop-constant.invariant.2 one.2 more,
+      part_passed (λ p. p.0) (constant_fault c.args.types.now) parts i c.loop-constant.table c.loop-constant.part _ x c.add_constant.new.table within c.constant-item.is one.1 one.0 c.loop-constant.invariant.3,
+    )
 
 pub returns-clause-accepted : goal.returns-clause-accepted
 returns-clause-accepted c =
@@ -31,6 +32,7 @@ returns-clause-accepted c =
 
 pub returns-clause-made : goal.returns-clause-made
 returns-clause-made c =
-    let end : length c.args.parts.now ≤ c.loop-constant.constant-index = omega arith in
-    (map_whole (λ p. p.0) c.args.parts.now c.loop-constant.constant-index _ end c.loop-constant.invariant.1,
-     map_whole (made_constant c.args.types.now) c.args.parts.now c.loop-constant.constant-index _ end c.loop-constant.invariant.2)
+    let end : length c.args.parts.now ≤ c.loop-constant.constant-index = omega arith in (
+      map_whole (λ p. p.0) c.args.parts.now c.loop-constant.constant-index _ end c.loop-constant.invariant.1,
+      map_whole (made_constant c.args.types.now) c.args.parts.now c.loop-constant.constant-index _ end c.loop-constant.invariant.2,
+    )

@@ -18,11 +18,12 @@ loop-function-preserved c =
     let x = c.function-item.result in
     let within : i < length parts = omega arith in
     let one = c.in_ok-made.ensures.ok in
-    let more = pushed _ _ c.loop-function.functions.items c.push.new.self.items c.in_ok-made.made c.push.ensures.items c.is_err.ensures.negation c.if-is_err.false in
-    (omega arith,
-     map_more (λ p. p.0) parts i x c.loop-function.table c.add_function.new.table x.0 within c.function-item.is c.loop-function.invariant.1 refl one.1,
-     map_more (made_function c.args.types.now) parts i x c.loop-function.functions.items c.push.new.self.items c.in_ok-made.made within c.function-item.is c.loop-function.invariant.2 one.2 more,
-     part_passed (λ p. p.0) (function_fault c.args.types.now) parts i c.loop-function.table c.loop-function.part _ x c.add_function.new.table within c.function-item.is one.1 one.0 c.loop-function.invariant.3)
+    let more = pushed _ _ c.loop-function.functions.items c.push.new.self.items c.in_ok-made.made c.push.ensures.items c.is_err.ensures.negation c.if-is_err.false in (
+      omega arith,
+      map_more (λ p. p.0) parts i x c.loop-function.table c.add_function.new.table x.0 within c.function-item.is c.loop-function.invariant.1 refl one.1,
+      map_more (made_function c.args.types.now) parts i x c.loop-function.functions.items c.push.new.self.items c.in_ok-made.made within c.function-item.is c.loop-function.invariant.2 one.2 more,
+      part_passed (λ p. p.0) (function_fault c.args.types.now) parts i c.loop-function.table c.loop-function.part _ x c.add_function.new.table within c.function-item.is one.1 one.0 c.loop-function.invariant.3,
+    )
 
 pub returns-clause-accepted : goal.returns-clause-accepted
 returns-clause-accepted c =
@@ -31,6 +32,7 @@ returns-clause-accepted c =
 
 pub returns-clause-made : goal.returns-clause-made
 returns-clause-made c =
-    let end : length c.args.parts.now ≤ c.loop-function.function-index = omega arith in
-    (map_whole (λ p. p.0) c.args.parts.now c.loop-function.function-index _ end c.loop-function.invariant.1,
-     map_whole (made_function c.args.types.now) c.args.parts.now c.loop-function.function-index _ end c.loop-function.invariant.2)
+    let end : length c.args.parts.now ≤ c.loop-function.function-index = omega arith in (
+      map_whole (λ p. p.0) c.args.parts.now c.loop-function.function-index _ end c.loop-function.invariant.1,
+      map_whole (made_function c.args.types.now) c.args.parts.now c.loop-function.function-index _ end c.loop-function.invariant.2,
+    )
