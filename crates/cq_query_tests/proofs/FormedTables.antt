@@ -1,19 +1,16 @@
 -- Tables that are well formed: few columns, and no entries.
 use Rattle.std.proofs.Common.{ℕ, zero, suc, List, [], ◌∷◌, ◌≡◌, ◌<◌, map, length, refl, sym, ap, subst, ◌∙◌, arith}
-use Rattle.std.specs.Prelude.{if◌then◌else◌, Option, Some, None, All, slice_get, slice_index_or, option_map, find}
+use Rattle.std.specs.Prelude.{Option, Some, All, slice_get, slice_index_or, option_map}
 use Rattle.std.specs.List.{AllZip}
 use Rattle.std.proofs.lemmas.List.Elements.{All-nil, All-cons}
 use Rattle.cq_theory.specs.SchemaData.{SchemaData as Schema}
 use Rattle.cq_theory.specs.declared.constant.Con.TheVariants.{Named}
 use Rattle.cq_theory.specs.declared.schema.Edge.{Edge}
-use Rattle.cq_theory.specs.declared.typeside.Fun.{Fun as Function}
-use Rattle.cq_theory.specs.declared.value.Entry.{Entry}
 use Rattle.cq_theory.specs.declared.value.Value.{Value}
 use Rattle.cq_theory.specs.declared.value.Value.TheVariants as value
 use Rattle.cq_theory.specs.declared.value.Sheet.{Sheet}
 use Rattle.cq_theory.specs.declared.value.Algebra.{Algebra}
-use Rattle.cq_theory.specs.Sorts.{applied_type, have_types}
-use Rattle.cq_theory.specs.Tables.{Tables, count_of, applied, entry_or_built, is_for, value_type, value_type_step, normal_of, normal_step, IsWellFormed, IsKeyColumn, IsCellColumn, IsSoundEntry}
+use Rattle.cq_theory.specs.Tables.{Tables, count_of, value_type, value_type_step, normal_of, normal_step, IsWellFormed, IsKeyColumn, IsCellColumn, IsSoundEntry}
 use Rattle.cq_theory.proofs.Values as values
 
 beside_at : {A B : Type 0} (R : A → B → Type 0) (xs : List A) (ys : List B) → AllZip R xs ys → (d : B) (n : ℕ) (x : A) → slice_get xs n ≡ Some x → R x (slice_index_or ys n d)
@@ -51,10 +48,6 @@ one_edge : (edges : List Edge) (from to : ℕ) → map (λ (e : Edge). e.from) e
 one_edge [] from to sources targets = cc
 one_edge (edge ∷ []) from to sources targets = (edge, refl, cc, cc)
 one_edge (edge ∷ other ∷ edges) from to sources targets = cc
-
-none : {X : Type 0} (xs : List X) → length xs ≡ 0 → xs ≡ []
-none [] empty = refl
-none (x ∷ xs) empty = absurd (omega arith)
 
 -- the same tables under other names
 renamed : (S : Schema) (M : Tables) (sheet : Sheet) (algebra : Algebra) → sheet ≡ M.sheet → algebra ≡ M.algebra → IsWellFormed S M → IsWellFormed S (record { sheet = sheet; algebra = algebra })
@@ -94,48 +87,3 @@ keyed_formed S sheet algebra sheet_is algebra_is entities key_from key_to attrib
         (All-cons (λ v. (value_type S (0 ∷ []) v ≡ Some 0) × (normal_of M v ≡ v)) (value.Null 0) []
         (values.fold-Null (Option ℕ) (value_type_step S (0 ∷ [])) 0, values.fold-Null Value (normal_step M) 0)
         (All-nil (λ v. (value_type S (0 ∷ []) v ≡ Some 0) × (normal_of M v ≡ v))))
-
--- The value has the second type in tables without entries, where the second constant has that type and the first function goes from
--- it to itself.
-abbrev pub IsCell : Value → Type 0
-IsCell v = (S : Schema) (M : Tables) → option_map (λ c. c.1) (slice_get S.typeside.constants 1) ≡ Some 1
-    → option_map (λ f. f.args) (slice_get S.typeside.functions 0) ≡ Some (1 ∷ []) → option_map (λ f. f.result) (slice_get S.typeside.functions 0) ≡ Some 1
-    → M.algebra.entries ≡ [] → (value_type S M.algebra.nulls v ≡ Some 1) × (normal_of M v ≡ v)
-
-unary_type : (found : Option Function) → option_map (λ f. f.args) found ≡ Some (1 ∷ []) → option_map (λ f. f.result) found ≡ Some 1 → applied_type found (Some 1 ∷ []) ≡ Some 1
-unary_type None args gives = cc
-unary_type (Some f) args gives =
-    let args_are : f.args ≡ 1 ∷ [] = cc in
-    ap (λ types. if have_types (Some 1 ∷ []) types then Some f.result else None) args_are ∙ gives
-
-pub constant_cell : IsCell (value.Const (Named 1))
-constant_cell S M constant args gives no_entries = (values.fold-Const (Option ℕ) (value_type_step S M.algebra.nulls) (Named 1) ∙ constant, values.fold-Const Value (normal_step M) (Named 1))
-
-pub applied_cell : (v w : Value) → w ≡ value.Fun 0 (v ∷ []) → IsCell v → IsCell w
-applied_cell v w is cell = subst IsCell (sym is) (λ S M constant args gives no_entries.
-    let before = cell S M constant args gives no_entries in (
-      values.fold-Fun (Option ℕ) (value_type_step S M.algebra.nulls) 0 (v ∷ []) ∙ ap (λ o. applied_type (slice_get S.typeside.functions 0) (o ∷ [])) before.0
-          ∙ unary_type (slice_get S.typeside.functions 0) args gives,
-      values.fold-Fun Value (normal_step M) 0 (v ∷ []) ∙ ap (λ w. applied M 0 (w ∷ [])) before.1
-          ∙ ap (λ (es : List Entry). entry_or_built (find (is_for 0 (v ∷ [])) es) 0 (v ∷ [])) no_entries,
-    ))
-
--- one row with one cell
-pub cell_formed : (S : Schema) (sheet : Sheet) (algebra : Algebra) (cell : Value) → sheet ≡ record { counts = 1 ∷ []; keys = []; cells = (cell ∷ []) ∷ [] } → algebra ≡ record { nulls = []; entries = [] }
-    → IsCell cell → length S.entities ≡ 1 → length S.keys ≡ 0 → map (λ (e : Edge). e.from) S.attributes ≡ 0 ∷ [] → map (λ (e : Edge). e.to) S.attributes ≡ 1 ∷ []
-    → option_map (λ c. c.1) (slice_get S.typeside.constants 1) ≡ Some 1
-    → option_map (λ f. f.args) (slice_get S.typeside.functions 0) ≡ Some (1 ∷ []) → option_map (λ f. f.result) (slice_get S.typeside.functions 0) ≡ Some 1
-    → IsWellFormed S (record { sheet = sheet; algebra = algebra })
-cell_formed S sheet algebra cell sheet_is algebra_is is entities keys attribute_from attribute_to constant args gives =
-    let row : Sheet = record { counts = 1 ∷ []; keys = []; cells = (cell ∷ []) ∷ [] } in
-    let M : Tables = tables S row [] in
-    let attribute = one_edge S.attributes 0 1 attribute_from attribute_to in
-    renamed S M sheet algebra sheet_is algebra_is
-    (formed S row [] (sym entities)
-    (subst (λ (es : List Edge). AllZip (IsKeyColumn S M) es []) (sym (none S.keys keys)) tt)
-    (subst (λ (es : List Edge). AllZip (IsCellColumn S M) es row.cells) (sym attribute.1) (
-      cell_column S M attribute.0 0 1 attribute.2 attribute.3 (cell ∷ []) refl
-          (All-cons (λ v. (value_type S [] v ≡ Some 1) × (normal_of M v ≡ v)) cell [] (is S M constant args gives refl) (All-nil (λ v. (value_type S [] v ≡ Some 1) × (normal_of M v ≡ v)))),
-      tt,
-    ))
-    (All-nil (λ n. n < length S.typeside.types)))

@@ -1,12 +1,10 @@
 //! Parts of queries from `SOURCE` to `TARGET`, and their first fault.
 use super::given::{
-    Given, Part, SCOPES, SOURCE, Scopes, TARGET, Words, clauses, grown, name, query_between,
-    query_parts, term,
+    Given, Part, SCOPES, SOURCE, Scopes, TARGET, clauses, query_between, query_parts,
 };
-use super::told;
-use cq_base::Raw;
-use cq_query::Clause;
-use std::alloc::Global;
+use cq_query::{Clause, Query};
+use cq_theory::ArrowRefusal;
+use std::alloc::{AllocError, Global};
 use std::process::Abort;
 use std::test::Fail;
 
@@ -133,24 +131,61 @@ static IN_ORDER: [Case; 6] = [
     },
 ];
 
+// What the query lacks: attributes first, then foreign keys, then what these assign to variables.
+static LACKING: [Case; 4] = [
+    Case {
+        clauses: &[],
+        wanted: "Missing w",
+    },
+    Case {
+        clauses: &[W],
+        wanted: "Missing t",
+    },
+    Case {
+        clauses: &[
+            W,
+            Part(0, Given::Key("t")),
+            Part(0, Given::Assign("t", "o", &[("z", 0)])),
+        ],
+        wanted: "Missing q",
+    },
+    // A variable of another block is unknown.
+    Case {
+        clauses: &[W, Part(0, Given::Test(&[("y", 0)], &[("o", 0)]))],
+        wanted: "Unknown 7",
+    },
+];
+
+/// `Ok`, or the refusal.
+fn told(alloc: Global, made: &Result<Query, ArrowRefusal>) -> Result<String, AllocError> {
+    match made {
+        Ok(_) => String::from_str(alloc, "Ok"),
+        Err(ArrowRefusal::Duplicate(part)) => format!(in alloc; "Duplicate {part}"),
+        Err(ArrowRefusal::Unknown(part)) => format!(in alloc; "Unknown {part}"),
+        Err(ArrowRefusal::WrongCount(part)) => format!(in alloc; "WrongCount {part}"),
+        Err(ArrowRefusal::WrongSort(part)) => format!(in alloc; "WrongSort {part}"),
+        Err(ArrowRefusal::Reserved(part)) => format!(in alloc; "Reserved {part}"),
+        Err(ArrowRefusal::TooLarge(part)) => format!(in alloc; "TooLarge {part}"),
+        Err(ArrowRefusal::Missing(name)) => format!(in alloc; "Missing {}", name.as_str()),
+        Err(ArrowRefusal::Memory) => String::from_str(alloc, "Memory"),
+    }
+}
+
 /// What the parts give: `Ok`, or the refusal.
 fn outcome(alloc: Global, scopes: &Scopes, clauses: Vec<(u32, Clause)>) -> Result<String, Fail> {
     let parts = query_parts(alloc, scopes, clauses)?;
-    match query_between(alloc, &SOURCE, &TARGET, parts)? {
-        Ok(_) => Ok(format!(in alloc; "Ok")?),
-        Err(refusal) => told(alloc, refusal),
-    }
+    let made = query_between(alloc, &SOURCE, &TARGET, parts)?;
+    Ok(told(alloc, &made)?)
+}
+
+fn expect(rt: &impl Abort, outcome: &str, wanted: &str) {
+    assert!(rt; outcome == wanted, "{outcome} for {wanted}");
 }
 
 fn try_cases(rt: &impl Abort, alloc: Global, cases: &[Case]) -> Result<(), Fail> {
     for case in cases {
         let outcome = outcome(alloc, &SCOPES, clauses(alloc, case.clauses)?)?;
-        assert!(rt;
-            outcome.as_str() == case.wanted,
-            "{} for {}",
-            outcome.as_str(),
-            case.wanted
-        );
+        expect(rt, outcome.as_str(), case.wanted);
     }
     Ok(())
 }
@@ -166,6 +201,11 @@ fn texts_that_no_constant_can_have(rt: HostRuntime) -> Result<(), Fail> {
 }
 
 #[test]
+fn what_a_query_lacks(rt: HostRuntime) -> Result<(), Fail> {
+    try_cases(&rt, rt.alloc(), &LACKING)
+}
+
+#[test]
 fn the_first_fault_of_clauses(rt: HostRuntime) -> Result<(), Fail> {
     try_cases(&rt, rt.alloc(), &IN_ORDER)
 }
@@ -176,7 +216,28 @@ struct ScopeCase {
     wanted: &'static str,
 }
 
-static VARIABLES: [ScopeCase; 6] = [
+static VARIABLES: [ScopeCase; 9] = [
+    ScopeCase {
+        scopes: Scopes {
+            entities: &["P", "O", "P"],
+            vars: &[],
+        },
+        wanted: "Duplicate 2",
+    },
+    ScopeCase {
+        scopes: Scopes {
+            entities: &["s"],
+            vars: &[],
+        },
+        wanted: "WrongSort 0",
+    },
+    ScopeCase {
+        scopes: Scopes {
+            entities: &["O"],
+            vars: &[],
+        },
+        wanted: "Missing P",
+    },
     ScopeCase {
         scopes: Scopes {
             entities: &["P", "O"],
@@ -224,231 +285,12 @@ static VARIABLES: [ScopeCase; 6] = [
 fn try_scopes(rt: &impl Abort, alloc: Global, cases: &[ScopeCase]) -> Result<(), Fail> {
     for case in cases {
         let outcome = outcome(alloc, &case.scopes, clauses(alloc, &[UNKNOWN])?)?;
-        assert!(rt;
-            outcome.as_str() == case.wanted,
-            "{} for {}",
-            outcome.as_str(),
-            case.wanted
-        );
+        expect(rt, outcome.as_str(), case.wanted);
     }
     Ok(())
 }
 
 #[test]
-fn the_first_fault_of_variables(rt: HostRuntime) -> Result<(), Fail> {
+fn the_first_fault_of_blocks_and_variables(rt: HostRuntime) -> Result<(), Fail> {
     try_scopes(&rt, rt.alloc(), &VARIABLES)
-}
-
-/// Where a term of many symbols stands in a clause of the block of P.
-enum Place {
-    Attribute(&'static str),
-    /// The term of w, with this text at its bottom.
-    Text(&'static str),
-    /// The left side of a where equation, with this right side.
-    Left(Words),
-    /// The right side of a where equation, with this left side.
-    Right(Words),
-    /// The term that t assigns to a variable.
-    Assigned(&'static str),
-}
-
-fn large_value(alloc: Global, symbols: usize) -> Result<Raw, Fail> {
-    grown(alloc, &[("y", 0), ("v", 1)], "succ", symbols)
-}
-
-fn large_clause(alloc: Global, place: &Place, symbols: usize) -> Result<Clause, Fail> {
-    match place {
-        Place::Attribute(text) => Ok(Clause::Att(name(alloc, text)?, large_value(alloc, symbols)?)),
-        Place::Text(text) => Ok(Clause::Att(
-            name(alloc, "w")?,
-            grown(alloc, &[(*text, 0), ("size", 1)], "succ", symbols)?,
-        )),
-        Place::Left(other) => Ok(Clause::Test(large_value(alloc, symbols)?, term(alloc, other)?)),
-        Place::Right(other) => Ok(Clause::Test(term(alloc, other)?, large_value(alloc, symbols)?)),
-        Place::Assigned(variable) => Ok(Clause::Assign(
-            name(alloc, "t")?,
-            name(alloc, variable)?,
-            grown(alloc, &[("y", 0)], "k", symbols)?,
-        )),
-    }
-}
-
-/// A clause with a term of so many symbols, between others.
-struct SizeCase {
-    before: &'static [Part],
-    place: Place,
-    symbols: usize,
-    after: &'static [Part],
-    wanted: &'static str,
-}
-
-static SIZES: [SizeCase; 8] = [
-    SizeCase {
-        before: &[],
-        place: Place::Attribute("w"),
-        symbols: 1024,
-        after: &[],
-        wanted: "Missing t",
-    },
-    SizeCase {
-        before: &[],
-        place: Place::Attribute("w"),
-        symbols: 1025,
-        after: &[],
-        wanted: "TooLarge 6",
-    },
-    SizeCase {
-        before: &[W],
-        place: Place::Left(&[("zero", 0)]),
-        symbols: 1024,
-        after: &[],
-        wanted: "Missing t",
-    },
-    SizeCase {
-        before: &[W],
-        place: Place::Left(&[("zero", 0)]),
-        symbols: 1025,
-        after: &[],
-        wanted: "TooLarge 7",
-    },
-    SizeCase {
-        before: &[W],
-        place: Place::Right(&[("zero", 0)]),
-        symbols: 1024,
-        after: &[],
-        wanted: "Missing t",
-    },
-    SizeCase {
-        before: &[W],
-        place: Place::Right(&[("zero", 0)]),
-        symbols: 1025,
-        after: &[],
-        wanted: "TooLarge 7",
-    },
-    SizeCase {
-        before: &[W],
-        place: Place::Assigned("o"),
-        symbols: 1024,
-        after: &[],
-        wanted: "Missing t",
-    },
-    SizeCase {
-        before: &[W],
-        place: Place::Assigned("o"),
-        symbols: 1025,
-        after: &[],
-        wanted: "TooLarge 7",
-    },
-];
-
-// Each other rule comes before the size of a term, and of two clauses the first decides.
-static SIZES_IN_ORDER: [SizeCase; 11] = [
-    SizeCase {
-        before: &[],
-        place: Place::Text("'?Bo"),
-        symbols: 1025,
-        after: &[],
-        wanted: "Reserved 6",
-    },
-    SizeCase {
-        before: &[],
-        place: Place::Text("'Bo"),
-        symbols: 1025,
-        after: &[],
-        wanted: "TooLarge 6",
-    },
-    SizeCase {
-        before: &[W],
-        place: Place::Attribute("w"),
-        symbols: 1025,
-        after: &[],
-        wanted: "Duplicate 7",
-    },
-    SizeCase {
-        before: &[],
-        place: Place::Attribute("f"),
-        symbols: 1025,
-        after: &[],
-        wanted: "Unknown 6",
-    },
-    SizeCase {
-        before: &[],
-        place: Place::Left(&[("y", 0), ("v", 1), ("plus", 1)]),
-        symbols: 1025,
-        after: &[],
-        wanted: "WrongCount 6",
-    },
-    SizeCase {
-        before: &[],
-        place: Place::Right(&[("y", 0)]),
-        symbols: 1025,
-        after: &[],
-        wanted: "WrongSort 6",
-    },
-    SizeCase {
-        before: &[],
-        place: Place::Attribute("u"),
-        symbols: 1025,
-        after: &[],
-        wanted: "WrongSort 6",
-    },
-    SizeCase {
-        before: &[WRONG_COUNT],
-        place: Place::Left(&[("zero", 0)]),
-        symbols: 1025,
-        after: &[],
-        wanted: "WrongCount 6",
-    },
-    SizeCase {
-        before: &[],
-        place: Place::Left(&[("zero", 0)]),
-        symbols: 1025,
-        after: &[WRONG_COUNT],
-        wanted: "TooLarge 6",
-    },
-    SizeCase {
-        before: &[UNKNOWN],
-        place: Place::Assigned("o"),
-        symbols: 1025,
-        after: &[],
-        wanted: "Unknown 6",
-    },
-    SizeCase {
-        before: &[],
-        place: Place::Assigned("o"),
-        symbols: 1025,
-        after: &[UNKNOWN],
-        wanted: "TooLarge 6",
-    },
-];
-
-fn size_outcome(alloc: Global, case: &SizeCase) -> Result<String, Fail> {
-    let mut parts = clauses(alloc, case.before)?;
-    parts.push((0, large_clause(alloc, &case.place, case.symbols)?))?;
-    let mut after = clauses(alloc, case.after)?;
-    parts.append(&mut after)?;
-    outcome(alloc, &SCOPES, parts)
-}
-
-fn try_sizes(rt: &impl Abort, alloc: Global, cases: &[SizeCase]) -> Result<(), Fail> {
-    for case in cases {
-        let outcome = size_outcome(alloc, case)?;
-        assert!(rt;
-            outcome.as_str() == case.wanted,
-            "{} for {}",
-            outcome.as_str(),
-            case.wanted
-        );
-    }
-    Ok(())
-}
-
-#[test]
-fn terms_at_the_limit_and_past_it(rt: HostRuntime) -> Result<(), Fail> {
-    try_sizes(&rt, rt.alloc(), &SIZES)
-}
-
-#[test]
-fn the_first_fault_where_a_term_is_too_large(rt: HostRuntime) -> Result<(), Fail> {
-    try_sizes(&rt, rt.alloc(), &SIZES_IN_ORDER)
 }

@@ -42,7 +42,7 @@ pub struct Scopes {
     pub vars: &'static [(u32, &'static str, &'static str)],
 }
 
-pub fn name(alloc: Global, text: &str) -> Result<Name, Fail> {
+fn name(alloc: Global, text: &str) -> Result<Name, Fail> {
     Ok(Name::new(alloc, text)?)
 }
 
@@ -115,7 +115,7 @@ fn push_word(alloc: Global, terms: &mut Vec<Raw>, text: &str, args: usize) -> Re
     Ok(())
 }
 
-pub fn term(alloc: Global, words: &[(&str, usize)]) -> Result<Raw, Fail> {
+fn term(alloc: Global, words: &[(&str, usize)]) -> Result<Raw, Fail> {
     let mut terms = Vec::new(alloc);
     for (text, args) in words {
         push_word(alloc, &mut terms, text, *args)?;
@@ -124,20 +124,6 @@ pub fn term(alloc: Global, words: &[(&str, usize)]) -> Result<Raw, Fail> {
         Some(term) => Ok(term),
         None => Err(Fail::from(AllocError)),
     }
-}
-
-/// A term of so many symbols: this one under a function or foreign key of one argument.
-pub fn grown(
-    alloc: Global,
-    first: &[(&'static str, usize)],
-    text: &'static str,
-    symbols: usize,
-) -> Result<Raw, Fail> {
-    let mut words = first.to_vec(alloc)?;
-    for _symbol in first.len()..symbols {
-        words.push((text, 1))?;
-    }
-    term(alloc, words.as_slice())
 }
 
 fn observations(alloc: Global, texts: &[(Words, Words)]) -> Result<Seq<ObsPart>, Fail> {
