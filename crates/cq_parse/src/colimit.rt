@@ -1,23 +1,18 @@
 //! Colimits of schemas.
-ghost use Rattle.std.specs.Prelude.{◌≡◌};
-ghost use Rattle.cq_rules.specs.Class.{is};
-ghost use Rattle.cq_rules.specs.Rule.{read, separated};
 ghost use Rattle.cq_syntax.specs.Grammar as grammar;
 ghost use Rattle.cq_parse.specs.Decided as decided;
-ghost use Rattle.cq_parse.specs.Gives.{Gives};
-ghost use Rattle.cq_parse.specs.Rules.{plus_spot};
+ghost use Rattle.cq_parse.specs.Rules as rules;
 
 use crate::cursor::Cursor;
 use crate::halt::Halt;
-use crate::item::{Item, Production, first_and_many, section};
+use crate::item::{Item, Production, first_and_many};
 use crate::names::{NameRule, SpotRule};
-use crate::options::options;
-use crate::schema::{ObservationRule, PathEquationRule};
-use crate::step::{ends, place_of, skip};
-use crate::words::SectionWords;
+use crate::schema::{FromObservationsRule, PathEquationRule};
+use crate::sequence::{around, behind, over, section_and};
+use crate::step::{place_of, skip};
 use cq_base::{Name, Seq};
 use cq_rules::Class;
-use cq_syntax::{ColimitLit, PairSyn, Spot};
+use cq_syntax::{ColimitLit, ObsSyn, Opt, PairSyn, PathEqSyn, Spot};
 use std::alloc::Global;
 
 /// A name behind a plus.
@@ -26,11 +21,10 @@ pub struct PlusSpotRule;
 impl Production for PlusSpotRule {
     type Tree = Spot;
 
-    ghost rule = { plus_spot };
+    ghost rule = { rules.plus_spot };
 
     fn read<'a>(alloc: Global, at: Cursor<'a>) -> Result<(Spot, Cursor<'a>), Halt<'a>> {
-        let rest = skip(at, Class::Plus)?;
-        SpotRule::read(alloc, rest)
+        behind::<SpotRule>(alloc, Class::Plus, at)
     }
 }
 
@@ -43,21 +37,30 @@ impl Item for PlusSpotRule {
 }
 
 /// Names with pluses between them.
-pub fn summands<'a>(alloc: Global, at: Cursor<'a>) -> Result<(Seq<Spot>, Cursor<'a>), Halt<'a>>
-    ensures { Gives result (read (separated (is Class.Plus) grammar.spot) at.entry.tokens.now) }
-{
-    first_and_many::<Spot, SpotRule, PlusSpotRule>(alloc, at)
+pub struct SummandsRule;
+
+impl Production for SummandsRule {
+    type Tree = Seq<Spot>;
+
+    ghost rule = { rules.summands };
+
+    fn read<'a>(alloc: Global, at: Cursor<'a>) -> Result<(Seq<Spot>, Cursor<'a>), Halt<'a>> {
+        first_and_many::<Spot, SpotRule, PlusSpotRule>(alloc, at)
+    }
 }
 
 /// An entity of a part.
-#[tactic(auto, unfolding(cq_syntax::specs::Grammar::member))]
-fn member<'a>(alloc: Global, at: Cursor<'a>) -> Result<((Name, Name), Cursor<'a>), Halt<'a>>
-    ensures { Gives result (read grammar.member at.entry.tokens.now) }
-{
-    let (part, rest) = NameRule::read(alloc, at)?;
-    let rest = skip(rest, Class::Dot)?;
-    let (entity, rest) = NameRule::read(alloc, rest)?;
-    Ok(((part, entity), rest))
+pub struct MemberRule;
+
+impl Production for MemberRule {
+    type Tree = (Name, Name);
+
+    ghost rule = { grammar.member };
+
+    #[tactic(auto, unfolding(cq_syntax::specs::Grammar::member))]
+    fn read<'a>(alloc: Global, at: Cursor<'a>) -> Result<(Self::Tree, Cursor<'a>), Halt<'a>> {
+        around::<NameRule, NameRule>(alloc, Class::Dot, at)
+    }
 }
 
 /// Two entities that become one.
@@ -71,9 +74,7 @@ impl Production for PairRule {
     #[tactic(auto, unfolding(cq_syntax::specs::Grammar::pair))]
     fn read<'a>(alloc: Global, at: Cursor<'a>) -> Result<(PairSyn, Cursor<'a>), Halt<'a>> {
         let place = place_of(at);
-        let (left, rest) = member(alloc, at)?;
-        let rest = skip(rest, Class::Equals)?;
-        let (right, rest) = member(alloc, rest)?;
+        let ((left, right), rest) = around::<MemberRule, MemberRule>(alloc, Class::Equals, at)?;
         Ok((PairSyn { place, left, right }, rest))
     }
 }
@@ -84,6 +85,32 @@ impl Item for PairRule {
     #[tactic(auto, unfolding(cq_syntax::specs::Grammar::pair, cq_syntax::specs::Grammar::member, cq_syntax::specs::Grammar::name))]
     fn begins(class: Class) -> bool {
         class.is_name()
+    }
+}
+
+/// The sections from the path equations on.
+pub struct ColimitFromPathsRule;
+
+impl Production for ColimitFromPathsRule {
+    type Tree = (Seq<PathEqSyn>, <FromObservationsRule as Production>::Tree);
+
+    ghost rule = { rules.colimit_from_paths };
+
+    fn read<'a>(alloc: Global, at: Cursor<'a>) -> Result<(Self::Tree, Cursor<'a>), Halt<'a>> {
+        section_and::<PathEquationRule, FromObservationsRule>(alloc, Class::PathEquations, at)
+    }
+}
+
+/// The sections from the pairs of entities on.
+pub struct FromPairsRule;
+
+impl Production for FromPairsRule {
+    type Tree = (Seq<PairSyn>, <ColimitFromPathsRule as Production>::Tree);
+
+    ghost rule = { rules.from_pairs };
+
+    fn read<'a>(alloc: Global, at: Cursor<'a>) -> Result<(Self::Tree, Cursor<'a>), Halt<'a>> {
+        section_and::<PairRule, ColimitFromPathsRule>(alloc, Class::EntityEquations, at)
     }
 }
 
@@ -98,15 +125,9 @@ impl Production for ColimitRule {
     #[tactic(auto, unfolding(cq_syntax::specs::Grammar::colimit))]
     fn read<'a>(alloc: Global, at: Cursor<'a>) -> Result<(ColimitLit, Cursor<'a>), Halt<'a>> {
         let rest = skip(at, Class::Quotient)?;
-        let (parts, rest) = summands(alloc, rest)?;
-        let rest = skip(rest, Class::Colon)?;
-        let (typeside, rest) = SpotRule::read(alloc, rest)?;
-        let rest = skip(rest, Class::LeftBrace)?;
-        let (pairs, rest) = section::<PairRule>(alloc, Class::EntityEquations, rest)?;
-        let (path_eqs, rest) = section::<PathEquationRule>(alloc, Class::PathEquations, rest)?;
-        let (obs_eqs, rest) = section::<ObservationRule>(alloc, Class::ObservationEquations, rest)?;
-        let (options, rest) = options(alloc, rest)?;
-        let rest = ends::<SectionWords>(rest, Class::RightBrace)?;
+        let (parts, rest) = SummandsRule::read(alloc, rest)?;
+        let ((typeside, sections), rest) = over::<FromPairsRule>(alloc, rest)?;
+        let (pairs, (path_eqs, (obs_eqs, options))) = sections;
         let colimit = ColimitLit {
             parts,
             typeside,

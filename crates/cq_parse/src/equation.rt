@@ -5,12 +5,14 @@ ghost use Rattle.cq_rules.specs.Rule.{read};
 ghost use Rattle.cq_syntax.specs.Grammar as grammar;
 ghost use Rattle.cq_parse.specs.Decided as decided;
 ghost use Rattle.cq_parse.specs.Gives.{Gives, GivesTree};
+ghost use Rattle.cq_parse.specs.Rules.{sides};
 
 use crate::cursor::Cursor;
 use crate::halt::Halt;
 use crate::item::{Item, Production};
 use crate::names::NameRule;
-use crate::step::{place_of, skip};
+use crate::sequence::around;
+use crate::step::place_of;
 use crate::term::term;
 use cq_base::Raw;
 use cq_rules::Class;
@@ -44,6 +46,19 @@ impl Production for TermRule {
     }
 }
 
+/// Two terms with an equals sign between them.
+pub struct SidesRule;
+
+impl Production for SidesRule {
+    type Tree = (TermSyn, TermSyn);
+
+    ghost rule = { sides };
+
+    fn read<'a>(alloc: Global, at: Cursor<'a>) -> Result<(Self::Tree, Cursor<'a>), Halt<'a>> {
+        around::<TermRule, TermRule>(alloc, Class::Equals, at)
+    }
+}
+
 /// An equation of terms.
 pub struct EquationRule;
 
@@ -54,9 +69,7 @@ impl Production for EquationRule {
 
     #[tactic(auto, unfolding(cq_syntax::specs::Grammar::equation))]
     fn read<'a>(alloc: Global, at: Cursor<'a>) -> Result<(EqSyn, Cursor<'a>), Halt<'a>> {
-        let (left, rest) = TermRule::read(alloc, at)?;
-        let rest = skip(rest, Class::Equals)?;
-        let (right, rest) = TermRule::read(alloc, rest)?;
+        let ((left, right), rest) = SidesRule::read(alloc, at)?;
         Ok((EqSyn { left, right }, rest))
     }
 }
@@ -81,9 +94,7 @@ impl Production for BindRule {
     #[tactic(auto, unfolding(cq_syntax::specs::Grammar::bind))]
     fn read<'a>(alloc: Global, at: Cursor<'a>) -> Result<(Bind, Cursor<'a>), Halt<'a>> {
         let place = place_of(at);
-        let (name, rest) = NameRule::read(alloc, at)?;
-        let rest = skip(rest, Class::Arrow)?;
-        let (term, rest) = TermRule::read(alloc, rest)?;
+        let ((name, term), rest) = around::<NameRule, TermRule>(alloc, Class::Arrow, at)?;
         Ok((Bind { place, name, term }, rest))
     }
 }

@@ -5,20 +5,48 @@ ghost use Rattle.cq_rules.specs.Rule.{braces, read};
 ghost use Rattle.cq_syntax.specs.LeftOut.{section_words};
 ghost use Rattle.cq_syntax.specs.Grammar as grammar;
 ghost use Rattle.cq_parse.specs.Gives.{Gives};
+ghost use Rattle.cq_parse.specs.Rules.{from_equations, from_generators};
 
-use crate::colimit::summands;
+use crate::colimit::SummandsRule;
 use crate::cursor::Cursor;
 use crate::equation::EquationRule;
 use crate::halt::Halt;
 use crate::item::{Production, section};
-use crate::names::{GroupRule, SpotRule, text};
-use crate::options::{SettingRule, options};
+use crate::names::{GroupRule, SpotRule, of_two, text};
+use crate::options::{OptionsRule, SettingRule};
+use crate::sequence::{around, over, section_and};
 use crate::step::{ends, is_next, skip};
 use crate::words::SectionWords;
 use cq_base::{Name, Seq};
 use cq_rules::Class;
-use cq_syntax::{InstanceExp, InstanceLit, Opt, Spot};
+use cq_syntax::{EqSyn, GroupSyn, InstanceExp, InstanceLit, Opt, Spot};
 use std::alloc::Global;
+
+/// The sections from the equations on.
+pub struct FromEquationsRule;
+
+impl Production for FromEquationsRule {
+    type Tree = (Seq<EqSyn>, Seq<Opt>);
+
+    ghost rule = { from_equations };
+
+    fn read<'a>(alloc: Global, at: Cursor<'a>) -> Result<(Self::Tree, Cursor<'a>), Halt<'a>> {
+        section_and::<EquationRule, OptionsRule>(alloc, Class::Equations, at)
+    }
+}
+
+/// The sections from the generators on.
+pub struct FromGeneratorsRule;
+
+impl Production for FromGeneratorsRule {
+    type Tree = (Seq<GroupSyn>, <FromEquationsRule as Production>::Tree);
+
+    ghost rule = { from_generators };
+
+    fn read<'a>(alloc: Global, at: Cursor<'a>) -> Result<(Self::Tree, Cursor<'a>), Halt<'a>> {
+        section_and::<GroupRule, FromEquationsRule>(alloc, Class::Generators, at)
+    }
+}
 
 /// An instance that is written out.
 #[tactic(auto, unfolding(cq_syntax::specs::Grammar::instance_literal))]
@@ -29,13 +57,9 @@ fn instance_literal<'a>(
     ensures { Gives result (read grammar.instance_literal at.entry.tokens.now) }
 {
     let rest = skip(at, Class::Literal)?;
-    let rest = skip(rest, Class::Colon)?;
-    let (schema, rest) = SpotRule::read(alloc, rest)?;
-    let rest = skip(rest, Class::LeftBrace)?;
-    let (generators, rest) = section::<GroupRule>(alloc, Class::Generators, rest)?;
-    let (equations, rest) = section::<EquationRule>(alloc, Class::Equations, rest)?;
-    let (options, rest) = options(alloc, rest)?;
-    let rest = ends::<SectionWords>(rest, Class::RightBrace)?;
+    let ((schema, (generators, (equations, options))), rest) = over::<FromGeneratorsRule>(
+        alloc, rest,
+    )?;
     let instance = InstanceLit {
         schema,
         generators,
@@ -45,30 +69,13 @@ fn instance_literal<'a>(
     Ok((instance, rest))
 }
 
-/// A word and two names.
-fn of_two<'a>(
-    alloc: Global,
-    word: Class,
-    at: Cursor<'a>,
-) -> Result<((Spot, Spot), Cursor<'a>), Halt<'a>>
-    ensures { Gives result (read (grammar.of_two word) at.entry.tokens.now) }
-{
-    let rest = skip(at, word)?;
-    let (first, rest) = SpotRule::read(alloc, rest)?;
-    let (second, rest) = SpotRule::read(alloc, rest)?;
-    Ok(((first, second), rest))
-}
-
 /// A coproduct of instances over a schema.
 #[tactic(auto, unfolding(cq_syntax::specs::Grammar::coproduct))]
 fn coproduct<'a>(alloc: Global, at: Cursor<'a>) -> Result<((Seq<Spot>, Spot), Cursor<'a>), Halt<'a>>
     ensures { Gives result (read grammar.coproduct at.entry.tokens.now) }
 {
     let rest = skip(at, Class::Coproduct)?;
-    let (summands, rest) = summands(alloc, rest)?;
-    let rest = skip(rest, Class::Colon)?;
-    let (schema, rest) = SpotRule::read(alloc, rest)?;
-    Ok(((summands, schema), rest))
+    around::<SummandsRule, SpotRule>(alloc, Class::Colon, rest)
 }
 
 /// Nothing, or options in braces.

@@ -15,6 +15,7 @@ pub mod parser;
 mod query;
 pub mod refusal;
 mod schema;
+mod sequence;
 mod step;
 mod term;
 mod transform;

@@ -4,18 +4,19 @@ ghost use Rattle.cq_rules.specs.Rule.{read};
 ghost use Rattle.cq_syntax.specs.Grammar as grammar;
 ghost use Rattle.cq_parse.specs.Decided as decided;
 ghost use Rattle.cq_parse.specs.Gives.{Gives};
+ghost use Rattle.cq_parse.specs.Rules as rules;
 
 use crate::cursor::Cursor;
 use crate::equation::TermRule;
 use crate::halt::Halt;
-use crate::item::{Item, Production, many, section};
-use crate::names::{NameRule, PathRule, SpotRule};
-use crate::options::options;
-use crate::schema::of_entity;
-use crate::step::{ends, is_name_next, is_next, place_of, skip};
-use crate::words::SectionWords;
+use crate::item::{Item, Production, section};
+use crate::names::{NameRule, PathRule, SpotRule, of_two};
+use crate::schema::bound;
+use crate::sequence::{around, behind, between, both, many_and_options, section_and};
+use crate::step::{is_name_next, is_next, place_of, skip};
+use cq_base::{Name, Seq};
 use cq_rules::Class;
-use cq_syntax::{AttImage, AttSyn, KeyImage, MapBlock, MappingExp, MappingLit};
+use cq_syntax::{AttImage, AttSyn, KeyImage, MapBlock, MappingExp, MappingLit, Opt};
 use std::alloc::Global;
 
 /// To what a foreign key goes.
@@ -29,9 +30,7 @@ impl Production for KeyImageRule {
     #[tactic(auto, unfolding(cq_syntax::specs::Grammar::key_image))]
     fn read<'a>(alloc: Global, at: Cursor<'a>) -> Result<(KeyImage, Cursor<'a>), Halt<'a>> {
         let place = place_of(at);
-        let (name, rest) = NameRule::read(alloc, at)?;
-        let rest = skip(rest, Class::Arrow)?;
-        let (image, rest) = PathRule::read(alloc, rest)?;
+        let ((name, image), rest) = around::<NameRule, PathRule>(alloc, Class::Arrow, at)?;
         Ok((KeyImage { place, name, image }, rest))
     }
 }
@@ -46,20 +45,23 @@ impl Item for KeyImageRule {
 }
 
 /// To what an attribute goes: a term in a variable, or a path.
-#[tactic(auto, unfolding(cq_syntax::specs::Grammar::att_value, cq_syntax::specs::Grammar::placed_path))]
-fn att_value<'a>(alloc: Global, at: Cursor<'a>) -> Result<(AttSyn, Cursor<'a>), Halt<'a>>
-    ensures { Gives result (read grammar.att_value at.entry.tokens.now) }
-{
-    if is_name_next(at) {
-        let (path, rest) = PathRule::read(alloc, at)?;
-        return Ok((AttSyn::Path(path), rest));
+pub struct AttValueRule;
+
+impl Production for AttValueRule {
+    type Tree = AttSyn;
+
+    ghost rule = { grammar.att_value };
+
+    #[tactic(auto, unfolding(cq_syntax::specs::Grammar::att_value, cq_syntax::specs::Grammar::placed_path))]
+    fn read<'a>(alloc: Global, at: Cursor<'a>) -> Result<(AttSyn, Cursor<'a>), Halt<'a>> {
+        if is_name_next(at) {
+            let (path, rest) = PathRule::read(alloc, at)?;
+            return Ok((AttSyn::Path(path), rest));
+        }
+        let rest = skip(at, Class::Lambda)?;
+        let ((variable, (entity, term)), rest) = bound::<TermRule>(alloc, rest)?;
+        Ok((AttSyn::Lambda(variable, entity, term), rest))
     }
-    let rest = skip(at, Class::Lambda)?;
-    let (variable, rest) = NameRule::read(alloc, rest)?;
-    let (entity, rest) = of_entity(alloc, rest)?;
-    let rest = skip(rest, Class::Dot)?;
-    let (term, rest) = TermRule::read(alloc, rest)?;
-    Ok((AttSyn::Lambda(variable, entity, term), rest))
 }
 
 /// To what an attribute goes, with its name.
@@ -73,9 +75,7 @@ impl Production for AttImageRule {
     #[tactic(auto, unfolding(cq_syntax::specs::Grammar::att_image))]
     fn read<'a>(alloc: Global, at: Cursor<'a>) -> Result<(AttImage, Cursor<'a>), Halt<'a>> {
         let place = place_of(at);
-        let (name, rest) = NameRule::read(alloc, at)?;
-        let rest = skip(rest, Class::Arrow)?;
-        let (image, rest) = att_value(alloc, rest)?;
+        let ((name, image), rest) = around::<NameRule, AttValueRule>(alloc, Class::Arrow, at)?;
         Ok((AttImage { place, name, image }, rest))
     }
 }
@@ -86,6 +86,45 @@ impl Item for AttImageRule {
     #[tactic(auto, unfolding(cq_syntax::specs::Grammar::att_image, cq_syntax::specs::Grammar::name))]
     fn begins(class: Class) -> bool {
         class.is_name()
+    }
+}
+
+/// To what attributes go.
+pub struct AttImagesRule;
+
+impl Production for AttImagesRule {
+    type Tree = Seq<AttImage>;
+
+    ghost rule = { rules.attribute_images };
+
+    fn read<'a>(alloc: Global, at: Cursor<'a>) -> Result<(Seq<AttImage>, Cursor<'a>), Halt<'a>> {
+        section::<AttImageRule>(alloc, Class::Attributes, at)
+    }
+}
+
+/// To what foreign keys and attributes go.
+pub struct KeyImagesRule;
+
+impl Production for KeyImagesRule {
+    type Tree = (Seq<KeyImage>, Seq<AttImage>);
+
+    ghost rule = { rules.key_images };
+
+    fn read<'a>(alloc: Global, at: Cursor<'a>) -> Result<(Self::Tree, Cursor<'a>), Halt<'a>> {
+        section_and::<KeyImageRule, AttImagesRule>(alloc, Class::ForeignKeys, at)
+    }
+}
+
+/// To what an entity goes, and its foreign keys and attributes.
+pub struct EntityImageRule;
+
+impl Production for EntityImageRule {
+    type Tree = (Name, <KeyImagesRule as Production>::Tree);
+
+    ghost rule = { rules.entity_image };
+
+    fn read<'a>(alloc: Global, at: Cursor<'a>) -> Result<(Self::Tree, Cursor<'a>), Halt<'a>> {
+        both::<NameRule, KeyImagesRule>(alloc, at)
     }
 }
 
@@ -101,11 +140,11 @@ impl Production for MapBlockRule {
     fn read<'a>(alloc: Global, at: Cursor<'a>) -> Result<(MapBlock, Cursor<'a>), Halt<'a>> {
         let place = place_of(at);
         let rest = skip(at, Class::Entity)?;
-        let (entity, rest) = NameRule::read(alloc, rest)?;
-        let rest = skip(rest, Class::Arrow)?;
-        let (image, rest) = NameRule::read(alloc, rest)?;
-        let (keys, rest) = section::<KeyImageRule>(alloc, Class::ForeignKeys, rest)?;
-        let (attributes, rest) = section::<AttImageRule>(alloc, Class::Attributes, rest)?;
+        let ((entity, (image, (keys, attributes))), rest) = around::<NameRule, EntityImageRule>(
+            alloc,
+            Class::Arrow,
+            rest,
+        )?;
         let block = MapBlock {
             place,
             entity,
@@ -126,20 +165,26 @@ impl Item for MapBlockRule {
     }
 }
 
+/// The blocks of a mapping, and its options.
+pub struct MapBlocksRule;
+
+impl Production for MapBlocksRule {
+    type Tree = (Seq<MapBlock>, Seq<Opt>);
+
+    ghost rule = { rules.map_blocks };
+
+    fn read<'a>(alloc: Global, at: Cursor<'a>) -> Result<(Self::Tree, Cursor<'a>), Halt<'a>> {
+        many_and_options::<MapBlockRule>(alloc, at)
+    }
+}
+
 /// A mapping that is written out.
 #[tactic(auto, unfolding(cq_syntax::specs::Grammar::mapping_literal))]
 fn mapping_literal<'a>(alloc: Global, at: Cursor<'a>) -> Result<(MappingLit, Cursor<'a>), Halt<'a>>
     ensures { Gives result (read grammar.mapping_literal at.entry.tokens.now) }
 {
     let rest = skip(at, Class::Literal)?;
-    let rest = skip(rest, Class::Colon)?;
-    let (source, rest) = SpotRule::read(alloc, rest)?;
-    let rest = skip(rest, Class::Arrow)?;
-    let (target, rest) = SpotRule::read(alloc, rest)?;
-    let rest = skip(rest, Class::LeftBrace)?;
-    let (blocks, rest) = many::<MapBlockRule>(alloc, rest)?;
-    let (options, rest) = options(alloc, rest)?;
-    let rest = ends::<SectionWords>(rest, Class::RightBrace)?;
+    let ((source, (target, (blocks, options))), rest) = between::<MapBlocksRule>(alloc, rest)?;
     let mapping = MappingLit {
         source,
         target,
@@ -164,13 +209,10 @@ impl Production for MappingRule {
             return Ok((MappingExp::Literal(literal), rest));
         }
         if is_next(at, Class::Identity) {
-            let rest = skip(at, Class::Identity)?;
-            let (schema, rest) = SpotRule::read(alloc, rest)?;
+            let (schema, rest) = behind::<SpotRule>(alloc, Class::Identity, at)?;
             return Ok((MappingExp::Identity(schema), rest));
         }
-        let rest = skip(at, Class::GetMapping)?;
-        let (colimit, rest) = SpotRule::read(alloc, rest)?;
-        let (part, rest) = SpotRule::read(alloc, rest)?;
+        let ((colimit, part), rest) = of_two(alloc, Class::GetMapping, at)?;
         Ok((MappingExp::GetMapping(colimit, part), rest))
     }
 }

@@ -6,10 +6,12 @@ ghost use Rattle.cq_rules.specs.Rule.{path, read, set};
 ghost use Rattle.cq_syntax.specs.Grammar as grammar;
 ghost use Rattle.cq_parse.specs.Decided as decided;
 ghost use Rattle.cq_parse.specs.Gives.{Gives, after_items};
+ghost use Rattle.cq_parse.specs.Rules.{spots};
 
 use crate::cursor::Cursor;
 use crate::halt::Halt;
 use crate::item::{Item, Production, some};
+use crate::sequence::{around, both};
 use crate::step::{is_next, name_in, place_of, skip, split};
 use cq_base::{Name, Seq};
 use cq_rules::{Class, Why};
@@ -73,6 +75,31 @@ impl Item for SpotRule {
     }
 }
 
+/// One name or more.
+pub struct SpotsRule;
+
+impl Production for SpotsRule {
+    type Tree = Seq<Spot>;
+
+    ghost rule = { spots };
+
+    fn read<'a>(alloc: Global, at: Cursor<'a>) -> Result<(Seq<Spot>, Cursor<'a>), Halt<'a>> {
+        some::<SpotRule>(alloc, at)
+    }
+}
+
+/// A word and two names.
+pub fn of_two<'a>(
+    alloc: Global,
+    word: Class,
+    at: Cursor<'a>,
+) -> Result<((Spot, Spot), Cursor<'a>), Halt<'a>>
+    ensures { Gives result (read (grammar.of_two word) at.entry.tokens.now) }
+{
+    let rest = skip(at, word)?;
+    both::<SpotRule, SpotRule>(alloc, rest)
+}
+
 /// Names of one sort.
 pub struct GroupRule;
 
@@ -83,9 +110,7 @@ impl Production for GroupRule {
 
     #[tactic(auto, unfolding(cq_syntax::specs::Grammar::group))]
     fn read<'a>(alloc: Global, at: Cursor<'a>) -> Result<(GroupSyn, Cursor<'a>), Halt<'a>> {
-        let (names, rest) = some::<SpotRule>(alloc, at)?;
-        let rest = skip(rest, Class::Colon)?;
-        let (sort, rest) = NameRule::read(alloc, rest)?;
+        let ((names, sort), rest) = around::<SpotsRule, NameRule>(alloc, Class::Colon, at)?;
         Ok((GroupSyn { names, sort }, rest))
     }
 }

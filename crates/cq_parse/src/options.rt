@@ -79,3 +79,16 @@ pub fn options<'a>(alloc: Global, at: Cursor<'a>) -> Result<(Seq<Opt>, Cursor<'a
 {
     section::<SettingRule>(alloc, Class::Options, at)
 }
+
+/// The options of a declaration.
+pub struct OptionsRule;
+
+impl Production for OptionsRule {
+    type Tree = Seq<Opt>;
+
+    ghost rule = { grammar.options };
+
+    fn read<'a>(alloc: Global, at: Cursor<'a>) -> Result<(Seq<Opt>, Cursor<'a>), Halt<'a>> {
+        options(alloc, at)
+    }
+}

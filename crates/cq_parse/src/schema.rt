@@ -4,19 +4,33 @@ ghost use Rattle.cq_rules.specs.Rule.{read};
 ghost use Rattle.cq_syntax.specs.Grammar as grammar;
 ghost use Rattle.cq_parse.specs.Decided as decided;
 ghost use Rattle.cq_parse.specs.Gives.{Gives};
+ghost use Rattle.cq_parse.specs.Rules as rules;
 
 use crate::cursor::Cursor;
-use crate::equation::TermRule;
+use crate::equation::SidesRule;
 use crate::halt::Halt;
-use crate::item::{Item, Production, section, some};
-use crate::names::{NameRule, PathRule, SpotRule};
-use crate::options::options;
-use crate::step::{ends, is_next, place_of, skip};
-use crate::words::SectionWords;
-use cq_base::Name;
+use crate::item::{Item, Production};
+use crate::names::{NameRule, PathRule, SpotRule, SpotsRule};
+use crate::options::OptionsRule;
+use crate::sequence::{around, behind, over, section_and};
+use crate::step::{is_next, place_of, skip};
+use cq_base::{Name, Seq};
 use cq_rules::Class;
-use cq_syntax::{EdgeSyn, ObsSyn, PathEqSyn, SchemaExp, SchemaLit};
+use cq_syntax::{EdgeSyn, ObsSyn, Opt, PathEqSyn, SchemaExp, SchemaLit, Spot};
 use std::alloc::Global;
+
+/// The sorts from which and to which a key or an attribute goes.
+pub struct EndsRule;
+
+impl Production for EndsRule {
+    type Tree = (Name, Name);
+
+    ghost rule = { rules.ends_of_edge };
+
+    fn read<'a>(alloc: Global, at: Cursor<'a>) -> Result<(Self::Tree, Cursor<'a>), Halt<'a>> {
+        around::<NameRule, NameRule>(alloc, Class::Arrow, at)
+    }
+}
 
 /// Foreign keys or attributes from one sort to another.
 pub struct EdgeRule;
@@ -28,11 +42,7 @@ impl Production for EdgeRule {
 
     #[tactic(auto, unfolding(cq_syntax::specs::Grammar::edge))]
     fn read<'a>(alloc: Global, at: Cursor<'a>) -> Result<(EdgeSyn, Cursor<'a>), Halt<'a>> {
-        let (names, rest) = some::<SpotRule>(alloc, at)?;
-        let rest = skip(rest, Class::Colon)?;
-        let (from, rest) = NameRule::read(alloc, rest)?;
-        let rest = skip(rest, Class::Arrow)?;
-        let (to, rest) = NameRule::read(alloc, rest)?;
+        let ((names, (from, to)), rest) = around::<SpotsRule, EndsRule>(alloc, Class::Colon, at)?;
         Ok((EdgeSyn { names, from, to }, rest))
     }
 }
@@ -56,9 +66,7 @@ impl Production for PathEquationRule {
 
     #[tactic(auto, unfolding(cq_syntax::specs::Grammar::path_equation))]
     fn read<'a>(alloc: Global, at: Cursor<'a>) -> Result<(PathEqSyn, Cursor<'a>), Halt<'a>> {
-        let (left, rest) = PathRule::read(alloc, at)?;
-        let rest = skip(rest, Class::Equals)?;
-        let (right, rest) = PathRule::read(alloc, rest)?;
+        let ((left, right), rest) = around::<PathRule, PathRule>(alloc, Class::Equals, at)?;
         Ok((PathEqSyn { left, right }, rest))
     }
 }
@@ -80,9 +88,21 @@ pub fn of_entity<'a>(alloc: Global, at: Cursor<'a>) -> Result<(Option<Name>, Cur
     if !is_next(at, Class::Colon) {
         return Ok((None, at));
     }
-    let rest = skip(at, Class::Colon)?;
-    let (entity, rest) = NameRule::read(alloc, rest)?;
+    let (entity, rest) = behind::<NameRule>(alloc, Class::Colon, at)?;
     Ok((Some(entity), rest))
+}
+
+/// A variable, the entity of its values if that is told, a dot, and the production.
+pub fn bound<'a, P: Production>(
+    alloc: Global,
+    at: Cursor<'a>,
+) -> Result<((Name, (Option<Name>, P::Tree)), Cursor<'a>), Halt<'a>>
+    ensures { Gives result (read (rules.bound P.rule) at.entry.tokens.now) }
+{
+    let (variable, rest) = NameRule::read(alloc, at)?;
+    let (entity, rest) = of_entity(alloc, rest)?;
+    let (tree, rest) = behind::<P>(alloc, Class::Dot, rest)?;
+    Ok(((variable, (entity, tree)), rest))
 }
 
 /// An equation for each member of an entity.
@@ -97,12 +117,7 @@ impl Production for ObservationRule {
     fn read<'a>(alloc: Global, at: Cursor<'a>) -> Result<(ObsSyn, Cursor<'a>), Halt<'a>> {
         let place = place_of(at);
         let rest = skip(at, Class::Forall)?;
-        let (variable, rest) = NameRule::read(alloc, rest)?;
-        let (entity, rest) = of_entity(alloc, rest)?;
-        let rest = skip(rest, Class::Dot)?;
-        let (left, rest) = TermRule::read(alloc, rest)?;
-        let rest = skip(rest, Class::Equals)?;
-        let (right, rest) = TermRule::read(alloc, rest)?;
+        let ((variable, (entity, (left, right))), rest) = bound::<SidesRule>(alloc, rest)?;
         let observation = ObsSyn {
             place,
             variable,
@@ -123,22 +138,79 @@ impl Item for ObservationRule {
     }
 }
 
+/// The sections from the observation equations on.
+pub struct FromObservationsRule;
+
+impl Production for FromObservationsRule {
+    type Tree = (Seq<ObsSyn>, Seq<Opt>);
+
+    ghost rule = { rules.from_observations };
+
+    fn read<'a>(alloc: Global, at: Cursor<'a>) -> Result<(Self::Tree, Cursor<'a>), Halt<'a>> {
+        section_and::<ObservationRule, OptionsRule>(alloc, Class::ObservationEquations, at)
+    }
+}
+
+/// The sections from the attributes on.
+pub struct FromAttributesRule;
+
+impl Production for FromAttributesRule {
+    type Tree = (Seq<EdgeSyn>, <FromObservationsRule as Production>::Tree);
+
+    ghost rule = { rules.from_attributes };
+
+    fn read<'a>(alloc: Global, at: Cursor<'a>) -> Result<(Self::Tree, Cursor<'a>), Halt<'a>> {
+        section_and::<EdgeRule, FromObservationsRule>(alloc, Class::Attributes, at)
+    }
+}
+
+/// The sections from the path equations on.
+pub struct FromPathsRule;
+
+impl Production for FromPathsRule {
+    type Tree = (Seq<PathEqSyn>, <FromAttributesRule as Production>::Tree);
+
+    ghost rule = { rules.from_paths };
+
+    fn read<'a>(alloc: Global, at: Cursor<'a>) -> Result<(Self::Tree, Cursor<'a>), Halt<'a>> {
+        section_and::<PathEquationRule, FromAttributesRule>(alloc, Class::PathEquations, at)
+    }
+}
+
+/// The sections from the foreign keys on.
+pub struct FromKeysRule;
+
+impl Production for FromKeysRule {
+    type Tree = (Seq<EdgeSyn>, <FromPathsRule as Production>::Tree);
+
+    ghost rule = { rules.from_keys };
+
+    fn read<'a>(alloc: Global, at: Cursor<'a>) -> Result<(Self::Tree, Cursor<'a>), Halt<'a>> {
+        section_and::<EdgeRule, FromPathsRule>(alloc, Class::ForeignKeys, at)
+    }
+}
+
+/// The sections from the entities on.
+pub struct FromEntitiesRule;
+
+impl Production for FromEntitiesRule {
+    type Tree = (Seq<Spot>, <FromKeysRule as Production>::Tree);
+
+    ghost rule = { rules.from_entities };
+
+    fn read<'a>(alloc: Global, at: Cursor<'a>) -> Result<(Self::Tree, Cursor<'a>), Halt<'a>> {
+        section_and::<SpotRule, FromKeysRule>(alloc, Class::Entities, at)
+    }
+}
+
 /// A schema that is written out.
 #[tactic(auto, unfolding(cq_syntax::specs::Grammar::schema_literal))]
 fn schema_literal<'a>(alloc: Global, at: Cursor<'a>) -> Result<(SchemaLit, Cursor<'a>), Halt<'a>>
     ensures { Gives result (read grammar.schema_literal at.entry.tokens.now) }
 {
     let rest = skip(at, Class::Literal)?;
-    let rest = skip(rest, Class::Colon)?;
-    let (typeside, rest) = SpotRule::read(alloc, rest)?;
-    let rest = skip(rest, Class::LeftBrace)?;
-    let (entities, rest) = section::<SpotRule>(alloc, Class::Entities, rest)?;
-    let (keys, rest) = section::<EdgeRule>(alloc, Class::ForeignKeys, rest)?;
-    let (path_eqs, rest) = section::<PathEquationRule>(alloc, Class::PathEquations, rest)?;
-    let (attributes, rest) = section::<EdgeRule>(alloc, Class::Attributes, rest)?;
-    let (obs_eqs, rest) = section::<ObservationRule>(alloc, Class::ObservationEquations, rest)?;
-    let (options, rest) = options(alloc, rest)?;
-    let rest = ends::<SectionWords>(rest, Class::RightBrace)?;
+    let ((typeside, sections), rest) = over::<FromEntitiesRule>(alloc, rest)?;
+    let (entities, (keys, (path_eqs, (attributes, (obs_eqs, options))))) = sections;
     let schema = SchemaLit {
         typeside,
         entities,
@@ -165,8 +237,7 @@ impl Production for SchemaRule {
             let (literal, rest) = schema_literal(alloc, at)?;
             return Ok((SchemaExp::Literal(literal), rest));
         }
-        let rest = skip(at, Class::GetSchema)?;
-        let (colimit, rest) = SpotRule::read(alloc, rest)?;
+        let (colimit, rest) = behind::<SpotRule>(alloc, Class::GetSchema, at)?;
         Ok((SchemaExp::GetSchema(colimit), rest))
     }
 }

@@ -3,18 +3,33 @@ ghost use Rattle.std.specs.Prelude.{◌≡◌};
 ghost use Rattle.cq_rules.specs.Rule.{read};
 ghost use Rattle.cq_syntax.specs.Grammar as grammar;
 ghost use Rattle.cq_parse.specs.Gives.{Gives};
+ghost use Rattle.cq_parse.specs.Rules.{images};
 
 use crate::cursor::Cursor;
 use crate::equation::BindRule;
 use crate::halt::Halt;
-use crate::item::{Production, section};
+use crate::item::Production;
 use crate::names::SpotRule;
-use crate::options::options;
-use crate::step::{ends, is_next, skip};
-use crate::words::SectionWords;
+use crate::options::OptionsRule;
+use crate::sequence::{behind, between, section_and};
+use crate::step::{is_next, skip};
+use cq_base::Seq;
 use cq_rules::Class;
-use cq_syntax::{TransformExp, TransformLit};
+use cq_syntax::{Bind, Opt, TransformExp, TransformLit};
 use std::alloc::Global;
+
+/// To what generators go, and options.
+pub struct ImagesRule;
+
+impl Production for ImagesRule {
+    type Tree = (Seq<Bind>, Seq<Opt>);
+
+    ghost rule = { images };
+
+    fn read<'a>(alloc: Global, at: Cursor<'a>) -> Result<(Self::Tree, Cursor<'a>), Halt<'a>> {
+        section_and::<BindRule, OptionsRule>(alloc, Class::Generators, at)
+    }
+}
 
 /// A transform that is written out.
 #[tactic(auto, unfolding(cq_syntax::specs::Grammar::transform_literal))]
@@ -25,14 +40,7 @@ fn transform_literal<'a>(
     ensures { Gives result (read grammar.transform_literal at.entry.tokens.now) }
 {
     let rest = skip(at, Class::Literal)?;
-    let rest = skip(rest, Class::Colon)?;
-    let (source, rest) = SpotRule::read(alloc, rest)?;
-    let rest = skip(rest, Class::Arrow)?;
-    let (target, rest) = SpotRule::read(alloc, rest)?;
-    let rest = skip(rest, Class::LeftBrace)?;
-    let (images, rest) = section::<BindRule>(alloc, Class::Generators, rest)?;
-    let (options, rest) = options(alloc, rest)?;
-    let rest = ends::<SectionWords>(rest, Class::RightBrace)?;
+    let ((source, (target, (images, options))), rest) = between::<ImagesRule>(alloc, rest)?;
     let transform = TransformLit {
         source,
         target,
@@ -56,8 +64,7 @@ impl Production for TransformRule {
             let (literal, rest) = transform_literal(alloc, at)?;
             return Ok((TransformExp::Literal(literal), rest));
         }
-        let rest = skip(at, Class::Identity)?;
-        let (instance, rest) = SpotRule::read(alloc, rest)?;
+        let (instance, rest) = behind::<SpotRule>(alloc, Class::Identity, at)?;
         Ok((TransformExp::Identity(instance), rest))
     }
 }

@@ -4,13 +4,14 @@ ghost use Rattle.cq_rules.specs.Rule.{read};
 ghost use Rattle.cq_syntax.specs.Grammar as grammar;
 ghost use Rattle.cq_parse.specs.Decided as decided;
 ghost use Rattle.cq_parse.specs.Gives.{Gives};
-ghost use Rattle.cq_parse.specs.Rules.{comma_name, typeside_end};
+ghost use Rattle.cq_parse.specs.Rules.{arguments, comma_name, signature, typeside_end, values};
 
 use crate::cursor::Cursor;
 use crate::halt::Halt;
 use crate::item::{Item, Production, first_and_many, or_left_out, section, some};
-use crate::names::{NameRule, SpotRule};
+use crate::names::{NameRule, SpotRule, SpotsRule};
 use crate::options::{is_value, options};
+use crate::sequence::{around, behind};
 use crate::step::{ends, is_next, name_in, skip, split};
 use crate::words::{SectionWords, TypesideWords};
 use cq_base::{Name, Seq};
@@ -48,6 +49,19 @@ impl Item for ValueRule {
     }
 }
 
+/// One constant or more.
+pub struct ValuesRule;
+
+impl Production for ValuesRule {
+    type Tree = Seq<Spot>;
+
+    ghost rule = { values };
+
+    fn read<'a>(alloc: Global, at: Cursor<'a>) -> Result<(Seq<Spot>, Cursor<'a>), Halt<'a>> {
+        some::<ValueRule>(alloc, at)
+    }
+}
+
 /// Constants of one type.
 pub struct ConstantsRule;
 
@@ -58,9 +72,7 @@ impl Production for ConstantsRule {
 
     #[tactic(auto, unfolding(cq_syntax::specs::Grammar::constants))]
     fn read<'a>(alloc: Global, at: Cursor<'a>) -> Result<(GroupSyn, Cursor<'a>), Halt<'a>> {
-        let (names, rest) = some::<ValueRule>(alloc, at)?;
-        let rest = skip(rest, Class::Colon)?;
-        let (sort, rest) = NameRule::read(alloc, rest)?;
+        let ((names, sort), rest) = around::<ValuesRule, NameRule>(alloc, Class::Colon, at)?;
         Ok((GroupSyn { names, sort }, rest))
     }
 }
@@ -83,8 +95,7 @@ impl Production for CommaNameRule {
     ghost rule = { comma_name };
 
     fn read<'a>(alloc: Global, at: Cursor<'a>) -> Result<(Name, Cursor<'a>), Halt<'a>> {
-        let rest = skip(at, Class::Comma)?;
-        NameRule::read(alloc, rest)
+        behind::<NameRule>(alloc, Class::Comma, at)
     }
 }
 
@@ -93,6 +104,32 @@ impl Item for CommaNameRule {
 
     fn begins(class: Class) -> bool {
         class.is(Class::Comma)
+    }
+}
+
+/// The types of arguments, with commas between them.
+pub struct ArgumentsRule;
+
+impl Production for ArgumentsRule {
+    type Tree = Seq<Name>;
+
+    ghost rule = { arguments };
+
+    fn read<'a>(alloc: Global, at: Cursor<'a>) -> Result<(Seq<Name>, Cursor<'a>), Halt<'a>> {
+        first_and_many::<Name, NameRule, CommaNameRule>(alloc, at)
+    }
+}
+
+/// The types of arguments and of the result.
+pub struct SignatureRule;
+
+impl Production for SignatureRule {
+    type Tree = (Seq<Name>, Name);
+
+    ghost rule = { signature };
+
+    fn read<'a>(alloc: Global, at: Cursor<'a>) -> Result<(Self::Tree, Cursor<'a>), Halt<'a>> {
+        around::<ArgumentsRule, NameRule>(alloc, Class::Arrow, at)
     }
 }
 
@@ -106,11 +143,11 @@ impl Production for FunctionsRule {
 
     #[tactic(auto, unfolding(cq_syntax::specs::Grammar::functions))]
     fn read<'a>(alloc: Global, at: Cursor<'a>) -> Result<(FunSyn, Cursor<'a>), Halt<'a>> {
-        let (names, rest) = some::<SpotRule>(alloc, at)?;
-        let rest = skip(rest, Class::Colon)?;
-        let (args, rest) = first_and_many::<Name, NameRule, CommaNameRule>(alloc, rest)?;
-        let rest = skip(rest, Class::Arrow)?;
-        let (result, rest) = NameRule::read(alloc, rest)?;
+        let ((names, (args, result)), rest) = around::<SpotsRule, SignatureRule>(
+            alloc,
+            Class::Colon,
+            at,
+        )?;
         Ok((
             FunSyn {
                 names,
@@ -139,8 +176,7 @@ fn open_type<'a>(alloc: Global, at: Cursor<'a>) -> Result<(Option<Spot>, Cursor<
     if !is_next(at, Class::Literals) {
         return Ok((None, at));
     }
-    let rest = skip(at, Class::Literals)?;
-    let (name, rest) = SpotRule::read(alloc, rest)?;
+    let (name, rest) = behind::<SpotRule>(alloc, Class::Literals, at)?;
     Ok((Some(name), rest))
 }
 
