@@ -157,6 +157,14 @@ pub fn note_labels(
     }
 }
 
+/// The generator of a label, where those of the labels are the ones from `first` on.
+fn generator_of(first: u32, labels: &Labels, label: u64) -> u32
+    requires { first + length labels.now < 2 ^ 32 }
+    ensures { result ≡ first + place_of_label labels.now label }
+{
+    first + labels.place_of(label) as u32
+}
+
 /// The value as a term, in which each null stands as its generator; those of the labels are the ones from `first` on.
 pub fn value_term(
     alloc: Global,
@@ -169,7 +177,7 @@ pub fn value_term(
 {
     match value {
         Value::Const(constant) => Ok(TypeTerm::Const(constant.clone()?)),
-        Value::Null(label) => Ok(TypeTerm::Gen(first + labels.place_of(*label) as u32)),
+        Value::Null(label) => Ok(TypeTerm::Gen(generator_of(first, labels, *label))),
         Value::Fun(function, args) => {
             let mut made = Vec::new(alloc);
             for arg in args.as_slice() {
