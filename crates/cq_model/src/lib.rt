@@ -4,7 +4,9 @@
 pub mod application;
 pub mod building;
 pub mod canonical;
+pub mod digests;
 pub mod edges;
+mod entries;
 pub mod equations;
 mod given;
 pub mod groups;
