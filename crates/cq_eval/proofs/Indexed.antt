@@ -6,7 +6,6 @@ use Rattle.std.proofs.Common.{set, false, ◌==◌, refl}
 use Rattle.cq_theory.specs.declared.presentation.Equation.TheVariants.{Ent}
 use Rattle.cq_theory.specs.declared.term.EntTerm.{EntTerm}
 use Rattle.cq_theory.specs.SchemaData.{SchemaData as Schema}
-use Rattle.cq_theory.specs.Canonical.{below}
 use Rattle.cq_theory.specs.Tables.{AtRow, row_in}
 use Rattle.cq_model.specs.Terms.{IsOnWay}
 use Rattle.cq_model.proofs.OnWay.{begins}

@@ -55,3 +55,4 @@ pub mod BuildingRefusals
 pub mod EntryPlaces
 pub mod Grouped
 pub mod SameValues
+pub mod IndexedRows

@@ -20,3 +20,4 @@ pub mod Moving
 pub mod Digests
 pub mod EntryLists
 pub mod SameValue
+pub mod CellRows

@@ -1,5 +1,5 @@
 //! The entries of functions by what they are for.
-ghost use Rattle.std.specs.Prelude.{◌≡◌, ◌<◌, ◌≤◌, ◌^◌, IfOk, find, length, map, option_copied, slice_get};
+ghost use Rattle.std.specs.Prelude.{◌≡◌, ◌<◌, IfOk, find, length, map, option_copied, slice_get};
 ghost use Rattle.cq_theory.specs.Tables.{is_for as is_entry_for, entry_or_built};
 ghost use Rattle.cq_model.specs.EntryLists.{AreEntryLists, entry_number, passing, first_among, list_for};
 

@@ -4,6 +4,7 @@
 pub mod application;
 pub mod building;
 pub mod canonical;
+pub mod cell_index;
 pub mod digests;
 pub mod edges;
 mod entries;
@@ -11,6 +12,7 @@ pub mod equations;
 mod given;
 pub mod groups;
 pub mod instance;
+pub mod key_index;
 pub mod laws;
 pub mod leaves;
 mod moving;
@@ -27,8 +29,10 @@ pub mod values;
 pub mod walk;
 
 pub use building::{BuildRefusal, build};
+pub use cell_index::CellIndex;
 pub use given::TablesRefusal;
 pub use instance::Instance;
+pub use key_index::KeyIndex;
 pub use moving::MoveRefusal;
 pub use standing::Standing;
 pub use transform::{Image, Transform};

@@ -1,5 +1,6 @@
 //! Copies of values, entries and algebras, and the test of values for equality.
 ghost use Rattle.std.specs.Prelude.{◌≡◌, ◌↔◌, IfOk, IsTrue};
+ghost use Rattle.cq_model.specs.SameValue.{same_value};
 
 use cq_base::Seq;
 use cq_theory::{Algebra, Entry, Value};
@@ -102,4 +103,11 @@ pub fn is_same(left: &Value, right: &Value) -> bool
             }
         },
     }
+}
+
+/// Whether both are the same value, as a test that definitions cite.
+pub(crate) fn equals(left: &Value, right: &Value) -> bool
+    ensures { result ≡ same_value left.now right.now }
+{
+    is_same(left, right)
 }

@@ -1,4 +1,4 @@
-use Rattle.std.proofs.Common.{◌≡◌, ◌≤◌, map, rules, sym, ap, subst, ◌∙◌}
+use Rattle.std.proofs.Common.{◌≤◌, map, rules, sym, ap, subst, ◌∙◌}
 use Rattle.cq_theory.specs.SchemaData.{SchemaData as Schema}
 use Rattle.cq_theory.specs.Schema.{IsSchema}
 use Rattle.cq_theory.specs.Tables.{Tables}
