@@ -21,11 +21,12 @@ use Rattle.cq_query.specs.Answers.{IsTuple}
 use Rattle.cq_query.proofs.Holding.{tuple_length}
 use Rattle.cq_eval.specs.Testing.{holds_at, reach_step, reach_of_entity, reach_of, reach, stage}
 use Rattle.cq_eval.specs.Join.{passes}
-use Rattle.cq_eval.specs.Digests.{digest_of}
+use Rattle.cq_model.specs.Digests.{digest_of}
 use Rattle.cq_eval.specs.Index.{IsCellIndex, IsPathIndex, IsIndex, IsCover, HasList, sides, entity_sides, other_side, other_entity, indexed_rows}
 use Rattle.cq_eval.specs.declared.index.TestIndex.{TestIndex}
 use Rattle.cq_eval.proofs.Answered.{all_at}
-use Rattle.cq_eval.proofs.Tested.{same_from_value, row_front, value_front}
+use Rattle.cq_model.proofs.SameValues.{same_from_value}
+use Rattle.cq_eval.proofs.Tested.{row_front, value_front}
 
 pub some_listed : (M : Tables) (choice : List ℕ) (index : TestIndex) (o : Option (Bor (List ℕ))) (r : Bor (List ℕ)) (x e : Equation) → o ≡ Some r → x ≡ e
     → IfSome o (λ rows. (rows.now ≡ indexed_rows M choice x index) × HasList M choice x index) → (r.now ≡ indexed_rows M choice e index) × HasList M choice e index

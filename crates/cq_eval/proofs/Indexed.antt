@@ -1,13 +1,11 @@
 -- Indexes of where equations, one by one.
-use Rattle.std.proofs.lemmas.List.FromFn.{length-map-range_with_len}
 use Rattle.std.proofs.lemmas.List.{length-map}
-use Rattle.std.specs.Prelude.{slice_index, slice_index_or, Result, Ok, Err, IfOk}
+use Rattle.std.specs.Prelude.{slice_index, slice_index_or}
 use Rattle.std.specs.List.{list_any}
 use Rattle.std.proofs.Common.{set, false, ◌==◌, refl}
 use Rattle.cq_theory.specs.declared.presentation.Equation.TheVariants.{Ent}
 use Rattle.cq_theory.specs.declared.term.EntTerm.{EntTerm}
 use Rattle.cq_theory.specs.SchemaData.{SchemaData as Schema}
-use Rattle.cq_theory.specs.Canonical.{below}
 use Rattle.cq_theory.specs.Tables.{AtRow, row_in}
 use Rattle.cq_model.specs.Terms.{IsOnWay}
 use Rattle.cq_model.proofs.OnWay.{begins}
@@ -22,7 +20,7 @@ use Rattle.cq_theory.specs.declared.value.Value.{Value}
 use Rattle.cq_theory.specs.Tables.{Tables}
 use Rattle.cq_theory.proofs.Faults.{made_of}
 use Rattle.cq_model.proofs.Lists.{All_from}
-use Rattle.cq_eval.specs.Digests.{digest_of}
+use Rattle.cq_model.specs.Digests.{digest_of}
 use Rattle.cq_eval.specs.Index.{IsIndex, AreIndexes}
 use Rattle.cq_eval.specs.declared.index.TestIndex.{TestIndex}
 
@@ -60,14 +58,6 @@ module _ (M : Tables) (counts : List ℕ) where
       let same : length (take i tests) ≡ length made = length-take-le i tests (omega arith) ∙ sym size in
       λ n e index at there.
       beside_more HasIndex test new here (take i tests) made same (λ k f o p q. known (take i tests) made before k f o p q) n e (Some index) (ap (λ l. slice_get l n) (sym longer) ∙ at) there
-
--- lists for numbers below as many as there are
-pub own_length : {X : Type 0} (f : ℕ → X) (n : ℕ) (lists : List X) → lists ≡ map f (below n) → lists ≡ map f (below (length lists))
-own_length f n lists are = are ∙ ap (λ k. map f (below k)) (sym (ap length are ∙ length-map-range_with_len f 0 n))
-
-pub if_ok : {T E : Type 0} (r : Result T E) (P Q : T → Type 0) → ((x : T) → P x → Q x) → IfOk r P → IfOk r Q
-if_ok (Ok x) P Q f h = f x h
-if_ok (Err e) P Q f h = h
 
 read_set : (zs : List ℕ) (g row : ℕ) → g < length zs → slice_index_or (map AtRow (set zs g row)) g (AtRow 0) ≡ AtRow row
 read_set [] g row h = absurd (omega arith)

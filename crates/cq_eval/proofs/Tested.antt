@@ -1,10 +1,8 @@
 -- Tests of where equations decide them, and only look at the variables that they need.
-use Rattle.std.proofs.Common.{ℕ, zero, suc, Bool, true, false, List, [], ◌∷◌, ◌++◌, ◌≡◌, ◌<◌, ◌≤◌, ◌+◌, ◌==◌, ◌&&◌, ◌↔◌, map, length, refl, sym, ap, subst, ◌∙◌, arith}
+use Rattle.std.proofs.Common.{ℕ, zero, suc, true, List, [], ◌∷◌, ◌++◌, ◌≡◌, ◌<◌, ◌≤◌, ◌+◌, ◌==◌, map, length, refl, sym, ap, subst, ◌∙◌, arith}
 use Rattle.std.specs.Prelude.{slice_index_or}
-use Rattle.std.proofs.lemmas.Bool.{and_parts, eqb-true, eq-eqb}
+use Rattle.std.proofs.lemmas.Bool.{eqb-true, eq-eqb}
 use Rattle.std.proofs.lemmas.List.{length-map, map-append}
-use base.Stored.{Gv, gnil, gnum, gcons}
-use Rattle.cq_theory.specs.contracts.value.Value as value
 use Rattle.cq_theory.specs.declared.value.Value.{Value}
 use Rattle.cq_theory.specs.declared.term.EntTerm.{EntTerm}
 use Rattle.cq_theory.specs.declared.term.TypeTerm.{TypeTerm}
@@ -13,39 +11,9 @@ use Rattle.cq_theory.specs.declared.presentation.Equation.TheVariants as equatio
 use Rattle.cq_theory.specs.Derivation.{left_of, right_of}
 use Rattle.cq_theory.specs.Tables.{Tables, AtRow, AtValue, Assignment, row_in, value_in, cell_at, row_from, row_of, value_of, value_step, meaning_of, applied}
 use Rattle.cq_theory.proofs.TypeTerms.{fold-Gen, fold-Const, fold-Att, fold-Fun, Each, on_terms}
-use Rattle.cq_eval.specs.Testing.{same_code, same_value, holds_at, greatest, reach_of_entity, reach_step, reach_of, reach}
-
-code_itself : (a : Gv) → same_code a a ≡ true
-code_itself gnil = refl
-code_itself (gnum n) = eq-eqb n n refl
-code_itself (gcons a b) = λ i. code_itself a i && code_itself b i
-
-same_from_code : (a b : Gv) → same_code a b ≡ true → a ≡ b
-same_from_code gnil gnil h = refl
-same_from_code gnil (gnum n) h = cc
-same_from_code gnil (gcons c d) h = cc
-same_from_code (gnum m) gnil h = cc
-same_from_code (gnum m) (gnum n) h = ap gnum (eqb-true m n h)
-same_from_code (gnum m) (gcons c d) h = cc
-same_from_code (gcons a b) gnil h = cc
-same_from_code (gcons a b) (gnum n) h = cc
-same_from_code (gcons a b) (gcons c d) h = let both = and_parts (same_code a c) (same_code b d) h in λ i. gcons (same_from_code a c both.0 i) (same_from_code b d both.1 i)
-
-pub same_from_value : (v w : Value) → same_value v w ≡ true → v ≡ w
-unfolding same_value
-same_from_value v w h = value.the_row.coded.inj v w (same_from_code (value.the_row.coded.code v) (value.the_row.coded.code w) h)
-
-pub value_from_same : (v w : Value) → v ≡ w → same_value v w ≡ true
-unfolding same_value
-value_from_same v w h = ap (λ x. same_code (value.the_row.coded.code v) (value.the_row.coded.code x)) (sym h) ∙ code_itself (value.the_row.coded.code v)
-
-pub same_is : (b : Bool) (v w : Value) → ((b ≡ true) ↔ (v ≡ w)) → b ≡ same_value v w
-same_is true v w h = sym (value_from_same v w (h.0 refl))
-same_is false v w h = other (same_value v w) refl
-  where
-    other : (c : Bool) → same_value v w ≡ c → false ≡ c
-    other false e = refl
-    other true e = let both : false ≡ true = h.1 (same_from_value v w e) in cc
+use Rattle.cq_model.specs.SameValue.{same_value}
+use Rattle.cq_model.proofs.SameValues.{same_from_value, value_from_same}
+use Rattle.cq_eval.specs.Testing.{holds_at, greatest, reach_of_entity, reach_step, reach_of, reach}
 
 -- the test of an equation decides it
 pub from_test : (M : Tables) (rows : List ℕ) (e : Equation) → holds_at M rows e ≡ true → meaning_of M (map AtRow rows) (left_of e) ≡ meaning_of M (map AtRow rows) (right_of e)

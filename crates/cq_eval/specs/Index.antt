@@ -12,7 +12,7 @@ use Rattle.cq_theory.specs.Tables.{Tables, AtRow, row_of, row_from, value_of}
 use Rattle.cq_model.specs.Numbering.{positions}
 use Rattle.cq_eval.specs.Testing.{reach_of_entity, reach_of, holds_at, stage}
 use Rattle.cq_eval.specs.Join.{passes}
-use Rattle.cq_eval.specs.Digests.{digest_of}
+use Rattle.cq_model.specs.Digests.{digest_of}
 use Rattle.cq_eval.specs.declared.index.TestIndex.{TestIndex}
 
 -- the rows of a column by the numbers of their cells

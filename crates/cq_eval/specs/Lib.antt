@@ -1,6 +1,5 @@
 pub mod Testing
 pub mod Join
-pub mod Digests
 pub mod Index
 pub mod Made
 pub mod Refused

@@ -1,8 +1,5 @@
 -- Tests of where equations, and how many variables they need.
-use Rattle.std.specs.Prelude.{ℕ, Bool, true, false, List, [], ◌∷◌, ◌+◌, ◌==◌, ◌&&◌, map, min, max}
-use base.Stored.{Gv, gnil, gnum, gcons}
-use Rattle.cq_theory.specs.contracts.value.Value as value
-use Rattle.cq_theory.specs.declared.value.Value.{Value}
+use Rattle.std.specs.Prelude.{ℕ, Bool, List, [], ◌∷◌, ◌+◌, ◌==◌, map, min, max}
 use Rattle.cq_theory.specs.declared.term.EntTerm.{EntTerm}
 use Rattle.cq_theory.specs.declared.term.TypeTerm.{TypeTerm}
 use Rattle.cq_theory.specs.declared.term.TypeTerm.TheOpen.{TypeTerm-F, Gen, Const, Att, Fun}
@@ -11,18 +8,8 @@ use Rattle.cq_theory.specs.declared.presentation.Equation.{Equation}
 use Rattle.cq_theory.specs.declared.presentation.Equation.TheVariants.{Ent, Typ}
 use Rattle.cq_theory.specs.SchemaData.{SchemaData as Schema}
 use Rattle.cq_theory.specs.Tables.{Tables, AtRow, Assignment, row_of, value_of}
+use Rattle.cq_model.specs.SameValue.{same_value}
 use Rattle.cq_model.specs.Terms.{IsEntTermOf, IsTypeTermOf}
-
--- the same tree of numbers
-abbrev pub same_code : Gv → Gv → Bool
-same_code gnil gnil = true
-same_code (gnum m) (gnum n) = m == n
-same_code (gcons a b) (gcons c d) = same_code a c && same_code b d
-same_code _ _ = false
-
--- the same value: values are told apart by their codes, which are trees of numbers
-unfoldable pub same_value : Value → Value → Bool
-same_value v w = same_code (value.the_row.coded.code v) (value.the_row.coded.code w)
 
 module _ (M : Tables) (rows : List ℕ) where
   -- the variables stand for these rows

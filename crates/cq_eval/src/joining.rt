@@ -12,13 +12,13 @@ ghost use Rattle.cq_eval.specs.Testing.{IsTestAt};
 ghost use Rattle.cq_eval.specs.Refused.{TellsOver};
 
 use crate::choice::Choice;
-use crate::digests::digest;
 use crate::index::TestIndex;
 use crate::refusal::EvalRefusal;
 use crate::rows::Rows;
 use crate::testing::passes_test;
 use cq_base::Seq;
 use cq_model::Instance;
+use cq_model::digests::digest;
 use cq_theory::{Equation, TypeTerm};
 use std::alloc::{AllocError, Global};
 

@@ -4,7 +4,6 @@
 pub mod answering;
 mod cells;
 mod choice;
-mod digests;
 pub mod evaluating;
 mod index;
 mod joining;

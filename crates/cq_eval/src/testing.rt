@@ -1,46 +1,12 @@
 //! Tests of where equations.
-ghost use Rattle.std.specs.Prelude.{◌≡◌, ◌==◌, ◌||◌, not, IfOk, IsTrue, ◌↔◌};
+ghost use Rattle.std.specs.Prelude.{◌≡◌, ◌==◌, ◌||◌, not, IfOk};
 ghost use Rattle.cq_eval.specs.Testing.{holds_at, IsTestAt};
 
 use crate::choice::Choice;
 use cq_model::Instance;
-use cq_theory::{Equation, Value};
+use cq_model::values::is_same;
+use cq_theory::Equation;
 use std::alloc::{AllocError, Global};
-
-/// Whether both are the same value.
-pub(crate) fn is_same(left: &Value, right: &Value) -> bool
-    ensures { IsTrue result ↔ (left.now ≡ right.now) }
-{
-    match left {
-        Value::Const(constant) => match right {
-            Value::Const(other) => constant == other,
-            Value::Null(_) => false,
-            Value::Fun(_, _) => false,
-        },
-        Value::Null(label) => match right {
-            Value::Const(_) => false,
-            Value::Null(other) => *label == *other,
-            Value::Fun(_, _) => false,
-        },
-        Value::Fun(function, args) => match right {
-            Value::Const(_) => false,
-            Value::Null(_) => false,
-            Value::Fun(other, others) => {
-                let args = args.as_slice();
-                let others = others.as_slice();
-                if *function != *other || args.len() != others.len() {
-                    return false;
-                }
-                for (place, arg) in args.iter().enumerate() {
-                    if !is_same(arg, &others[place]) {
-                        return false;
-                    }
-                }
-                true
-            }
-        },
-    }
-}
 
 /// Whether a where equation holds at these rows.
 pub(crate) fn holds(

@@ -52,3 +52,7 @@ pub mod Pushed
 pub mod CanonicalEquations
 pub mod GivenTables
 pub mod BuildingRefusals
+pub mod EntryPlaces
+pub mod Grouped
+pub mod SameValues
+pub mod IndexedRows

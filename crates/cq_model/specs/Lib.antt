@@ -17,3 +17,7 @@ pub mod Numbers
 pub mod BuiltParts
 pub mod Terms
 pub mod Moving
+pub mod Digests
+pub mod EntryLists
+pub mod SameValue
+pub mod CellRows

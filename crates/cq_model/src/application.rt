@@ -43,7 +43,7 @@ fn all_same_plain(left: &[Value], right: &[Value]) -> bool
 }
 
 /// Whether an entry is that of a function at these arguments.
-fn is_for(function: u32, args: &[Value], entry: &Entry) -> bool
+pub(crate) fn is_for(function: u32, args: &[Value], entry: &Entry) -> bool
     ensures { result ≡ is_entry_for function args.now entry.now }
 {
     entry.function == function && all_same_plain(args, entry.args.as_slice())

@@ -15,6 +15,7 @@ ghost use Rattle.cq_model.specs.Standing.{meaning};
 ghost use Rattle.cq_model.specs.declared.building.BuildRefusal.TheVariants.{Depth, TooManyRows, Inconsistent};
 
 use crate::edges::{sources, targets};
+use crate::entries::EntryTable;
 use crate::equations::{push_given, push_observations};
 use crate::groups::grouped;
 use crate::instance::Instance;
@@ -30,7 +31,7 @@ use cq_base::Seq;
 use cq_flat::Flat;
 use cq_rows::{RowsRefusal, saturate};
 use cq_tables::Tables;
-use cq_theory::{Algebra, Con, Presentation, Schema, Sheet};
+use cq_theory::{Con, Presentation, Schema, Sheet};
 use std::alloc::{AllocError, Global};
 use std::rc::Rc;
 
@@ -177,7 +178,7 @@ fn close_nodes(alloc: Global, list: NodeList) -> Result<(Flat, Vec<u32>), AllocE
 #[derive(Drop)]
 struct ModelParts {
     sheet: Sheet,
-    algebra: Algebra,
+    algebra: EntryTable,
     standings: Seq<Standing>,
 }
 
@@ -211,7 +212,7 @@ fn read_parts(
     let standings = read_standings(alloc, presentation, entries, numbers, places, flat)?;
     Ok(ModelParts {
         sheet,
-        algebra,
+        algebra: EntryTable::new(alloc, algebra)?,
         standings,
     })
 }

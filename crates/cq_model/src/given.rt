@@ -7,6 +7,7 @@ ghost use Rattle.cq_model.specs.Standing.{meaning};
 
 use crate::canonical::canonical_presentation;
 use crate::canonical::generators::{number_at, row_names, standings};
+use crate::entries::EntryTable;
 use crate::instance::Instance;
 use crate::standing::Standing;
 use cq_base::Seq;
@@ -49,30 +50,34 @@ fn is_too_large(counts: &[u32], nulls: usize) -> bool
 struct GivenParts {
     presentation: Presentation,
     names: Seq<Seq<EntTerm>>,
+    algebra: EntryTable,
     standings: Seq<Standing>,
 }
 
-/// The canonical presentation of tables, the names of their rows, and what the generators stand for.
+/// The canonical presentation of tables, the names of their rows, the table of their entries, and what the generators
+/// stand for.
 fn given_parts(
     alloc: Global,
     schema: &Schema,
     sheet: &Sheet,
-    algebra: &Algebra,
+    algebra: Algebra,
 ) -> Result<GivenParts, AllocError>
-    requires model { IsModel schema.now (tables sheet.now algebra.now) }
-    requires few { size_of (tables sheet.now algebra.now) ≤ 16000000 }
+    requires model { IsModel schema.now (tables sheet.now algebra) }
+    requires few { size_of (tables sheet.now algebra) ≤ 16000000 }
     ensures presentation { IfOk result (λ parts. parts.presentation
-        ≡ (given schema.now (tables sheet.now algebra.now)).presentation) }
-    ensures names { IfOk result (λ parts. parts.names ≡ (given schema.now (tables sheet.now algebra.now)).names) }
+        ≡ (given schema.now (tables sheet.now algebra)).presentation) }
+    ensures names { IfOk result (λ parts. parts.names ≡ (given schema.now (tables sheet.now algebra)).names) }
+    ensures algebra { IfOk result (λ parts. parts.algebra ≡ algebra) }
     ensures standings { IfOk result (λ parts. map meaning parts.standings ≡ canonical_assignment schema.now
-        (tables sheet.now algebra.now)) }
+        (tables sheet.now algebra)) }
 {
-    let presentation = canonical_presentation(alloc, schema, sheet, algebra)?;
+    let presentation = canonical_presentation(alloc, schema, sheet, &algebra)?;
     let names = row_names(alloc, sheet.counts.as_slice())?;
     let standings = standings(alloc, sheet.counts.as_slice(), algebra.nulls.len() as u32)?;
     Ok(GivenParts {
         presentation,
         names,
+        algebra: EntryTable::new(alloc, algebra)?,
         standings: Seq::from_vec(standings),
     })
 }
@@ -98,13 +103,13 @@ impl Instance {
         if is_too_large(sheet.counts.as_slice(), algebra.nulls.len()) {
             return Err(TablesRefusal::TooLarge);
         }
-        match given_parts(alloc, &schema, &sheet, &algebra) {
+        match given_parts(alloc, &schema, &sheet, algebra) {
             Ok(parts) => Ok(Instance::from_parts(
                 schema,
                 parts.presentation,
                 parts.names,
                 sheet,
-                algebra,
+                parts.algebra,
                 parts.standings,
             )),
             Err(_) => Err(TablesRefusal::Memory),

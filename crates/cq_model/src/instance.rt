@@ -4,6 +4,7 @@ ghost use Rattle.cq_theory.specs.Tables.{count_of, key_at, cell_at};
 ghost use Rattle.cq_model.specs.InstanceData.{IsInstance, name_at};
 ghost use Rattle.cq_model.specs.Standing.{meaning};
 
+use crate::entries::EntryTable;
 use crate::standing::Standing;
 use cq_base::Seq;
 use cq_theory::{Algebra, EntTerm, Presentation, Schema, Sheet, Value};
@@ -18,7 +19,7 @@ pub struct Instance {
     presentation: Presentation,
     names: Seq<Seq<EntTerm>>,
     sheet: Sheet,
-    algebra: Algebra,
+    algebra: EntryTable,
     standings: Seq<Standing>,
 }
 
@@ -58,7 +59,7 @@ impl Instance {
         presentation: Presentation,
         names: Seq<Seq<EntTerm>>,
         sheet: Sheet,
-        algebra: Algebra,
+        algebra: EntryTable,
         standings: Seq<Standing>,
     ) -> Instance
         requires { IsInstance (record {
@@ -122,7 +123,7 @@ impl Instance {
         ensures algebra { result.now ≡ self.now.tables.algebra }
         ensures instance { IsInstance self.now }
     {
-        &self.algebra
+        self.algebra.algebra()
     }
 
     /// The number of rows of an entity.
@@ -162,6 +163,14 @@ impl Instance {
     {
         let names = &self.names.as_slice()[entity as usize];
         &names.as_slice()[row as usize]
+    }
+
+    /// The entries of functions, by which these are applied.
+    pub(crate) fn entry_table(&self) -> &EntryTable
+        ensures table { result.now ≡ self.now.tables.algebra }
+        ensures instance { IsInstance self.now }
+    {
+        &self.algebra
     }
 
     /// What each generator stands for.

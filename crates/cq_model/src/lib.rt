@@ -4,11 +4,15 @@
 pub mod application;
 pub mod building;
 pub mod canonical;
+pub mod cell_index;
+pub mod digests;
 pub mod edges;
+mod entries;
 pub mod equations;
 mod given;
 pub mod groups;
 pub mod instance;
+pub mod key_index;
 pub mod laws;
 pub mod leaves;
 mod moving;
@@ -25,8 +29,10 @@ pub mod values;
 pub mod walk;
 
 pub use building::{BuildRefusal, build};
+pub use cell_index::CellIndex;
 pub use given::TablesRefusal;
 pub use instance::Instance;
+pub use key_index::KeyIndex;
 pub use moving::MoveRefusal;
 pub use standing::Standing;
 pub use transform::{Image, Transform};

@@ -6,7 +6,6 @@ ghost use Rattle.cq_theory.specs.Tables.{AtRow, count_of, row_from, row_of as ro
 ghost use Rattle.cq_model.specs.Standing.{meaning};
 ghost use Rattle.cq_model.specs.Terms.{IsOnWay, IsEntTermOf, IsTypeTermOf};
 
-use crate::application::applied;
 use crate::instance::Instance;
 use crate::standing::{Standing, row_in, value_in};
 use crate::values::copied;
@@ -72,7 +71,7 @@ impl Instance {
                 for arg in args.as_slice() {
                     values.push(self.value_over(alloc, standings, arg)?)?;
                 }
-                applied(alloc, self.algebra().entries.as_slice(), *function, values)
+                self.entry_table().applied(alloc, *function, values)
             }
         }
     }

@@ -1,7 +1,7 @@
 use Rattle.std.proofs.Common.{ℕ, List, ◌≡◌, map, length}
 use Rattle.cq_theory.specs.Canonical.{below}
 use Rattle.cq_model.specs.Numbering.{positions}
-use Rattle.cq_eval.proofs.Indexed.{own_length, if_ok}
+use Rattle.cq_model.proofs.Grouped.{own_length, if_ok}
 use Rattle.cq_eval.proofs.index.lists_by.Goals as goal
 
 pub returns : goal.returns

@@ -1,7 +1,8 @@
 use Rattle.std.proofs.Common.{map, ◌≡◌, sym, ap, ◌∙◌}
 use Rattle.cq_theory.specs.Tables.{Tables, AtRow, Assignment, value_of}
-use Rattle.cq_eval.specs.Testing.{same_value, holds_at}
-use Rattle.cq_eval.proofs.Tested.{same_is}
+use Rattle.cq_model.specs.SameValue.{same_value}
+use Rattle.cq_model.proofs.SameValues.{same_is}
+use Rattle.cq_eval.specs.Testing.{holds_at}
 use Rattle.cq_eval.proofs.testing.holds.Goals as goal
 
 pub returns-in_ok-right-in-Typ : goal.returns-in_ok-right-in-Typ

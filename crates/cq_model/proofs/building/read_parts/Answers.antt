@@ -3,6 +3,8 @@ use Rattle.std.specs.Prelude.{slice_get}
 use Rattle.cq_tables.specs.Content.{live_of}
 use Rattle.cq_tables.specs.Content.{entity_of as row_entity}
 use Rattle.cq_theory.specs.declared.schema.Edge.{Edge}
+use Rattle.cq_theory.specs.declared.value.Algebra.{Algebra}
+use Rattle.cq_model.specs.Given.{tables}
 use Rattle.cq_model.specs.LeastNames.{rows_at}
 use Rattle.cq_model.specs.NodeTerms.{cell_place}
 use Rattle.cq_model.specs.Built.{sheet_of, assignment_of}
@@ -38,7 +40,8 @@ returns-clause-tables c =
     let built = c.requires.built in
     let sheet = c.in_ok-sheet.ensures c.args.presentation.now c.args.entries.now
     ∙ (λ i. sheet_of c.args.schema.now c.args.presentation.now c.args.tables.now c.args.entries.now (c.as_slice-order.ensures i) (c.as_slice-numbers.ensures i) c.args.places.now c.args.flat.now.values) in
-    reading.tables_read c.args.schema.now c.args.presentation.now c.args.tables.now c.args.entries.now c.requires.closed c.args.numbered.now.order c.args.numbered.now.names c.args.numbered.now.numbers c.args.places.now built.0 built.1 c.args.types.now built.2 c.args.flat.now built.3
+    ap (λ (a : Algebra). tables c.in_ok-sheet.sheet a) c.in_ok-new.ensures
+    ∙ reading.tables_read c.args.schema.now c.args.presentation.now c.args.tables.now c.args.entries.now c.requires.closed c.args.numbered.now.order c.args.numbered.now.names c.args.numbered.now.numbers c.args.places.now built.0 built.1 c.args.types.now built.2 c.args.flat.now built.3
     c.in_ok-sheet.sheet c.in_ok-algebra.algebra sheet c.in_ok-algebra.ensures.nulls c.in_ok-algebra.ensures.entries
 
 pub returns-clause-assignment : goal.returns-clause-assignment

@@ -9,10 +9,10 @@ use Rattle.cq_model.proofs.given.given_parts.Goals as goal
 
 pub returns-clause-names : goal.returns-clause-names
 returns-clause-names c =
-    let M : Tables = tables c.args.sheet.now c.args.algebra.now in
-    c.in_ok-names.ensures ∙ (λ i. map (made.names (c.as_slice.ensures i)) (below (length (c.as_slice.ensures i)))) ∙ names_are c.args.schema.now M c.requires.model.well_formed.entities
+    let M : Tables = tables c.args.sheet.now c.args.algebra in
+    c.names.view_is ∙ c.in_ok-names.ensures ∙ (λ i. map (made.names (c.as_slice.ensures i)) (below (length (c.as_slice.ensures i)))) ∙ names_are c.args.schema.now M c.requires.model.well_formed.entities
 
 pub returns-clause-standings : goal.returns-clause-standings
 returns-clause-standings c =
-    let M : Tables = tables c.args.sheet.now c.args.algebra.now in
+    let M : Tables = tables c.args.sheet.now c.args.algebra in
     ap (map meaning) c.from_vec.ensures ∙ c.in_ok-standings.ensures ∙ (λ i. made.meanings (c.as_slice-2.ensures i) (c.len.ensures i)) ∙ meanings_are c.args.schema.now M c.requires.model.well_formed.entities

@@ -80,7 +80,7 @@ returns-after-loop-arg t c =
     let i : InstanceData = c.args.self.now in
     let A : Assignment = map meaning c.args.standings.now in
     let f : TypeTerm → Value = value_of i.tables A in
-    let entries : c.as_slice.result.now ≡ i.tables.algebra.entries = c.as_slice.ensures ∙ ap (λ (x : Algebra). x.entries) c.algebra.ensures.algebra in
+    let entries : c.entry_table.result.now.entries ≡ i.tables.algebra.entries = ap (λ (x : Algebra). x.entries) c.entry_table.ensures.table in
     let args_are : c.loop-arg.values.items ≡ map f c.in-Fun.args =
     c.loop-arg.invariant ∙ ap (map f) (take_all c.loop-arg.arg-index c.as_slice-arg-items.result.now c.loop-arg-test.false ∙ c.as_slice-arg-items.ensures) in
     let whole : value_of i.tables A c.args.term.now ≡ entry_or_built (find (is_for c.in-Fun.function (map f c.in-Fun.args)) i.tables.algebra.entries) c.in-Fun.function (map f c.in-Fun.args) =

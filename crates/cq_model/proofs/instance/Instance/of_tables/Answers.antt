@@ -2,7 +2,9 @@ use Rattle.std.proofs.Common.{◌≤◌, map, rules, sym, ap, subst, ◌∙◌}
 use Rattle.cq_theory.specs.SchemaData.{SchemaData as Schema}
 use Rattle.cq_theory.specs.Schema.{IsSchema}
 use Rattle.cq_theory.specs.Tables.{Tables}
+use Rattle.cq_theory.specs.declared.value.Algebra.{Algebra}
 use Rattle.cq_theory.specs.Canonical.{canonical, canonical_assignment}
+use Rattle.cq_model.specs.InstanceData.{InstanceData, IsInstance}
 use Rattle.cq_model.specs.Given.{IsModel, size_of, tables, given}
 use Rattle.cq_model.specs.Standing.{meaning}
 use Rattle.cq_model.proofs.GivenTables.{parts_instance, made_initial, made_least}
@@ -16,12 +18,35 @@ from_parts-requires c =
     let S : Schema = c.args.schema.value in
     let M : Tables = tables c.args.sheet c.args.algebra in
     let few : size_of M ≤ 16000000 = search rules in
-    parts_instance S M (subst IsSchema c.deref.ensures c.is_well_sorted.ensures) c.requires
+    let with : Algebra → InstanceData = λ algebra. record {
+      schema = S;
+      presentation = c.in-Ok.parts.presentation;
+      names = c.in-Ok.parts.names;
+      tables = tables c.args.sheet algebra;
+      assignment = map meaning c.in-Ok.parts.standings;
+    } in
+    subst (λ (a : Algebra). IsInstance (with a)) (sym c.in-Ok.ensures.algebra)
+    (parts_instance S M (subst IsSchema c.deref.ensures c.is_well_sorted.ensures) c.requires
     c.in-Ok.parts.presentation c.in-Ok.parts.names (map meaning c.in-Ok.parts.standings)
     (c.in-Ok.ensures.presentation ∙ ap (λ (s : Schema). canonical s M) c.deref-2.ensures)
     (c.in-Ok.ensures.names ∙ ap (λ (s : Schema). (given s M).names) c.deref-2.ensures)
     (c.in-Ok.ensures.standings ∙ ap (λ (s : Schema). canonical_assignment s M) c.deref-2.ensures)
-    few
+    few)
+
+pub returns-in-Ok-clause-instance : goal.returns-in-Ok-clause-instance
+returns-in-Ok-clause-instance c =
+    let S : Schema = c.args.schema.value in
+    let M : Tables = tables c.args.sheet c.args.algebra in
+    let presentation = c.in-Ok.ensures.presentation ∙ ap (λ (s : Schema). canonical s M) c.deref-2.ensures in
+    let names = c.in-Ok.ensures.names ∙ ap (λ (s : Schema). (given s M).names) c.deref-2.ensures in
+    let standings = c.in-Ok.ensures.standings ∙ ap (λ (s : Schema). canonical_assignment s M) c.deref-2.ensures in
+    c.from_parts.ensures ∙ (λ j. record {
+      schema = S;
+      presentation = presentation j;
+      names = names j;
+      tables = tables c.args.sheet (c.in-Ok.ensures.algebra j);
+      assignment = standings j;
+    })
 
 pub returns-in-Ok-clause-initial : goal.returns-in-Ok-clause-initial
 returns-in-Ok-clause-initial c =
@@ -32,7 +57,13 @@ returns-in-Ok-clause-initial c =
     (c.in-Ok.ensures.presentation ∙ ap (λ (s : Schema). canonical s M) c.deref-2.ensures)
     (c.in-Ok.ensures.names ∙ ap (λ (s : Schema). (given s M).names) c.deref-2.ensures)
     (c.in-Ok.ensures.standings ∙ ap (λ (s : Schema). canonical_assignment s M) c.deref-2.ensures)
-    c.from_parts.result c.from_parts.ensures
+    c.from_parts.result (c.from_parts.ensures ∙ (λ j. record {
+      schema = S;
+      presentation = c.in-Ok.parts.presentation;
+      names = c.in-Ok.parts.names;
+      tables = tables c.args.sheet (c.in-Ok.ensures.algebra j);
+      assignment = map meaning c.in-Ok.parts.standings;
+    }))
 
 pub returns-in-Ok-clause-least : goal.returns-in-Ok-clause-least
 returns-in-Ok-clause-least c =
@@ -43,4 +74,10 @@ returns-in-Ok-clause-least c =
     (c.in-Ok.ensures.presentation ∙ ap (λ (s : Schema). canonical s M) c.deref-2.ensures)
     (c.in-Ok.ensures.names ∙ ap (λ (s : Schema). (given s M).names) c.deref-2.ensures)
     (c.in-Ok.ensures.standings ∙ ap (λ (s : Schema). canonical_assignment s M) c.deref-2.ensures)
-    c.from_parts.result c.from_parts.ensures
+    c.from_parts.result (c.from_parts.ensures ∙ (λ j. record {
+      schema = S;
+      presentation = c.in-Ok.parts.presentation;
+      names = c.in-Ok.parts.names;
+      tables = tables c.args.sheet (c.in-Ok.ensures.algebra j);
+      assignment = map meaning c.in-Ok.parts.standings;
+    }))

@@ -1,5 +1,5 @@
 -- Numbers by which values are told apart quickly: equal values have one number.
-use Rattle.std.specs.Prelude.{ℕ, ◌+◌, ◌*◌, ◌%◌, ◌^◌, fold}
+use Rattle.std.specs.Prelude.{ℕ, List, ◌+◌, ◌*◌, ◌%◌, ◌^◌, fold, map}
 use Rattle.cq_theory.specs.declared.constant.Con.{Con}
 use Rattle.cq_theory.specs.declared.constant.Con.TheVariants.{Named, Open}
 use Rattle.cq_theory.specs.declared.value.Value.{Value}
@@ -21,3 +21,7 @@ digest_step (Fun f digests) = fold mix f digests
 
 abbrev pub digest_of : Value → ℕ
 digest_of = fold-Value ℕ digest_step
+
+-- the number of a function at arguments
+abbrev pub digest_of_application : ℕ → List Value → ℕ
+digest_of_application f args = fold mix f (map digest_of args)

@@ -1,6 +1,6 @@
 //! Numbers by which cells are told apart quickly.
 ghost use Rattle.std.specs.Prelude.{◌≡◌, ◌%◌, ◌<◌, IfOk, map};
-ghost use Rattle.cq_eval.specs.Digests.{mix as mixed, digest_of_constant, digest_of};
+ghost use Rattle.cq_model.specs.Digests.{mix as mixed, digest_of_constant, digest_of, digest_of_application};
 
 use cq_theory::{Con, Value};
 use std::alloc::{AllocError, Global};
@@ -29,7 +29,7 @@ fn constant_digest(constant: &Con) -> u64
 }
 
 /// The number of a value: one for all equal values.
-pub(crate) fn digest(value: &Value) -> u64
+pub fn digest(value: &Value) -> u64
     ensures { result ≡ digest_of value.now }
 {
     match value {
@@ -46,7 +46,7 @@ pub(crate) fn digest(value: &Value) -> u64
 }
 
 /// The number of each cell of a column, below `count`.
-pub(crate) fn digests(alloc: Global, column: &[Value], count: u32) -> Result<Vec<u32>, AllocError>
+pub fn digests(alloc: Global, column: &[Value], count: u32) -> Result<Vec<u32>, AllocError>
     requires { 0 < count }
     ensures { IfOk result (λ made. made.items ≡ map (λ value. digest_of value % count) column.now) }
 {
@@ -55,4 +55,15 @@ pub(crate) fn digests(alloc: Global, column: &[Value], count: u32) -> Result<Vec
         made.push((digest(cell) % count as u64) as u32)?;
     }
     Ok(made)
+}
+
+/// The number of a function at arguments.
+pub(crate) fn application_digest(function: u32, args: &[Value]) -> u64
+    ensures { result ≡ digest_of_application function args.now }
+{
+    let mut number = function as u64;
+    for arg in args {
+        number = mix(number, digest(arg));
+    }
+    number
 }

@@ -1,5 +1,5 @@
 use Rattle.std.proofs.Common.{◌≡◌, take}
-use Rattle.cq_eval.proofs.testing.+is_same.Given as goal
+use Rattle.cq_model.proofs.values.+is_same.Given as goal
 
 abbrev pub decreases-is_same : goal.decreases-is_same
 decreases-is_same l = goal.size-is_same l

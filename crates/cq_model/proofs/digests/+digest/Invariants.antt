@@ -1,7 +1,7 @@
 use Rattle.std.proofs.Common.{◌≡◌, drop, map}
 use Rattle.std.specs.Prelude.{fold}
-use Rattle.cq_eval.specs.Digests.{mix, digest_of}
-use Rattle.cq_eval.proofs.digests.+digest.Given as goal
+use Rattle.cq_model.specs.Digests.{mix, digest_of}
+use Rattle.cq_model.proofs.digests.+digest.Given as goal
 
 abbrev pub decreases-digest : goal.decreases-digest
 decreases-digest l = goal.size-digest l
