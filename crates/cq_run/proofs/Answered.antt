@@ -1,18 +1,19 @@
 -- From what became of the file to the answer.
-use Rattle.std.proofs.Common.{◌≡◌, ◌∙◌, ◌≤◌, ℕ, List, Option, Err, IfSome, inl, inr, sym, subst, arith}
+use Rattle.std.proofs.Common.{◌≡◌, ◌∙◌, ◌≤◌, ℕ, List, Option, Err, IfSome, inl, inr, map, refl, sym, subst, arith}
 use Rattle.cq_import.specs.Folders.{FolderData, Keeps}
 use Rattle.cq_io.specs.Counts.{Rose}
 use Rattle.cq_io.specs.Reads.{IsReadOf}
 use Rattle.cq_io.specs.declared.folder.ReadRefusal.{ReadRefusal}
 use Rattle.cq_io.specs.declared.format.Format.{Format}
 use Rattle.cq_program.specs.Folders.{Raised, Told}
+use Rattle.cq_program.specs.Named.{listed_as}
 use Rattle.cq_program.specs.Program.{Lacks}
 use Rattle.cq_program.specs.declared.reason.ReadCause.{ReadCause}
 use Rattle.cq_program.specs.declared.reason.ReadCause.TheVariants.{Absent, TooLong, Failed}
 use Rattle.cq_run.specs.Ask.{depth_asked}
-use Rattle.cq_run.specs.Answer.{Answers, IsOutputOf, IsRefusalOf, Judges, SaysUnread}
+use Rattle.cq_run.specs.Answer.{Answers, IsRefusalOf, Judges, SaysUnread}
 use Rattle.cq_run.specs.Clause.{IsCauseOf, IsTextOf, file_limit}
-use Rattle.cq_run.specs.Meaning.{MissesFile}
+use Rattle.cq_run.specs.Meaning.{Means, MissesFile}
 use Rattle.cq_run.specs.declared.answer.Answer.{Answer}
 use Rattle.cq_run.specs.declared.answer.Answer.TheVariants as answer
 use Rattle.cq_syntax.specs.declared.program.Program.{Program}
@@ -43,8 +44,8 @@ misses_before a b c tree line keeps misses = record {
 -- its text was judged, after it was read
 judged_as : (ask : Ask) (before read after : FolderData) (text : List ℕ) (a : Answer) → IsTextOf ask before.files text → Keeps before read
     → Judges (depth_asked ask) read after text a → Answers ask before after a
-judged_as ask before read after text (answer.Accepted output) is keeps judged =
-    record { text = text; is_text = is; judges = subst (λ (told : Told). IsOutputOf told text output) keeps.files judged }
+judged_as ask before read after text (answer.Accepted instances) is keeps judged =
+    record { text = text; is_text = is; judges = subst (λ (told : Told). Means told text (map listed_as instances.items)) keeps.files judged }
 judged_as ask before read after text (answer.Refused line) is keeps judged =
     record { text = text; is_text = is; judges = subst (λ (told : Told). IsRefusalOf (depth_asked ask) told text line.items) keeps.files judged }
 judged_as ask before read after text (answer.Unread line) is keeps judged = inr (record {
@@ -62,10 +63,21 @@ pub answered : (ask : Ask) (before read after : FolderData) (text slice : List �
 answered ask before read after text slice a is_text keeps is judged =
     judged_as ask before read after text a is_text keeps (subst (λ (t : List ℕ). Judges (depth_asked ask) read after t a) is judged)
 
+-- nothing was read before
+pub untouched : (at : FolderData) → Keeps at at
+untouched at = record {
+  files = refl;
+  absences = omega arith;
+  faults = omega arith;
+  overruns = omega arith;
+  steady = refl;
+  calm = λ steady. refl;
+}
+
 -- it was not read
 pub unread : (file : List ℕ) (depth : ℕ) (only : Option Format) (before after : FolderData) (cause : ReadCause) (a : Answer)
     → IsCauseOf cause file before.files → Raised cause before after → SaysUnread file cause a → Answers (run file depth only) before after a
-unread file depth only before after cause (answer.Accepted output) holds raised bad = absurd bad
+unread file depth only before after cause (answer.Accepted instances) holds raised bad = absurd bad
 unread file depth only before after cause (answer.Refused line) holds raised bad = absurd bad
 unread file depth only before after cause (answer.Unread line) holds raised says =
     inl (record { cause = cause; holds = holds; raised = raised; line_is = says })

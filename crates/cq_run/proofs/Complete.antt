@@ -16,8 +16,9 @@ use Rattle.cq_program.specs.declared.reason.ReadCause.TheVariants.{Absent, TooLo
 use Rattle.cq_run.proofs.OneTranscript.{one_tree}
 use Rattle.cq_run.specs.Ask.{depth_asked}
 use Rattle.cq_run.specs.Clause.{AreSteady, CanSucceed, ExportsSome, FailsToWrite, HasText, HasToWrite, IsCauseOf, IsTextOf, IsUnreadLine, LacksText, RunGives, Succeeds, file_limit}
-use Rattle.cq_run.specs.Meaning.{IsAcceptable, IsTreeOf, Means, MissesFile, transcripts_of}
+use Rattle.cq_run.specs.Meaning.{IsAcceptable, IsTreeOf, Means, MissesFile}
 use Rattle.cq_run.specs.Scene.{Scene}
+use Rattle.cq_run.specs.Summary.{shown_of}
 use Rattle.cq_run.specs.declared.status.Status.{Status}
 use Rattle.cq_run.specs.declared.status.Status.TheVariants as status
 use Rattle.cq_syntax.specs.declared.program.Program.{Program}
@@ -50,13 +51,13 @@ one_text (run file depth only) (Some files) text other there is =
     let found = there.found in
     let same = is.found in
     cc
-one_text (example size) told text other there is = absurd there
+one_text (example size) told text other there is = is ∙ sym there.is_text
 one_text (explain file instance left right depth) told text other there is = absurd there
 
 -- the files are told
 tells_files : (ask : Ask) (told : Told) (text : List ℕ) → HasText ask told text → (files : List File) × (told ≡ Some files)
 tells_files (run file depth only) told text there = (there.files, there.tells)
-tells_files (example size) told text there = absurd there
+tells_files (example size) told text there = (there.files, there.tells)
 tells_files (explain file instance left right depth) told text there = absurd there
 
 -- a file that is there and can be read has no cause to be unread
@@ -112,13 +113,13 @@ no_loss spare room bytes is fits lacks =
     let short : room < length bytes = rw is at lacks in
     absurd (omega arith)
 
--- the transcripts of what the text means fit
-abbrev Fits : Told → List ℕ → ℕ → Type 0
-Fits told text room = (listings : List Listing) → Means told text listings → length (transcripts_of listings) ≤ room
+-- what is written of what the text means fits
+abbrev Fits : Ask → Told → List ℕ → ℕ → Type 0
+Fits ask told text room = (listings : List Listing) → Means told text listings → length (shown_of ask listings) ≤ room
 
 -- where a run can succeed, what it has to write fits
 fits_due : (ask : Ask) (before after : FolderData) (text line : List ℕ) (room : ℕ) (wanted : Status) → HasText ask before.files text
-    → before.steady ≡ true → IsAcceptable (depth_asked ask) before.files text → Fits before.files text room → HasToWrite (Some ask) before after wanted line
+    → before.steady ≡ true → IsAcceptable (depth_asked ask) before.files text → Fits ask before.files text room → HasToWrite (Some ask) before after wanted line
     → length line ≤ room
 fits_due ask before after text line room status.Ok there steady acceptable fits due =
     let same = one_text ask before.files text due.text there due.is_text in
@@ -136,8 +137,9 @@ not_written ask before after can is fails =
     let there : HasText ask before.folder.files can.text = subst (λ (a : Ask). HasText a before.folder.files can.text) is can.there in
     let acceptable : IsAcceptable (depth_asked ask) before.folder.files can.text =
     subst (λ (a : Ask). IsAcceptable (depth_asked a) before.folder.files can.text) is can.acceptable in
+    let fits : Fits ask before.folder.files can.text can.room = subst (λ (a : Ask). Fits a before.folder.files can.text can.room) is can.fits in
     no_loss before.out.spare can.room fails.line can.spare
-    (fits_due ask before.folder after.folder can.text fails.line can.room fails.wanted there can.folder acceptable can.fits fails.due) fails.loses.no_room
+    (fits_due ask before.folder after.folder can.text fails.line can.room fails.wanted there can.folder acceptable fits fails.due) fails.loses.no_room
 
 not_exported : (ask : Ask) (before after : Scene) → AreSteady before.outlets.exporters → ExportsSome (Some ask) before after handed.Spoiled → ⊥
 not_exported ask before after steady exports =

@@ -3,21 +3,20 @@ use Rattle.std.proofs.Common.{◌≡◌, ◌≤◌, inl, inr, ℕ, List, Option,
 use Rattle.std.specs.Prelude.{IfSome}
 use Rattle.cq_export.specs.Files.{Files}
 use Rattle.cq_export.specs.Handing.{HandsOver}
-use Rattle.cq_export.specs.Held.{files_held}
 use Rattle.cq_export.specs.declared.handing.Handed.{Handed}
 use Rattle.cq_export.specs.declared.handing.Handed.TheVariants as handed
 use Rattle.cq_io.specs.Account.{Account}
 use Rattle.cq_io.specs.Writes.{Appends, LacksRoom}
 use Rattle.cq_program.specs.Program.{Listing}
 use Rattle.cq_run.specs.Ask.{depth_asked}
-use Rattle.cq_run.specs.Answer.{IsOutputOf, IsRefusalOf}
+use Rattle.cq_run.specs.Answer.{IsRefusalOf}
 use Rattle.cq_run.specs.Clause.{HasToWrite, IsTextOf, IsUnreadLine, KeepsAll, RunGives, WritesLine, kept_of}
 use Rattle.cq_run.specs.Files.{files_of}
 use Rattle.cq_run.specs.Lines.{usage_line}
-use Rattle.cq_run.specs.Meaning.{Means, RefusesText, transcripts_of}
+use Rattle.cq_run.specs.Meaning.{Means, RefusesText}
 use Rattle.cq_run.specs.Scene.{Drain, Outlets, Scene}
+use Rattle.cq_run.specs.Summary.{shown_of}
 use Rattle.cq_run.specs.Writing.{Stage, Tells, handed_over, no_room, no_sink, status_of}
-use Rattle.cq_run.specs.declared.output.Output.{Output}
 use Rattle.cq_run.specs.declared.status.Status.{Status}
 use Rattle.cq_run.specs.declared.status.Status.TheVariants as status
 use Rattle.cq_words.specs.Ask.{Ask}
@@ -76,7 +75,7 @@ kept_outlets ask outlets = record { exporters = kept_of (Some ask) outlets.expor
 
 handed_gives : (ask : Ask) (before after : Scene) (text : List ℕ) (listings : List Listing) (ended : Handed)
     → IsTextOf ask before.folder.files text → Means before.folder.files text listings
-    → Appends before.out.held after.out.held (transcripts_of listings)
+    → Appends before.out.held after.out.held (shown_of ask listings)
     → HandsOver (files_of listings) (kept_of (Some ask) before.outlets.exporters) after.outlets.exporters before.outlets.spoiled after.outlets.spoiled ended
     → RunGives (Some ask) before after (status_of ended)
 handed_gives ask before after text listings handed.Whole is_text means written hands =
@@ -89,7 +88,7 @@ handed_gives ask before after text listings handed.Memory is_text means written 
 -- what the text means was exported, as far as it went
 export_gives : (ask : Ask) (before after : Scene) (text : List ℕ) (listings : List Listing) (result : Status)
     → IsTextOf ask before.folder.files text → Means before.folder.files text listings
-    → Stage (files_of listings) (transcripts_of listings) before.out after.out (kept_outlets ask before.outlets) after.outlets result
+    → Stage (files_of listings) (shown_of ask listings) before.out after.out (kept_outlets ask before.outlets) after.outlets result
     → RunGives (Some ask) before after result
 export_gives ask before after text listings _ is_text means (no_room out outlets) = inl (record {
   out = out;
@@ -98,7 +97,7 @@ export_gives ask before after text listings _ is_text means (no_room out outlets
 })
 export_gives ask before after text listings _ is_text means (no_sink loses outlets) = inl (record {
   wanted = status.Ok;
-  line = transcripts_of listings;
+  line = shown_of ask listings;
   due = record { text = text; is_text = is_text; listings = listings; means = means; line_is = refl };
   loses = loses;
   keeps = record { exporters = ap (λ (o : Outlets). o.exporters) outlets; spoiled = ap (λ (o : Outlets). o.spoiled) outlets };
@@ -106,15 +105,14 @@ export_gives ask before after text listings _ is_text means (no_sink loses outle
 export_gives ask before after text listings _ is_text means (handed_over ended written hands) =
     handed_gives ask before after text listings ended is_text means written hands
 
--- the output of the accepted text was exported
-pub output_gives : (asked : Option Ask) (ask : Ask) (before after : Scene) (text : List ℕ) (output : Output) (result : Status) (outlets : Outlets)
-    → Some ask ≡ asked → IsTextOf ask before.folder.files text → IsOutputOf before.folder.files text output
-    → Stage (files_held output.files) output.transcript.items before.out after.out outlets after.outlets result
+-- the instances that the accepted text means were exported
+pub instances_give : (asked : Option Ask) (ask : Ask) (before after : Scene) (text : List ℕ) (listings slice : List Listing) (result : Status)
+    (outlets : Outlets) → Some ask ≡ asked → IsTextOf ask before.folder.files text → Means before.folder.files text listings → slice ≡ listings
+    → Stage (files_of slice) (shown_of ask slice) before.out after.out outlets after.outlets result
     → outlets.exporters ≡ kept_of (Some ask) before.outlets.exporters → outlets.spoiled ≡ before.outlets.spoiled
     → RunGives asked before after result
-output_gives asked ask before after text output result outlets is is_text is_output stage exporters spoiled =
-    rw (← is) (export_gives ask before after text is_output.listings result is_text is_output.means
-    (rw (← is_output.prints.files, ← is_output.prints.transcript, ← exporters, ← spoiled) stage))
+instances_give asked ask before after text listings slice result outlets is is_text means same stage exporters spoiled =
+    rw (← is) (export_gives ask before after text listings result is_text means (rw (← same, ← exporters, ← spoiled) stage))
 
 module _ {B : Type 0} where
   -- the files were handed over, after room was made

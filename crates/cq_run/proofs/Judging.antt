@@ -36,7 +36,7 @@ not_sound depth told tree line breach sound = sound.unbroken breach.place breach
 pub by_tree : (depth : ℕ) (before after : FolderData) (tokens : List Token) (tree : Program) (a : Answer) → IsTreeIn tokens tree
     → ((other : Program) → IsProgram tokens other → FitsLimits other → tree ≡ other)
     → JudgesProgram depth before after tree a → JudgesTokens depth before after tokens a
-by_tree depth before after tokens tree (answer.Accepted output) is only prints = (tree, is, prints)
+by_tree depth before after tokens tree (answer.Accepted instances) is only means = (tree, is, means)
 by_tree depth before after tokens tree (answer.Refused line) is only breaks = (
   broken tree is breaks,
   λ sound. not_sound depth before.files tree line.items breaks
@@ -60,7 +60,7 @@ by_rule depth before after tree refusal place reason line is refuses says = reco
 pub by_file : (depth : ℕ) (before after : FolderData) (tree : Program) (refusal : ProgramRefusal) (file : String Global) (cause : ReadCause)
     (name : List ℕ) (a : Answer) → refusal ≡ program_refusal.Read file cause → RefusesProgram depth before after tree refusal → name ≡ string_bytes file
     → SaysUnread name cause a → JudgesProgram depth before after tree a
-by_file depth before after tree refusal file cause name (answer.Accepted output) is refuses named bad = absurd bad
+by_file depth before after tree refusal file cause name (answer.Accepted instances) is refuses named bad = absurd bad
 by_file depth before after tree refusal file cause name (answer.Refused line) is refuses named bad = absurd bad
 by_file depth before after tree refusal file cause name (answer.Unread line) is refuses named says =
     let lacks = subst (λ (r : ProgramRefusal). RefusesProgram depth before after tree r) is refuses in
@@ -83,19 +83,19 @@ pub by_parser : (depth : ℕ) (before after : FolderData) (tokens : List Token) 
     → ((other : Program) → IsProgram tokens other → FitsLimits other → refusal ≡ grammatical.Memory)
     → TellsParse refusal a → JudgesTokens depth before after tokens a
 by_parser depth before after tokens grammatical.Memory a is only says = subst (JudgesTokens depth before after tokens) (sym says) tt
-by_parser depth before after tokens (grammatical.Syntax place) (answer.Accepted output) is only bad = absurd bad
+by_parser depth before after tokens (grammatical.Syntax place) (answer.Accepted instances) is only bad = absurd bad
 by_parser depth before after tokens (grammatical.Syntax place) (answer.Unread line) is only bad = absurd bad
 by_parser depth before after tokens (grammatical.Syntax place) answer.Memory is only says = tt
 by_parser depth before after tokens (grammatical.Syntax place) (answer.Refused line) is only says = told_parse depth before.files tokens (grammatical.Syntax place) line.items is says (λ sound. let m = only sound.0 sound.1.0 sound.1.1 in absurd (cc m))
-by_parser depth before after tokens (grammatical.TooDeep place) (answer.Accepted output) is only bad = absurd bad
+by_parser depth before after tokens (grammatical.TooDeep place) (answer.Accepted instances) is only bad = absurd bad
 by_parser depth before after tokens (grammatical.TooDeep place) (answer.Unread line) is only bad = absurd bad
 by_parser depth before after tokens (grammatical.TooDeep place) answer.Memory is only says = tt
 by_parser depth before after tokens (grammatical.TooDeep place) (answer.Refused line) is only says = told_parse depth before.files tokens (grammatical.TooDeep place) line.items is says (λ sound. let m = only sound.0 sound.1.0 sound.1.1 in absurd (cc m))
-by_parser depth before after tokens (grammatical.Unsupported place number) (answer.Accepted output) is only bad = absurd bad
+by_parser depth before after tokens (grammatical.Unsupported place number) (answer.Accepted instances) is only bad = absurd bad
 by_parser depth before after tokens (grammatical.Unsupported place number) (answer.Unread line) is only bad = absurd bad
 by_parser depth before after tokens (grammatical.Unsupported place number) answer.Memory is only says = tt
 by_parser depth before after tokens (grammatical.Unsupported place number) (answer.Refused line) is only says = told_parse depth before.files tokens (grammatical.Unsupported place number) line.items is says (λ sound. let m = only sound.0 sound.1.0 sound.1.1 in absurd (cc m))
-by_parser depth before after tokens (grammatical.BadOption place) (answer.Accepted output) is only bad = absurd bad
+by_parser depth before after tokens (grammatical.BadOption place) (answer.Accepted instances) is only bad = absurd bad
 by_parser depth before after tokens (grammatical.BadOption place) (answer.Unread line) is only bad = absurd bad
 by_parser depth before after tokens (grammatical.BadOption place) answer.Memory is only says = tt
 by_parser depth before after tokens (grammatical.BadOption place) (answer.Refused line) is only says = told_parse depth before.files tokens (grammatical.BadOption place) line.items is says (λ sound. let m = only sound.0 sound.1.0 sound.1.1 in absurd (cc m))
@@ -105,11 +105,8 @@ lexed_as : (depth : ℕ) (before after : FolderData) (bytes : List ℕ) (tokens 
     → ((others : List Token) → lex.Tokens bytes others → tokens ≡ others)
     → JudgesTokens depth before after tokens a → Judges depth before after bytes a
 unfolding Means IsAcceptable
-lexed_as depth before after bytes tokens (answer.Accepted output) lexed only judged = record {
-  listings = judged.2.listings;
-  means = (judged.0, record { tokens = tokens; lexed = lexed; spelled = judged.1 }, judged.2.means);
-  prints = judged.2.prints;
-}
+lexed_as depth before after bytes tokens (answer.Accepted instances) lexed only judged =
+    (judged.0, record { tokens = tokens; lexed = lexed; spelled = judged.1 }, judged.2)
 lexed_as depth before after bytes tokens (answer.Refused line) lexed only judged = record {
   refuses = no_program tokens lexed judged.0;
   other = λ a. judged.1 (a.0, subst (λ z. IsTreeIn z a.0) (sym (only a.1.tokens a.1.lexed)) a.1.spelled, a.2);
@@ -135,19 +132,19 @@ pub by_lexer : (depth : ℕ) (before after : FolderData) (bytes : List ℕ) (ref
     → ((others : List Token) → lex.Tokens bytes others → refusal ≡ lexical.Memory)
     → TellsLex refusal a → Judges depth before after bytes a
 by_lexer depth before after bytes lexical.Memory a is only says = subst (Judges depth before after bytes) (sym says) tt
-by_lexer depth before after bytes (lexical.BadByte place) (answer.Accepted output) is only bad = absurd bad
+by_lexer depth before after bytes (lexical.BadByte place) (answer.Accepted instances) is only bad = absurd bad
 by_lexer depth before after bytes (lexical.BadByte place) (answer.Unread line) is only bad = absurd bad
 by_lexer depth before after bytes (lexical.BadByte place) answer.Memory is only says = tt
 by_lexer depth before after bytes (lexical.BadByte place) (answer.Refused line) is only says = told_lex depth before.files bytes (lexical.BadByte place) line.items is says (λ others lexed. let m = only others lexed in absurd (cc m))
-by_lexer depth before after bytes (lexical.OpenText place) (answer.Accepted output) is only bad = absurd bad
+by_lexer depth before after bytes (lexical.OpenText place) (answer.Accepted instances) is only bad = absurd bad
 by_lexer depth before after bytes (lexical.OpenText place) (answer.Unread line) is only bad = absurd bad
 by_lexer depth before after bytes (lexical.OpenText place) answer.Memory is only says = tt
 by_lexer depth before after bytes (lexical.OpenText place) (answer.Refused line) is only says = told_lex depth before.files bytes (lexical.OpenText place) line.items is says (λ others lexed. let m = only others lexed in absurd (cc m))
-by_lexer depth before after bytes (lexical.OpenComment place) (answer.Accepted output) is only bad = absurd bad
+by_lexer depth before after bytes (lexical.OpenComment place) (answer.Accepted instances) is only bad = absurd bad
 by_lexer depth before after bytes (lexical.OpenComment place) (answer.Unread line) is only bad = absurd bad
 by_lexer depth before after bytes (lexical.OpenComment place) answer.Memory is only says = tt
 by_lexer depth before after bytes (lexical.OpenComment place) (answer.Refused line) is only says = told_lex depth before.files bytes (lexical.OpenComment place) line.items is says (λ others lexed. let m = only others lexed in absurd (cc m))
-by_lexer depth before after bytes (lexical.LongName place) (answer.Accepted output) is only bad = absurd bad
+by_lexer depth before after bytes (lexical.LongName place) (answer.Accepted instances) is only bad = absurd bad
 by_lexer depth before after bytes (lexical.LongName place) (answer.Unread line) is only bad = absurd bad
 by_lexer depth before after bytes (lexical.LongName place) answer.Memory is only says = tt
 by_lexer depth before after bytes (lexical.LongName place) (answer.Refused line) is only says = told_lex depth before.files bytes (lexical.LongName place) line.items is says (λ others lexed. let m = only others lexed in absurd (cc m))

@@ -1,6 +1,8 @@
 mod Kept
 mod Filed
 mod Gives
+mod Counting
+mod Pushed
 mod Complete
 mod Judging
 mod Answered

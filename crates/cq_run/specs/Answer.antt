@@ -1,31 +1,27 @@
 -- What reading and judging a text gives, before anything is written.
-use Rattle.std.specs.Prelude.{◌≡◌, ℕ, List}
+use Rattle.std.specs.Prelude.{◌≡◌, ℕ, List, map}
 use Rattle.cq_export.specs.Held.{files_held}
 use Rattle.cq_import.specs.Folders.{FolderData}
 use Rattle.cq_program.specs.Folders.{Told}
+use Rattle.cq_program.specs.Named.{listed_as}
 use Rattle.cq_program.specs.Program.{Listing}
 use Rattle.cq_program.specs.declared.reason.ReadCause.{ReadCause}
 use Rattle.cq_run.specs.Ask.{depth_asked}
 use Rattle.cq_run.specs.Clause.{IsTextOf, IsUnreadLine}
 use Rattle.cq_run.specs.Files.{files_of}
 use Rattle.cq_run.specs.Lines.{read_line}
-use Rattle.cq_run.specs.Meaning.{Means, IsAcceptable, IsTreeOf, MissesFile, RefusesText, transcripts_of}
+use Rattle.cq_run.specs.Meaning.{Means, IsAcceptable, IsTreeOf, MissesFile, RefusesText}
 use Rattle.cq_run.specs.declared.answer.Answer.{Answer}
 use Rattle.cq_run.specs.declared.answer.Answer.TheVariants as answer
 use Rattle.cq_run.specs.declared.output.Output.{Output}
+use Rattle.cq_run.specs.Summary.{shown_of}
 use Rattle.cq_syntax.specs.declared.program.Program.{Program}
 use Rattle.cq_words.specs.Ask.{Ask}
 
 -- the output is that of these instances
-pub record Prints (listings : List Listing) (output : Output) : Type 0 where
-  pub transcript : output.transcript.items ≡ transcripts_of listings
+pub record Prints (ask : Ask) (listings : List Listing) (output : Output) : Type 0 where
+  pub shown : output.shown.items ≡ shown_of ask listings
   pub files : files_held output.files ≡ files_of listings
-
--- the output is that of what the text means
-pub record IsOutputOf (told : Told) (text : List ℕ) (output : Output) : Type 0 where
-  pub listings : List Listing
-  pub means : Means told text listings
-  pub prints : Prints listings output
 
 -- the text is refused, with this line
 pub record IsRefusalOf (depth : ℕ) (told : Told) (text line : List ℕ) : Type 0 where
@@ -34,7 +30,7 @@ pub record IsRefusalOf (depth : ℕ) (told : Told) (text line : List ℕ) : Type
 
 -- how a text is judged, over the folder before and after
 abbrev pub Judges : ℕ → FolderData → FolderData → List ℕ → Answer → Type 0
-Judges depth before after text (answer.Accepted output) = IsOutputOf before.files text output
+Judges depth before after text (answer.Accepted instances) = Means before.files text (map listed_as instances.items)
 Judges depth before after text (answer.Refused line) = IsRefusalOf depth before.files text line.items
 Judges depth before after text (answer.Unread line) = (tree : Program) × IsTreeOf text tree × MissesFile before after tree line.items
 Judges depth before after text answer.Memory = Unit {0}
@@ -46,7 +42,7 @@ pub record JudgesSome (ask : Ask) (before after : FolderData) (answer : Answer) 
 
 -- what the answer to a request is
 abbrev pub Answers : Ask → FolderData → FolderData → Answer → Type 0
-Answers ask before after (answer.Accepted output) = JudgesSome ask before after (answer.Accepted output)
+Answers ask before after (answer.Accepted instances) = JudgesSome ask before after (answer.Accepted instances)
 Answers ask before after (answer.Refused line) = JudgesSome ask before after (answer.Refused line)
 Answers ask before after (answer.Unread line) = IsUnreadLine ask before after line.items
 Answers ask before after answer.Memory = Unit {0}

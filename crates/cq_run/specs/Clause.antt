@@ -2,6 +2,7 @@
 use Rattle.std.specs.Prelude.{◌≡◌, ◌⊎◌, ◌≤◌, ℕ, length, true, List, [], ◌∷◌, Some, None, IfSome, filter}
 use Rattle.std.specs.declared.option.Option.{Option}
 use Rattle.cq_run.specs.Choice.{is_kept}
+use Rattle.cq_example.specs.Text.{text_of}
 use Rattle.cq_export.specs.Handing.{HandsOver}
 use Rattle.cq_export.specs.declared.handing.Handed.{Handed}
 use Rattle.cq_export.specs.declared.handing.Handed.TheVariants as handed
@@ -18,8 +19,9 @@ use Rattle.cq_program.specs.declared.reason.ReadCause.TheVariants.{Absent, TooLo
 use Rattle.cq_run.specs.Ask.{depth_asked, only_asked}
 use Rattle.cq_run.specs.Files.{files_of}
 use Rattle.cq_run.specs.Lines.{usage_line, read_line}
-use Rattle.cq_run.specs.Meaning.{Means, IsAcceptable, IsTreeOf, MissesFile, RefusesText, transcripts_of}
+use Rattle.cq_run.specs.Meaning.{Means, IsAcceptable, IsTreeOf, MissesFile, RefusesText}
 use Rattle.cq_run.specs.Scene.{Drain, Outlets, Scene}
+use Rattle.cq_run.specs.Summary.{shown_of}
 use Rattle.cq_run.specs.declared.status.Status.{Status}
 use Rattle.cq_run.specs.declared.status.Status.TheVariants as status
 use Rattle.cq_syntax.specs.declared.program.Program.{Program}
@@ -34,10 +36,10 @@ pub record IsTextIn (file : List ℕ) (told : Told) (text : List ℕ) : Type 0 w
   pub found : IfSome told (λ files. find_file file files ≡ Some text)
   pub short : length text ≤ file_limit
 
--- the text of a run is that of its file
+-- the text of a run is that of its file, or of the example of its size
 abbrev pub IsTextOf : Ask → Told → List ℕ → Type 0
 IsTextOf (run file depth only) told text = IsTextIn file told text
-IsTextOf (example size) told text = ⊥
+IsTextOf (example size) told text = text ≡ text_of size
 IsTextOf (explain file instance left right depth) told text = ⊥
 
 -- what the cause says of the file, where the folder tells its files: it is missing, or longer than the limit
@@ -46,13 +48,13 @@ IsCauseOf Absent file told = IfSome told (λ files. find_file file files ≡ Non
 IsCauseOf TooLong file told = IfSome told (IsLonger file file_limit)
 IsCauseOf Failed file told = Unit {0}
 
--- the line is the transcripts of the instances that the text of the run means
+-- the line is what the run writes of the instances that its text means
 pub record IsAccepted (ask : Ask) (told : Told) (line : List ℕ) : Type 0 where
   pub text : List ℕ
   pub is_text : IsTextOf ask told text
   pub listings : List Listing
   pub means : Means told text listings
-  pub line_is : line ≡ transcripts_of listings
+  pub line_is : line ≡ shown_of ask listings
 
 -- the text of the run is refused, with this line, and is none that would be accepted
 pub record IsRefused (ask : Ask) (told : Told) (line : List ℕ) : Type 0 where
@@ -124,13 +126,13 @@ pub record FailsToWrite (ask : Option Ask) (before after : Scene) : Type 0 where
   pub loses : Loses before.out after.out line
   pub keeps : KeepsAll ask before.outlets after.outlets
 
--- the text was accepted, the transcripts of what it means were written whole, once, and its files were handed to the kept exporters
+-- the text was accepted, what the run writes of its instances was written whole, once, and their files were handed to the kept exporters
 pub record Exports (ask : Ask) (before after : Scene) (ended : Handed) : Type 0 where
   pub text : List ℕ
   pub is_text : IsTextOf ask before.folder.files text
   pub listings : List Listing
   pub means : Means before.folder.files text listings
-  pub written : Appends before.out.held after.out.held (transcripts_of listings)
+  pub written : Appends before.out.held after.out.held (shown_of ask listings)
   pub hands : HandsOver (files_of listings) (kept_of (Some ask) before.outlets.exporters) after.outlets.exporters before.outlets.spoiled
       after.outlets.spoiled ended
 
@@ -153,16 +155,22 @@ RunGives ask before after status.Read = WritesLine ask before after status.Read
 RunGives ask before after status.Write = FailsToWrite ask before after ⊎ ExportsSome ask before after handed.Spoiled
 RunGives ask before after status.Memory = GivesUp ask before after ⊎ ExportsSome ask before after handed.Memory
 
--- the text of a run, where the folder tells it within the limit
+-- the text of a file, where the folder tells it within the limit
 pub record IsToldWithin (file : List ℕ) (told : Told) (text : List ℕ) : Type 0 where
   pub files : List File
   pub tells : told ≡ Some files
   pub found : find_file file files ≡ Some text
   pub short : length text ≤ file_limit
 
+-- the text of the example, where the folder tells its files
+pub record IsExample (size : ℕ) (told : Told) (text : List ℕ) : Type 0 where
+  pub files : List File
+  pub tells : told ≡ Some files
+  pub is_text : text ≡ text_of size
+
 abbrev pub HasText : Ask → Told → List ℕ → Type 0
 HasText (run file depth only) told text = IsToldWithin file told text
-HasText (example size) told text = ⊥
+HasText (example size) told text = IsExample size told text
 HasText (explain file instance left right depth) told text = ⊥
 
 -- none of the exporters ever fails
@@ -171,7 +179,7 @@ AreSteady [] = Unit {0}
 AreSteady (exporter ∷ exporters) = (exporter.steady ≡ true) × AreSteady exporters
 
 -- the words are read, the text is there, has a meaning over the files that are told, breaks no rule and passes no limit at their depth, no
--- device fails, and the sink has room for the transcripts
+-- device fails, and the sink has room for what is to be written
 pub record CanSucceed (ask : Option Ask) (before : Scene) : Type 0 where
   pub wanted : Ask
   pub asked : ask ≡ Some wanted
@@ -181,7 +189,7 @@ pub record CanSucceed (ask : Option Ask) (before : Scene) : Type 0 where
   pub folder : before.folder.steady ≡ true
   pub room : ℕ
   pub spare : before.out.spare ≡ Some room
-  pub fits : (listings : List Listing) → Means before.folder.files text listings → length (transcripts_of listings) ≤ room
+  pub fits : (listings : List Listing) → Means before.folder.files text listings → length (shown_of wanted listings) ≤ room
   pub exporters : AreSteady before.outlets.exporters
 
 -- such a run succeeds, or has no memory

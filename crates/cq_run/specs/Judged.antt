@@ -1,5 +1,5 @@
 -- How the steps of judging a text answer.
-use Rattle.std.specs.Prelude.{◌≡◌, ℕ, List}
+use Rattle.std.specs.Prelude.{◌≡◌, ℕ, List, map}
 use Rattle.cq_lex.specs.declared.token.Token.{Token}
 use Rattle.cq_lex.specs.declared.refusal.LexRefusal.{LexRefusal}
 use Rattle.cq_lex.specs.declared.refusal.LexRefusal.TheVariants as lexical
@@ -8,23 +8,15 @@ use Rattle.cq_parse.specs.declared.refusal.ParseRefusal.TheVariants as grammatic
 use Rattle.cq_syntax.specs.declared.program.Program.{Program}
 use Rattle.cq_import.specs.Folders.{FolderData}
 use Rattle.cq_program.specs.Folders.{Told}
+use Rattle.cq_program.specs.Named.{listed_as}
 use Rattle.cq_program.specs.Program as program
-use Rattle.cq_program.specs.Program.{Listing}
-use Rattle.cq_run.specs.Answer.{Prints}
 use Rattle.cq_run.specs.Meaning.{IsSound, IsTreeIn, BreaksRule, MissesFile, RefusesTokens, lex_line, parse_line}
 use Rattle.cq_run.specs.declared.answer.Answer.{Answer}
 use Rattle.cq_run.specs.declared.answer.Answer.TheVariants as answer
-use Rattle.cq_run.specs.declared.output.Output.{Output}
-
--- the output is that of what the program means
-pub record PrintsProgram (told : Told) (tree : Program) (output : Output) : Type 0 where
-  pub listings : List Listing
-  pub means : program.Means told tree listings
-  pub prints : Prints listings output
 
 -- how a program is judged, over the folder before and after
 abbrev pub JudgesProgram : ℕ → FolderData → FolderData → Program → Answer → Type 0
-JudgesProgram depth before after tree (answer.Accepted output) = PrintsProgram before.files tree output
+JudgesProgram depth before after tree (answer.Accepted instances) = program.Means before.files tree (map listed_as instances.items)
 JudgesProgram depth before after tree (answer.Refused line) = BreaksRule depth before.files tree line.items
 JudgesProgram depth before after tree (answer.Unread line) = MissesFile before after tree line.items
 JudgesProgram depth before after tree answer.Memory = Unit {0}
@@ -35,8 +27,8 @@ AreSound depth told tokens = (tree : Program) × IsTreeIn tokens tree × IsSound
 
 -- how tokens are judged
 abbrev pub JudgesTokens : ℕ → FolderData → FolderData → List Token → Answer → Type 0
-JudgesTokens depth before after tokens (answer.Accepted output) = (tree : Program) × IsTreeIn tokens tree
-    × PrintsProgram before.files tree output
+JudgesTokens depth before after tokens (answer.Accepted instances) = (tree : Program) × IsTreeIn tokens tree
+    × program.Means before.files tree (map listed_as instances.items)
 JudgesTokens depth before after tokens (answer.Refused line) = RefusesTokens depth before.files tokens line.items
     × (AreSound depth before.files tokens → ⊥)
 JudgesTokens depth before after tokens (answer.Unread line) = (tree : Program) × IsTreeIn tokens tree

@@ -5,6 +5,7 @@ pub mod Lines
 pub mod Files
 pub mod Choice
 pub mod Meaning
+pub mod Summary
 pub mod Clause
 pub mod Writing
 pub mod Answer

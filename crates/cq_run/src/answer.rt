@@ -1,21 +1,24 @@
-//! Reading the text of a file, and judging it.
+//! Reading or making the text of a run, and judging it.
 ghost use Rattle.std.specs.Prelude.{◌≡◌, ◌≤◌, IfOk};
-ghost use Rattle.cq_run.specs.Ask.{ask_of};
+ghost use Rattle.std.specs.declared.option.Option.{Option};
+ghost use Rattle.cq_io.specs.declared.format.Format.{Format};
+ghost use Rattle.cq_run.specs.Ask.{IsInRange, ask_of};
 ghost use Rattle.cq_run.specs.Answer.{Answers, SaysUnread};
 ghost use Rattle.cq_run.specs.Lines.{read_line};
+ghost use Rattle.cq_words.specs.Ask.{example, run};
 
 use crate::judge::judge;
 use crate::order::Order;
-use crate::output::Output;
+use cq_example::example_text;
 use cq_io::{Folder, ReadRefusal};
-use cq_program::ReadCause;
+use cq_program::{Named, ReadCause};
 use std::alloc::{AllocError, Global};
 
-/// What is to be written, by what became of the file.
+/// What becomes of a run before anything is written.
 #[derive(Drop)]
 pub enum Answer {
-    /// The transcripts and the files.
-    Accepted(Output),
+    /// The instances that the text means.
+    Accepted(Vec<Named>),
     /// The line of a refused text.
     Refused(Vec<u8>),
     /// The line of a file that was not read: the one that is run, or one that an import reads.
@@ -26,9 +29,12 @@ pub enum Answer {
 /// The most bytes of a program file: 8 MiB.
 const FILE_LIMIT: u64 = 8388608;
 
-/// Reads the file, and judges its text with models made to the depth.
+/// The depth to which the models of an example are made.
+const EXAMPLE_DEPTH: u32 = 16;
+
+/// Reads the file or makes the text of the example, and judges it with models made to the depth.
 pub fn answer_to<F: Folder>(alloc: Global, order: Order<'_>, folder: &mut F) -> Answer
-    requires { order.depth ≤ 64 }
+    requires { IsInRange order }
     ensures files { F.files folder.new ≡ F.files folder.old }
     ensures answers { Answers (ask_of order.entry)
         (record {
@@ -47,13 +53,67 @@ pub fn answer_to<F: Folder>(alloc: Global, order: Order<'_>, folder: &mut F) -> 
         })
         result }
 {
-    let file = order.file;
+    match order {
+        Order::File { name, depth, .. } => answer_to_file(alloc, name, depth, folder),
+        Order::Example(size) => answer_to_example(alloc, size, folder),
+    }
+}
+
+/// Reads the file, and judges its text.
+fn answer_to_file<F: Folder>(alloc: Global, file: &str, depth: u32, folder: &mut F) -> Answer
+    requires { depth ≤ 64 }
+    ensures files { F.files folder.new ≡ F.files folder.old }
+    ensures answers { (only : Option Format) → Answers (run file.now depth only)
+        (record {
+          files = F.files folder.old;
+          absences = F.absences folder.old;
+          faults = F.faults folder.old;
+          overruns = F.overruns folder.old;
+          steady = F.steady folder.old;
+        })
+        (record {
+          files = F.files folder.new;
+          absences = F.absences folder.new;
+          faults = F.faults folder.new;
+          overruns = F.overruns folder.new;
+          steady = F.steady folder.new;
+        })
+        result }
+{
     match folder.read(file, FILE_LIMIT) {
-        Ok(text) => judge(alloc, text.as_slice(), order.depth, folder),
+        Ok(text) => judge(alloc, text.as_slice(), depth, folder),
         Err(ReadRefusal::Absent) => unread(alloc, file, ReadCause::Absent),
         Err(ReadRefusal::TooLong) => unread(alloc, file, ReadCause::TooLong),
         Err(ReadRefusal::Failed) => unread(alloc, file, ReadCause::Failed),
         Err(ReadRefusal::Memory) => Answer::Memory,
+    }
+}
+
+/// Makes the text of the example, and judges it.
+fn answer_to_example<F: Folder>(alloc: Global, size: u32, folder: &mut F) -> Answer
+    requires some { 1 ≤ size }
+    requires most { size ≤ 199999 }
+    ensures files { F.files folder.new ≡ F.files folder.old }
+    ensures answers { Answers (example size)
+        (record {
+          files = F.files folder.old;
+          absences = F.absences folder.old;
+          faults = F.faults folder.old;
+          overruns = F.overruns folder.old;
+          steady = F.steady folder.old;
+        })
+        (record {
+          files = F.files folder.new;
+          absences = F.absences folder.new;
+          faults = F.faults folder.new;
+          overruns = F.overruns folder.new;
+          steady = F.steady folder.new;
+        })
+        result }
+{
+    match example_text(alloc, size) {
+        Ok(text) => judge(alloc, text.as_slice(), EXAMPLE_DEPTH, folder),
+        Err(_) => Answer::Memory,
     }
 }
 

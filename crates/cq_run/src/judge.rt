@@ -1,5 +1,5 @@
-//! What is to be written for a text: what its instances are written as, or the line of the first rule that it breaks,
-//! or of a file that one of its imports names and that was not read.
+//! What becomes of a text: its instances, or the line of the first rule that it breaks, or of a file that one of its
+//! imports names and that was not read.
 ghost use Rattle.std.specs.Prelude.{◌≤◌, ◌^◌, ◌∷◌, length, codes, decimal, []};
 ghost use Rattle.cq_lex.specs.Spans.{EndsOnce};
 ghost use Rattle.cq_import.specs.Folders.{Keeps};
@@ -8,7 +8,6 @@ ghost use Rattle.cq_run.specs.Answer.{Judges};
 ghost use Rattle.cq_run.specs.Judged.{JudgesProgram, JudgesTokens, SaysRefused, TellsLex, TellsParse};
 
 use crate::answer::{Answer, unread};
-use crate::output::output_of;
 use cq_base::Place;
 use cq_io::Folder;
 use cq_lex::{LexRefusal, Token, lex};
@@ -17,8 +16,8 @@ use cq_program::{ProgramRefusal, has_few_parts, meaning, numbered_line, refusal_
 use cq_syntax::Program;
 use std::alloc::Global;
 
-/// What the text means, written, with models made to a depth, or the line of its first fault, or of the file of an
-/// import that was not read.
+/// The instances that the text means, with models made to a depth, or the line of its first fault, or of the file of
+/// an import that was not read.
 pub fn judge<F: Folder>(alloc: Global, text: &[u8], depth: u32, folder: &mut F) -> Answer
     requires length { length text.now ≤ 2 ^ 23 }
     requires depth { depth ≤ 64 }
@@ -141,10 +140,7 @@ fn judge_program<F: Folder>(alloc: Global, program: &Program, depth: u32, folder
         return Answer::Memory;
     }
     match meaning(alloc, program, folder, depth) {
-        Ok(named) => match output_of(alloc, named.as_slice()) {
-            Ok(output) => Answer::Accepted(output),
-            Err(_) => Answer::Memory,
-        },
+        Ok(instances) => Answer::Accepted(instances),
         Err(ProgramRefusal::Broken(place, reason)) => match reason.line(alloc, place) {
             Ok(line) => Answer::Refused(line),
             Err(_) => Answer::Memory,

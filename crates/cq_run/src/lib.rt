@@ -1,4 +1,5 @@
-//! The top call: reads the words and the file, writes the transcripts, and hands the files to the exporters.
+//! The top call: reads the words and the file, or makes the text of an example, writes the transcripts or the summary,
+//! and hands the files to the exporters.
 #![tactic(auto)]
 
 mod answer;
@@ -9,6 +10,7 @@ pub mod laws;
 mod order;
 mod output;
 mod status;
+mod summary;
 mod top;
 
 pub use status::Status;

@@ -2,28 +2,42 @@
 ghost use Rattle.std.specs.Prelude.{◌≡◌, ◌++◌, map, IfOk, OnOk};
 ghost use Rattle.cq_program.specs.Named.{listed_as};
 ghost use Rattle.cq_run.specs.Answer.{Prints};
+ghost use Rattle.cq_run.specs.Ask.{ask_of};
 ghost use Rattle.cq_run.specs.Meaning.{transcript_of, transcripts_of};
+ghost use Rattle.cq_run.specs.Summary.{shown_of};
 
 use crate::files::files_of;
+use crate::order::Order;
+use crate::summary::summary;
 use cq_export::FileLists;
 use cq_program::Named;
 use cq_text::transcript;
 use std::alloc::{AllocError, Global};
 
-/// The transcripts of instances, one behind the other, and their files.
+/// What is written of instances, and their files.
 #[derive(Drop)]
 pub struct Output {
-    pub transcript: Vec<u8>,
+    pub shown: Vec<u8>,
     pub files: FileLists,
 }
 
-/// What the instances are written as.
-pub fn output_of(alloc: Global, instances: &[Named]) -> Result<Output, AllocError>
-    ensures { IfOk result (Prints (map listed_as instances.now)) }
+/// What the instances of a run are written as.
+pub fn output_of(alloc: Global, order: Order<'_>, instances: &[Named]) -> Result<Output, AllocError>
+    ensures { IfOk result (Prints (ask_of order.entry) (map listed_as instances.now)) }
 {
-    let transcript = transcripts(alloc, instances)?;
+    let shown = show(alloc, order, instances)?;
     let files = files_of(alloc, instances)?;
-    Ok(Output { transcript, files })
+    Ok(Output { shown, files })
+}
+
+/// What is written of the instances: of a file their transcripts, of an example their summary.
+fn show(alloc: Global, order: Order<'_>, instances: &[Named]) -> Result<Vec<u8>, AllocError>
+    ensures { IfOk result (λ text. text.items ≡ shown_of (ask_of order.entry) (map listed_as instances.now)) }
+{
+    match order {
+        Order::File { .. } => transcripts(alloc, instances),
+        Order::Example(_) => summary(alloc, instances),
+    }
 }
 
 /// The transcripts of instances, in order.

@@ -1,17 +1,21 @@
 //! The top call.
 ghost use Rattle.std.specs.Prelude.{◌≡◌, map, string_bytes};
 ghost use Rattle.cq_export.specs.Held.{files_held};
-ghost use Rattle.cq_run.specs.Ask.{asked};
+ghost use Rattle.cq_program.specs.Named.{listed_as};
+ghost use Rattle.cq_run.specs.Ask.{ask_of, asked};
 ghost use Rattle.cq_run.specs.Clause.{RunGives, Succeeds};
+ghost use Rattle.cq_run.specs.Files.{files_of};
+ghost use Rattle.cq_run.specs.Summary.{shown_of};
 ghost use Rattle.cq_run.specs.Writing.{Stage, Tells};
 
 use crate::answer::{Answer, answer_to};
 use crate::choice::keep_format;
-use crate::order::order_in;
-use crate::output::Output;
+use crate::order::{Order, order_in};
+use crate::output::{Output, output_of};
 use crate::status::Status;
 use cq_export::{Handed, hand_over};
 use cq_io::{Exporter, Folder, Sink};
+use cq_program::Named;
 use std::alloc::Global;
 
 const USAGE: &str = "usage: cqlrun run FILE [--depth K] [--only csv|cql]\n";
@@ -21,6 +25,9 @@ const USAGE: &str = "usage: cqlrun run FILE [--depth K] [--only csv|cql]\n";
 /// the instances are handed to each exporter of the formats that are asked for, in turn; the others are dropped before
 /// anything is read. An exporter that fails is moved to the end of `spoiled`, and the next goes on; one that has no
 /// memory ends the run.
+///
+/// The run of an example is that of a file with its text, at depth 16, but that the summary of its instances is written
+/// in place of their transcripts.
 ///
 /// The files of an import are read when its declaration's turn comes. One that is absent, too long or can't be read
 /// ends the run as the file itself does, with `Read`.
@@ -79,12 +86,14 @@ pub fn run<F: Folder, K: Sink>(
         Err(_) => Status::Memory,
         Ok(None) => tell(out, USAGE.as_bytes(), Status::Usage),
         Ok(Some(order)) => {
-            keep_format(exporters, order.only);
+            keep_format(exporters, order.only());
             match answer_to(alloc, order, folder) {
                 Answer::Memory => Status::Memory,
                 Answer::Refused(line) => tell(out, line.as_slice(), Status::Refused),
                 Answer::Unread(line) => tell(out, line.as_slice(), Status::Read),
-                Answer::Accepted(output) => export(exporters, spoiled, out, &output),
+                Answer::Accepted(instances) => {
+                    publish(alloc, order, instances.as_slice(), exporters, spoiled, out)
+                }
             }
         }
     }
@@ -101,15 +110,37 @@ fn tell<K: Sink>(out: &mut K, line: &[u8], wanted: Status) -> Status
     }
 }
 
-/// Writes the transcript, and then hands the files over. Room for every exporter in `spoiled` is made before the
-/// write, so that moving one takes no memory.
+/// Renders all that is written of the instances, and writes and exports it.
+fn publish<K: Sink>(
+    alloc: Global,
+    order: Order<'_>,
+    instances: &[Named],
+    exporters: &mut Vec<Box<dyn Exporter>>,
+    spoiled: &mut Vec<Box<dyn Exporter>>,
+    out: &mut K,
+) -> Status
+    ensures { Stage (files_of (map listed_as instances.now)) (shown_of (ask_of order.entry) (map listed_as instances.now))
+        (record { held = K.held out.old; faults = K.faults out.old; spare = K.spare out.old })
+        (record { held = K.held out.new; faults = K.faults out.new; spare = K.spare out.new })
+        (record { exporters = map account exporters.old.items; spoiled = map account spoiled.old.items })
+        (record { exporters = map account exporters.new.items; spoiled = map account spoiled.new.items })
+        result }
+{
+    match output_of(alloc, order, instances) {
+        Ok(output) => export(exporters, spoiled, out, &output),
+        Err(_) => Status::Memory,
+    }
+}
+
+/// Writes what is shown of the instances, and then hands the files over. Room for every exporter in `spoiled` is made
+/// before the write, so that moving one takes no memory.
 fn export<K: Sink>(
     exporters: &mut Vec<Box<dyn Exporter>>,
     spoiled: &mut Vec<Box<dyn Exporter>>,
     out: &mut K,
     output: &Output,
 ) -> Status
-    ensures { Stage (files_held output.now.files) output.now.transcript.items
+    ensures { Stage (files_held output.now.files) output.now.shown.items
         (record { held = K.held out.old; faults = K.faults out.old; spare = K.spare out.old })
         (record { held = K.held out.new; faults = K.faults out.new; spare = K.spare out.new })
         (record { exporters = map account exporters.old.items; spoiled = map account spoiled.old.items })
@@ -119,7 +150,7 @@ fn export<K: Sink>(
     let Ok(()) = spoiled.reserve(exporters.len()) else {
         return Status::Memory;
     };
-    let Ok(()) = out.write_all(output.transcript.as_slice()) else {
+    let Ok(()) = out.write_all(output.shown.as_slice()) else {
         return Status::Write;
     };
     match hand_over(exporters, spoiled, &output.files) {

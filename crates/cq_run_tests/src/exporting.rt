@@ -103,7 +103,7 @@ fn the_choice_of_format(rt: HostRuntime) -> Result<(), Fail> {
         Status::Usage,
         both,
     )?;
-    leaves(&rt, alloc, ("example 3", FIRST), Status::Usage, both)?;
+    leaves(&rt, alloc, ("example 3", "!"), Status::Ok, both)?;
     Ok(())
 }
 
@@ -203,9 +203,15 @@ static FAILING: [Failing; 5] = [
     },
 ];
 
-/// Whether a run with a sink of this room gives what is wanted, with this transcript.
-fn gives(alloc: Global, wanted: &Failing, room: u64, written: &str) -> Result<bool, AllocError> {
-    let (words, mut folder) = given(alloc, "run p.cql", FIRST)?;
+/// Whether the run of a line of words with a sink of this room gives what is wanted, with this transcript.
+fn gives(
+    alloc: Global,
+    line: &str,
+    wanted: &Failing,
+    room: u64,
+    written: &str,
+) -> Result<bool, AllocError> {
+    let (words, mut folder) = given(alloc, line, FIRST)?;
     let mut out = MemSink::new(alloc, Vec::new(alloc), room)?;
     let mut exporters = both(alloc, wanted.csv, wanted.cql)?;
     let mut spoiled: Vec<Box<dyn Exporter>> = Vec::new(alloc);
@@ -229,7 +235,7 @@ fn gives(alloc: Global, wanted: &Failing, room: u64, written: &str) -> Result<bo
 fn exporters_that_fail(rt: HostRuntime) -> Result<(), Fail> {
     let alloc = rt.alloc();
     for wanted in &FAILING {
-        assert!(rt; gives(alloc, wanted, 1000, LISTED)?);
+        assert!(rt; gives(alloc, "run p.cql", wanted, 1000, LISTED)?);
     }
     let nothing = Failing {
         csv: &[],
@@ -238,7 +244,44 @@ fn exporters_that_fail(rt: HostRuntime) -> Result<(), Fail> {
         exporters: &[],
         spoiled: &[],
     };
-    assert!(rt; gives(alloc, &nothing, 10, "instance I")?);
+    assert!(rt; gives(alloc, "run p.cql", &nothing, 10, "instance I")?);
+    Ok(())
+}
+
+const NO_ENTRIES: &str = "format-2,left,right\nnull,?0,n\n";
+
+/// The run of the example of one generator, whose exporter of literals fails at the second one.
+static EXAMPLE: Failing = Failing {
+    csv: &[],
+    cql: &[1],
+    status: Status::Write,
+    exporters: &[
+        ("I/E.csv", "id,v,f\n1,?0,2\n2,one,2\n"),
+        ("I/entries-2.csv", NO_ENTRIES),
+        ("J/P.csv", "id,w\n1,?0\n2,one\n"),
+        ("J/entries-2.csv", NO_ENTRIES),
+    ],
+    spoiled: &[(
+        "I.cql",
+        "instance I = literal : S {
+generators
+g1 : E
+g2 : E
+g3 : n
+equations
+v(g1) = g3
+f(g1) = g2
+v(g2) = \"one\"
+f(g2) = g2
+}
+",
+    )],
+};
+
+#[test]
+fn the_example_is_exported(rt: HostRuntime) -> Result<(), Fail> {
+    let written = "instance I rows 2 nulls 1 entries 0\ninstance J rows 2 nulls 1 entries 0\n";
+    assert!(rt; gives(rt.alloc(), "example 1", &EXAMPLE, 1000, written)?);
     Ok(())
 }
 

@@ -88,7 +88,7 @@ plus(zero, zero) = ?5
 end
 ";
 
-static CASES: [Case; 46] = [
+static CASES: [Case; 48] = [
     Case {
         words: &["run"],
         text: FIRST,
@@ -121,6 +121,18 @@ static CASES: [Case; 46] = [
     },
     Case {
         words: &["example", "3"],
+        text: FIRST,
+        status: Status::Ok,
+        written: "instance I rows 4 nulls 3 entries 0\ninstance J rows 4 nulls 3 entries 0\n",
+    },
+    Case {
+        words: &["example", "+1000"],
+        text: FIRST,
+        status: Status::Ok,
+        written: "instance I rows 1001 nulls 1000 entries 0\ninstance J rows 1001 nulls 1000 entries 0\n",
+    },
+    Case {
+        words: &["example", "3", "--depth", "5"],
         text: FIRST,
         status: Status::Usage,
         written: USAGE,

@@ -1,14 +1,8 @@
-use Rattle.std.proofs.Common.{map}
-use Rattle.cq_program.specs.Named.{listed_as}
 use Rattle.cq_run.proofs.Judging.{by_file, by_rule}
 use Rattle.cq_run.proofs.judge.judge_program.Goals as goal
 
-pub returns-in-Ok-output_of-clause-judges : goal.returns-in-Ok-output_of-clause-judges
-returns-in-Ok-output_of-clause-judges g c = record {
-  listings = map listed_as c.as_slice.result.now;
-  means = rw c.as_slice.ensures.value c.in-Ok.ensures.means;
-  prints = c.in-Ok-output_of.ensures;
-}
+pub returns-in-Ok-clause-judges : goal.returns-in-Ok-clause-judges
+returns-in-Ok-clause-judges g c = c.in-Ok.ensures.means
 
 pub returns-in-Ok-line-clause-judges : goal.returns-in-Ok-line-clause-judges
 returns-in-Ok-line-clause-judges g c =

@@ -1,5 +1,6 @@
-use Rattle.std.proofs.Common.{refl}
-use Rattle.cq_run.proofs.Gives.{usage_gives, refusal_gives, unread_gives, output_gives}
+use Rattle.std.proofs.Common.{ap, map, refl}
+use Rattle.cq_program.specs.Named.{listed_as}
+use Rattle.cq_run.proofs.Gives.{usage_gives, refusal_gives, unread_gives, instances_give}
 use Rattle.cq_run.proofs.Complete.{run_completes}
 use Rattle.cq_run.proofs.top.run.Goals as goal
 
@@ -11,18 +12,18 @@ pub returns-in-Refused-clause-gives : goal.returns-in-Refused-clause-gives
 returns-in-Refused-clause-gives g c =
     let judged = c.in-Refused.ensures.answers in
     refusal_gives _ _ _ _ _ _ _ judged.text (rw c.in-Ok-Some.field-0-is at c.in-Ok-Some.ensures.asked) c.tell-in-Refused.ensures
-    c.as_slice.ensures.value judged.is_text judged.judges c.keep_format.ensures refl
+    c.as_slice.ensures.value judged.is_text judged.judges (rw c.only.ensures at c.keep_format.ensures) refl
 
 pub returns-in-Unread-clause-gives : goal.returns-in-Unread-clause-gives
 returns-in-Unread-clause-gives g c =
     unread_gives _ _ _ _ _ _ _ (rw c.in-Ok-Some.field-0-is at c.in-Ok-Some.ensures.asked) c.tell-in-Unread.ensures
-    c.as_slice-in-Unread.ensures.value c.in-Unread.ensures.answers c.keep_format.ensures refl
+    c.as_slice-in-Unread.ensures.value c.in-Unread.ensures.answers (rw c.only.ensures at c.keep_format.ensures) refl
 
 pub returns-in-Accepted-clause-gives : goal.returns-in-Accepted-clause-gives
 returns-in-Accepted-clause-gives g c =
     let judged = c.in-Accepted.ensures.answers in
-    output_gives _ _ _ _ judged.text _ _ _ (rw c.in-Ok-Some.field-0-is at c.in-Ok-Some.ensures.asked) judged.is_text judged.judges
-    c.export.ensures c.keep_format.ensures refl
+    instances_give _ _ _ _ judged.text _ _ _ _ (rw c.in-Ok-Some.field-0-is at c.in-Ok-Some.ensures.asked) judged.is_text judged.judges
+    (ap (map listed_as) c.as_slice-in-Accepted.ensures.value) c.publish.ensures (rw c.only.ensures at c.keep_format.ensures) refl
 
 pub returns-in-Ok-None-clause-complete : goal.returns-in-Ok-None-clause-complete
 returns-in-Ok-None-clause-complete g c = run_completes _ _ _ _ (returns-in-Ok-None-clause-gives g c)
