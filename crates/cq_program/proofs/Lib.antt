@@ -7,6 +7,7 @@ pub mod Given
 pub mod Poses
 pub mod Settled
 pub mod Operands
+pub mod ImagesPosed
 pub mod Readings
 pub mod Following
 pub mod Unkept

@@ -10,6 +10,7 @@ use Rattle.cq_syntax.specs.declared.literal.SchemaLit.{SchemaLit}
 use Rattle.cq_syntax.specs.declared.literal.InstanceLit.{InstanceLit}
 use Rattle.cq_syntax.specs.declared.literal.MappingLit.{MappingLit}
 use Rattle.cq_syntax.specs.declared.literal.QueryLit.{QueryLit}
+use Rattle.cq_syntax.specs.declared.literal.TransformLit.{TransformLit}
 use Rattle.cq_syntax.specs.declared.program.SchemaExp.TheVariants as schema_exp
 use Rattle.cq_syntax.specs.declared.program.InstanceExp.TheVariants as instance_exp
 use Rattle.cq_syntax.specs.declared.program.MappingExp.TheVariants as mapping_exp
@@ -39,14 +40,16 @@ use Rattle.cq_query.specs.QueryData.{QueryData}
 use Rattle.cq_query.specs.QueryParts.{query_fault, query_made}
 use Rattle.cq_query.specs.Coeval.{coeval_of}
 use Rattle.cq_transform.specs.Identities.{identity_images}
+use Rattle.cq_transform.specs.Images.{images_made}
 use Rattle.cq_push.specs.Gluing.{coproduct_of, pushout_of}
 use Rattle.cq_program.specs.declared.reason.Reason.{Reason}
 use Rattle.cq_program.specs.declared.reason.Reason.TheVariants.{NameTaken, NameUnknown, WrongKind, WrongSchema, Duplicate, Unknown}
 use Rattle.cq_program.specs.declared.reason.Reason.TheVariants.{WrongCount, WrongSort, Reserved, TooLarge, Missing, NotASpan, NotBuilt}
+use Rattle.cq_program.specs.Images.{broken_by_images}
 use Rattle.cq_program.specs.declared.stating.Format.{Format}
 use Rattle.cq_program.specs.declared.stating.Format.TheVariants.{First, Second}
 use Rattle.cq_program.specs.Parts.{typeside_parts, typeside_places, schema_parts, schema_places, instance_parts, instance_places}
-use Rattle.cq_program.specs.Parts.{mapping_parts, mapping_places, query_parts, query_places}
+use Rattle.cq_program.specs.Parts.{mapping_parts, mapping_places, query_parts, query_places, transform_parts, transform_places}
 
 -- A schema, with the name under which it is printed, that of its own declaration, and the name of its typeside's declaration. Two names
 -- stand for one schema exactly where the printed names are one, and two schemas are over one typeside declaration exactly where the
@@ -207,6 +210,10 @@ unfoldable pub query_given : Place → SchemaData → SchemaData → QueryLit �
 query_given place S T lit = of_parts (arrow_breach place (query_places lit)) (query_fault S T (query_parts lit))
     (query_made S T (query_parts lit))
 
+unfoldable pub images_given : Place → InstanceData → InstanceData → TransformLit → Checked (List Image)
+images_given place i j lit = of_parts (arrow_breach place (transform_places lit)) (broken_by_images i j (transform_parts lit))
+    (images_made i j (transform_parts lit))
+
 abbrev fault_over : SchemaData → PresentationParts → Option TheoryRefusal
 fault_over S parts = presentation_fault S parts.generators parts.equations
 
@@ -358,11 +365,26 @@ abbrev pub identical_posed : Environment → Spot → Checked Posed
 identical_posed env spot = and_then (instance_used env spot) (λ i.
     Ok (a_transform (ends_at spot i) (identity_images i.instance.presentation.generators)))
 
+abbrev pub ends_of : TransformLit → InstanceMeant → InstanceMeant → Ends
+ends_of lit i j = record { source = lit.source.name; target = lit.target.name; start = i; finish = j }
+
+abbrev pub images_posed : Place → TransformLit → Ends → Checked Posed
+images_posed place lit e = and_then (images_given place e.start.instance e.finish.instance lit) (λ images. Ok (a_transform e images))
+
+-- Two instances are over one schema, and then the images are checked.
+abbrev pub transform_between : Place → TransformLit → InstanceMeant → InstanceMeant → Checked Posed
+transform_between place lit i j = if same_name i.schema j.schema then images_posed place lit (ends_of lit i j) else Err (lit.target.place, WrongSchema)
+
+abbrev pub transform_posed : Environment → Place → TransformLit → Checked Posed
+transform_posed env place lit =
+    and_then (instance_used env lit.source) (λ i.
+    and_then (instance_used env lit.target) (λ j.
+    transform_between place lit i j))
+
 -- the forms that are built
 abbrev pub is_built : Body → Bool
 is_built (Schema (schema_exp.GetSchema spot)) = false
 is_built (Colimit lit) = false
-is_built (Transformed (transform_exp.Literal lit)) = false
 is_built (Mapping (mapping_exp.GetMapping colimit part)) = false
 is_built _ = true
 
@@ -379,6 +401,7 @@ body_posed env place name (Instance (instance_exp.Eval along spot)) = eval_posed
 body_posed env place name (Instance (instance_exp.Coeval along spot)) = coeval_posed env along spot
 body_posed env place name (Instance (instance_exp.Coproduct spots spot)) = coproduct_posed env spots spot
 body_posed env place name (Instance (instance_exp.Pushout first second)) = pushout_posed env first second
+body_posed env place name (Transformed (transform_exp.Literal lit)) = transform_posed env place lit
 body_posed env place name (Transformed (transform_exp.Identity spot)) = identical_posed env spot
 body_posed env place name _ = Err (place, NotBuilt)
 

@@ -1,5 +1,6 @@
 pub mod Lines
 pub mod Parts
+pub mod Images
 pub mod Checks
 pub mod Folders
 pub mod Program

@@ -217,5 +217,13 @@ clause_count b = length b.tests + length b.attributes + sum_by key_count b.keys
 abbrev pub query_count : QueryLit → ℕ
 query_count q = length q.blocks + sum_by variable_count q.blocks + sum_by clause_count q.blocks
 
+-- the image of each generator
+unfoldable pub transform_parts : TransformLit → List (Name × Raw)
+transform_parts t = map (λ b. (b.name, b.term.raw)) t.images
+
+-- an image stands at the name of its generator
+unfoldable pub transform_places : TransformLit → List Place
+transform_places t = map (λ b. b.place) t.images
+
 abbrev pub transform_count : TransformLit → ℕ
 transform_count t = length t.images

@@ -19,12 +19,16 @@ use Rattle.cq_mapping.specs.Duties.{Preserves}
 use Rattle.cq_mapping.specs.Images.{sigma}
 use Rattle.cq_query.specs.Duties.{Sound}
 use Rattle.cq_query.specs.Coeval.{coeval_of}
+use Rattle.cq_model.specs.declared.transform.Image.{Image}
+use Rattle.cq_transform.specs.Images.{images_made}
+use Rattle.cq_transform.specs.Refusals.{IsBrokenAt}
 use Rattle.cq_transform.specs.Transforms.{GoesFrom}
 use Rattle.cq_push.specs.Gluing.{coproduct_of, is_oversized as is_too_large}
 use Rattle.cq_program.specs.declared.reason.Reason.TheVariants.{Inconsistent}
 use Rattle.cq_program.specs.declared.reason.ProgramRefusal.{ProgramRefusal}
 use Rattle.cq_program.specs.declared.reason.ReadCause.{ReadCause}
 use Rattle.cq_program.specs.declared.reason.ProgramRefusal.TheVariants as program_refusal
+use Rattle.cq_program.specs.declared.transforms.BrokenImages.{BrokenImages}
 use Rattle.cq_program.specs.declared.posing.Statement.{Statement}
 use Rattle.cq_program.specs.declared.posing.Statement.TheVariants as statement
 use Rattle.cq_import.specs.Faults as fault
@@ -45,6 +49,10 @@ AreSpan f g =
     GoesFrom f.transform f.ends.start.instance f.ends.finish.instance
     × GoesFrom g.transform f.ends.start.instance g.ends.finish.instance
 
+-- the images that break an equation
+abbrev pub broken_images : BrokenImages → List Image
+broken_images b = images_made b.ends.start.instance.value b.ends.finish.instance.value b.parts
+
 abbrev pub posed_as : Statement → Posed
 posed_as (statement.Typeside t) = a_typeside t
 posed_as (statement.Schema s) = a_schema (schema_meant s)
@@ -59,6 +67,7 @@ posed_as (statement.Coeval n Q i) = a_made n Q.value.source (coeval_of Q.value i
 posed_as (statement.Coproduct n s parts) = a_made n s.value (coproduct_of (map (λ part. part.value.presentation) parts))
 posed_as (statement.Pushout f g) = pushed_out (transform_meant f) (transform_meant g)
 posed_as (statement.Transform e t) = a_transform (ends_meant e) t.images
+posed_as (statement.Broken b) = a_transform (ends_meant b.ends) (broken_images b)
 
 -- A presentation is one over its schema; an instance that is pulled back or read backwards is over the target, and one that is moved or
 -- queried over the source; a mapping along which tables are pulled back preserves equality, and a query that is answered is sound. The
@@ -78,6 +87,7 @@ IsPosed (statement.Coeval n Q i) = i.value.schema ≡ Q.value.target
 IsPosed (statement.Coproduct n s parts) = All (λ part. part.value.schema ≡ s.value) parts
 IsPosed (statement.Pushout f g) = AreSpan (transform_meant f) (transform_meant g)
 IsPosed (statement.Transform e t) = IsTransformOf (ends_meant e) t.images t
+IsPosed (statement.Broken b) = IsBrokenAt b.ends.start.instance.value b.ends.finish.instance.value (broken_images b) b.number
 
 -- What is posed under a name is over what its names stand for: a schema over its typeside, under its printed name; all others over the
 -- schemas that their printed names stand for, and a transform between the instances for which the names of its ends stand. An identity

@@ -31,10 +31,10 @@ pub struct Named {
 /// The declarations are taken in order. Each is checked in this order: its form is built (`NotBuilt`), its name is
 /// new (`NameTaken`), each name that it uses is declared (`NameUnknown`) and of the right kind (`WrongKind`), name by
 /// name; what the names stand for fits (`WrongSchema`): the two schemas of a mapping or a query are over one typeside
-/// declaration, and instances over the schemas that the form wants, told at the second of two ends, at the first
-/// operand of a coproduct that doesn't fit, and else at the instance; two transforms that are pushed out start in one
-/// instance declaration (`NotASpan`, at the second); its parts break no rule (`Duplicate` to `TooLarge`, at the first
-/// such part) and none is missing (`Missing`).
+/// declaration, the two instances of a transform over one schema, and instances over the schemas that the form wants,
+/// told at the second of two ends, at the first operand of a coproduct that doesn't fit, and else at the instance; two
+/// transforms that are pushed out start in one instance declaration (`NotASpan`, at the second); its parts break no
+/// rule (`Duplicate` to `TooLarge`, at the first such part) and none is missing (`Missing`).
 ///
 /// Then the duties of a mapping or a query literal are derived, in order: the first that isn't is not derivable
 /// (`NotPreserved`), or not decided within the depth (`DutyDepth`) or with 200,000 rows (`DutyRows`). The equations of

@@ -27,7 +27,7 @@ use std::rc::Rc;
 
 /// What the declaration at a place stands for: a theory itself, a mapping or a query whose duties are derivable itself,
 /// a presentation, given or made of others, by its listed model, tables that are pulled back or that are answers with
-/// their canonical presentation, and a transform itself.
+/// their canonical presentation, and a transform itself. Images that don't keep an equation stand for nothing.
 pub fn meaning_of(
     alloc: Global,
     place: Place,
@@ -68,6 +68,9 @@ pub fn meaning_of(
         }
         Statement::Pushout(left, right) => glued(alloc, place, &left, &right, depth),
         Statement::Transform(ends, transform) => Ok(shared_transform(alloc, ends, transform)?),
+        Statement::Broken(images) => {
+            Err(ProgramRefusal::Broken(place, Reason::Broken(images.number)))
+        }
     }
 }
 

@@ -4,12 +4,13 @@ ghost use Rattle.std.specs.List.{flat_map};
 ghost use Rattle.cq_program.specs.Parts.{names_of, name_of, group_parts, function_parts, edge_parts, path_eq_part};
 ghost use Rattle.cq_program.specs.Parts.{observation_part, equation_part, attribute_image, key_part, attribute_part};
 ghost use Rattle.cq_program.specs.Parts.{arrow_parts, typeside_parts, schema_parts, instance_parts, mapping_parts};
+ghost use Rattle.cq_program.specs.Parts.{transform_parts};
 
 use crate::raw::copy_raw;
 use cq_base::{Name, Raw, Seq};
 use cq_syntax::{
-    AttImage, AttSyn, EdgeSyn, EqSyn, FunSyn, GroupSyn, InstanceLit, KeyImage, MapBlock,
-    MappingLit, ObsSyn, PathEqSyn, SchemaLit, Spot, TypesideLit,
+    AttImage, AttSyn, Bind, EdgeSyn, EqSyn, FunSyn, GroupSyn, InstanceLit, KeyImage, MapBlock,
+    MappingLit, ObsSyn, PathEqSyn, SchemaLit, Spot, TransformLit, TypesideLit,
 };
 use cq_theory::{
     ArrowImage, ArrowPart, MappingParts, ObsPart, PresentationParts, SchemaParts, TypesideParts,
@@ -73,6 +74,27 @@ pub fn mapping_parts(alloc: Global, literal: &MappingLit) -> Result<MappingParts
     let entities = block_images(alloc, literal.blocks.as_slice())?;
     let arrows = arrows_in(alloc, literal.blocks.as_slice())?;
     Ok(MappingParts { entities, arrows })
+}
+
+/// The image of each generator.
+#[tactic(auto, unfolding(crate::specs::Parts::transform_parts))]
+pub fn transform_parts(
+    alloc: Global,
+    literal: &TransformLit,
+) -> Result<Vec<(Name, Raw)>, AllocError>
+    ensures { IfOk result (λ parts. parts.items ≡ transform_parts literal.now) }
+{
+    images_in(alloc, literal.images.as_slice())
+}
+
+fn images_in(alloc: Global, images: &[Bind]) -> Result<Vec<(Name, Raw)>, AllocError>
+    ensures { IfOk result (λ parts. parts.items ≡ map (λ b. (b.name, b.term.raw)) images.now) }
+{
+    let mut parts = Vec::new(alloc);
+    for image in images {
+        parts.push((image.name.clone()?, copy_raw(alloc, &image.term.raw)?))?;
+    }
+    Ok(parts)
 }
 
 fn block_images(alloc: Global, blocks: &[MapBlock]) -> Result<Seq<(Name, Name)>, AllocError>

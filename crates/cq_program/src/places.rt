@@ -3,12 +3,12 @@ ghost use Rattle.std.specs.Prelude.{◌≡◌, ◌++◌, IfOk, OnOk, map, option
 ghost use Rattle.std.specs.List.{flat_map};
 ghost use Rattle.cq_program.specs.Parts.{places_of, group_places, function_places, edge_places, path_eq_place};
 ghost use Rattle.cq_program.specs.Parts.{equation_place, arrow_places, typeside_places, schema_places, instance_places};
-ghost use Rattle.cq_program.specs.Parts.{mapping_places};
+ghost use Rattle.cq_program.specs.Parts.{mapping_places, transform_places};
 
 use cq_base::Place;
 use cq_syntax::{
-    AttImage, EdgeSyn, EqSyn, FunSyn, GroupSyn, InstanceLit, KeyImage, MapBlock, MappingLit,
-    ObsSyn, PathEqSyn, SchemaLit, Spot, TypesideLit,
+    AttImage, Bind, EdgeSyn, EqSyn, FunSyn, GroupSyn, InstanceLit, KeyImage, MapBlock, MappingLit,
+    ObsSyn, PathEqSyn, SchemaLit, Spot, TransformLit, TypesideLit,
 };
 use std::alloc::{AllocError, Global};
 
@@ -59,6 +59,25 @@ pub fn mapping_places(alloc: Global, literal: &MappingLit) -> Result<Vec<Place>,
     push_blocks(&mut places, literal.blocks.as_slice())?;
     push_arrows(&mut places, literal.blocks.as_slice())?;
     Ok(places)
+}
+
+/// The places of the images of a transform.
+#[tactic(auto, unfolding(crate::specs::Parts::transform_places))]
+pub fn transform_places(alloc: Global, literal: &TransformLit) -> Result<Vec<Place>, AllocError>
+    ensures { IfOk result (λ places. places.items ≡ transform_places literal.now) }
+{
+    let mut places = Vec::new(alloc);
+    push_binds(&mut places, literal.images.as_slice())?;
+    Ok(places)
+}
+
+pub fn push_binds(places: &mut Vec<Place>, binds: &[Bind]) -> Result<(), AllocError>
+    ensures { OnOk result (places.new.items ≡ places.old.items ++ map (λ b. b.place) binds.now) }
+{
+    for bind in binds {
+        places.push(bind.place)?;
+    }
+    Ok(())
 }
 
 fn push_spots(places: &mut Vec<Place>, spots: &[Spot]) -> Result<(), AllocError>

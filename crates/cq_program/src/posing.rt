@@ -18,7 +18,7 @@ use crate::parts::{instance_parts, mapping_parts, schema_parts, typeside_parts};
 use crate::places::{instance_places, mapping_places, schema_places, typeside_places};
 use crate::queries::{pose_coeval, pose_eval, pose_query};
 use crate::reason::{ProgramRefusal, Reason};
-use crate::transforms::pose_identical;
+use crate::transforms::{BrokenImages, pose_identical, pose_transform};
 use cq_base::{Name, Place, Seq};
 use cq_mapping::Mapping;
 use cq_model::{Instance, Transform};
@@ -35,7 +35,7 @@ use std::rc::Rc;
 /// derived; the identity of the schema of a printed name; a presentation over such a schema, whose model is to be made;
 /// an instance that is to be pulled back along a mapping from such a schema, or moved along one to such a schema; an
 /// instance to which a query is to be answered, or that is to be read backwards through one; instances of which a
-/// coproduct or a pushout is to be made; or a transform.
+/// coproduct or a pushout is to be made; a transform; or images that don't keep an equation.
 #[derive(Drop)]
 pub(crate) enum Statement {
     Typeside(Typeside),
@@ -51,6 +51,7 @@ pub(crate) enum Statement {
     Coproduct(Name, Rc<Schema>, Seq<Rc<Instance>>),
     Pushout(NamedTransform, NamedTransform),
     Transform(NamedEnds, Transform),
+    Broken(BrokenImages),
 }
 
 /// Whether declarations of this form are built.
@@ -67,7 +68,7 @@ pub fn is_built(body: &Body) -> bool
         Body::Mapping(MappingExp::Identity(_)) => true,
         Body::Mapping(MappingExp::GetMapping(_, _)) => false,
         Body::Query(_) => true,
-        Body::Transform(TransformExp::Literal(_)) => false,
+        Body::Transform(TransformExp::Literal(_)) => true,
         Body::Transform(TransformExp::Identity(_)) => true,
     }
 }
@@ -111,8 +112,8 @@ pub fn pose_body(
         Body::Mapping(MappingExp::Identity(used)) => pose_identity(env, used),
         Body::Query(literal) => pose_query(alloc, env, place, literal),
         Body::Instance(expression) => pose_instance(alloc, env, place, expression),
-        Body::Transform(TransformExp::Literal(_)) => {
-            Err(ProgramRefusal::Broken(place, Reason::NotBuilt))
+        Body::Transform(TransformExp::Literal(literal)) => {
+            pose_transform(alloc, env, place, literal)
         }
         Body::Transform(TransformExp::Identity(used)) => pose_identical(alloc, env, used),
         Body::Schema(SchemaExp::GetSchema(_)) => {

@@ -3,9 +3,9 @@ ghost use Rattle.std.specs.Prelude.{◌≡◌, ◌++◌, IfOk, OnOk, map};
 ghost use Rattle.std.specs.List.{flat_map};
 ghost use Rattle.cq_program.specs.Parts.{clause_places, key_places, query_places, variable_places};
 
-use crate::places::{push_equations, push_groups};
+use crate::places::{push_binds, push_equations, push_groups};
 use cq_base::Place;
-use cq_syntax::{Bind, QueryBlock, QueryKey, QueryLit};
+use cq_syntax::{QueryBlock, QueryKey, QueryLit};
 use std::alloc::{AllocError, Global};
 
 /// The places of the parts of a query.
@@ -70,14 +70,5 @@ fn push_key(places: &mut Vec<Place>, key: &QueryKey) -> Result<(), AllocError>
 {
     places.push(key.place)?;
     push_binds(places, key.assigns.as_slice())?;
-    Ok(())
-}
-
-fn push_binds(places: &mut Vec<Place>, binds: &[Bind]) -> Result<(), AllocError>
-    ensures { OnOk result (places.new.items ≡ places.old.items ++ map (λ b. b.place) binds.now) }
-{
-    for bind in binds {
-        places.push(bind.place)?;
-    }
     Ok(())
 }

@@ -123,7 +123,7 @@ fn made_along_queries_and_transforms(rt: HostRuntime) -> Result<(), Fail> {
     Ok(())
 }
 
-static REFUSED: [Case; 8] = [
+static REFUSED: [Case; 7] = [
     // The instance is not over the schema to which the query is asked, or from which it is read backwards.
     Case {
         words: RUN,
@@ -183,15 +183,6 @@ instance P = coproduct A + A + B : One
 ",
         status: Status::Refused,
         written: "refused 7:32 34 WrongSchema\n",
-    },
-    // Transforms by images are read, and not built yet.
-    Case {
-        words: RUN,
-        text: "instance A = literal : S { generators a : E }
-transform f = literal : A -> A { generators a -> a }
-",
-        status: Status::Refused,
-        written: "refused 5:1 90 NotBuilt\n",
     },
     // A foreign key's terms miss a where equation of its target.
     Case {

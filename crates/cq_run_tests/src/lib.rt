@@ -21,3 +21,5 @@ mod open_types;
 mod programs;
 #[cfg(test)]
 mod tests;
+#[cfg(test)]
+mod transforms;

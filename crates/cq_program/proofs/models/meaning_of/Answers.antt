@@ -1,4 +1,4 @@
-use Rattle.std.proofs.Common.{◌≡◌, map, sym, ap, subst, ◌∙◌}
+use Rattle.std.proofs.Common.{◌≡◌, inl, map, refl, sym, ap, subst, ◌∙◌}
 use Rattle.cq_query.specs.QueryData.{QueryData}
 use Rattle.cq_query.specs.Duties.{Sound}
 use Rattle.cq_query.specs.Coeval.{coeval_of}
@@ -7,6 +7,9 @@ use Rattle.std.specs.Prelude.{IfOk, IfErr}
 use Rattle.cq_mapping.specs.MappingData.{MappingData}
 use Rattle.cq_mapping.specs.Duties.{Preserves}
 use Rattle.cq_mapping.specs.Images.{sigma}
+use Rattle.cq_program.specs.declared.posing.Statement.{Statement}
+use Rattle.cq_program.specs.declared.reason.ProgramRefusal.TheVariants as program_refusal
+use Rattle.cq_program.specs.declared.reason.Reason.TheVariants as reason
 use Rattle.cq_program.specs.Checks.{Posed, a_delta, a_made, an_eval}
 use Rattle.cq_program.specs.Environment.{meant}
 use Rattle.cq_program.specs.Posing.{IsPosed, Withholds, posed_as}
@@ -78,3 +81,9 @@ returns-in-Pushout-clause-stands c =
 pub returns-in-Pushout-clause-withholds : goal.returns-in-Pushout-clause-withholds
 returns-in-Pushout-clause-withholds c =
     subst (λ (p : Posed). IfErr c.glued.result (Withholds c.args.depth c.args.place p)) (sym (ap posed_as c.in-Pushout.is)) c.glued.ensures.withholds
+
+pub returns-in-Broken-clause-withholds : goal.returns-in-Broken-clause-withholds
+returns-in-Broken-clause-withholds c =
+    let number = c.in-Broken.images.number in
+    subst (λ (s : Statement). Withholds c.args.depth c.args.place (posed_as s) (program_refusal.Broken c.args.place (reason.Broken number))) (sym c.in-Broken.is)
+    (refl, inl (number, refl, subst IsPosed c.in-Broken.is c.requires.posed))

@@ -21,3 +21,6 @@ returns-in-Instance-clause-grounded c = c.pose_instance.ensures.grounded c.args.
 
 pub returns-in-Transform-Identity-clause-grounded : goal.returns-in-Transform-Identity-clause-grounded
 returns-in-Transform-Identity-clause-grounded c = c.pose_identical.ensures.grounded c.args.name.now
+
+pub returns-in-Transform-Literal-clause-grounded : goal.returns-in-Transform-Literal-clause-grounded
+returns-in-Transform-Literal-clause-grounded c = c.pose_transform.ensures.grounded c.args.name.now

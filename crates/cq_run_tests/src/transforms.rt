@@ -1,0 +1,177 @@
+//! Transforms by the images of generators: what is glued along them, and which rule is told first.
+use crate::tests::{Case, RUN, passes};
+use cq_run::Status;
+use std::test::Fail;
+
+/// Two schemas, which stand in front of each case.
+const SCHEMAS: &str =
+    "typeside T = literal { types s n constants Al Bob Carl : s zero one : n functions h : s -> s succ : n -> n plus : n, n -> n }
+schema S = literal : T { entities E attributes x : E -> s }
+schema R = literal : T { entities E attributes x : E -> s }
+";
+
+static GLUED: [Case; 2] = [
+    // The generator of the start makes one row of two.
+    Case {
+        words: RUN,
+        text: "instance A = literal : S { generators a : E }
+instance B = literal : S { generators b c : E equations x(b) = Al }
+transform f = literal : A -> B { generators a -> b }
+transform g = identity A
+instance P = pushout f g
+",
+        status: Status::Ok,
+        written: "instance A : S
+entity E 1
+1 a x=?0
+nulls 1
+?0 s
+entries 0
+end
+instance B : S
+entity E 2
+1 b x=Al
+2 c x=?0
+nulls 1
+?0 s
+entries 0
+end
+instance P : S
+entity E 2
+1 g1 x=Al
+2 g2 x=?0
+nulls 1
+?0 s
+entries 0
+end
+",
+    },
+    // Images of types, and a start whose equations hold at the end: nothing is glued that wasn't one.
+    Case {
+        words: RUN,
+        text: "instance A = literal : S { generators u v : s equations h(u) = v }
+instance B = literal : S { generators b : E equations x(b) = Al }
+transform f = literal : A -> B { generators v -> h(x(b)) u -> Al }
+instance P = pushout f f
+",
+        status: Status::Ok,
+        written: "instance A : S
+entity E 0
+nulls 2
+?0 s
+?1 s
+entries 1
+h(?0) = ?1
+end
+instance B : S
+entity E 1
+1 b x=Al
+nulls 0
+entries 0
+end
+instance P : S
+entity E 2
+1 g1 x=Al
+2 g2 x=Al
+nulls 0
+entries 0
+end
+",
+    },
+];
+
+#[test]
+fn glued_along_images(rt: HostRuntime) -> Result<(), Fail> {
+    let alloc = rt.alloc();
+    for case in &GLUED {
+        assert!(rt; passes(alloc, SCHEMAS, case)?, "{}", case.text);
+    }
+    Ok(())
+}
+
+/// Three instances behind the schemas, which stand in front of each case.
+const INSTANCES: &str =
+    "typeside T = literal { types s n constants Al Bob Carl : s zero one : n functions h : s -> s succ : n -> n plus : n, n -> n }
+schema S = literal : T { entities E attributes x : E -> s }
+schema R = literal : T { entities E attributes x : E -> s }
+instance A = literal : S { generators a c : E equations x(c) = x(c) x(a) = Bob }
+instance B = literal : S { generators b : E equations x(b) = Al }
+instance C = literal : S { generators d : E equations x(d) = Bob }
+instance J = literal : R { generators b : E }
+";
+
+static REFUSED: [Case; 9] = [
+    // The first equation that doesn't hold is told, by its number.
+    Case {
+        words: RUN,
+        text: "transform f = literal : A -> B { generators a -> b c -> b }",
+        status: Status::Refused,
+        written: "refused 8:1 54 Broken 2\n",
+    },
+    // Two constants become one.
+    Case {
+        words: RUN,
+        text: "instance O = literal : S { generators o : E }
+transform f = literal : O -> B { generators o -> b }
+transform g = literal : O -> C { generators o -> d }
+instance P = pushout f g",
+        status: Status::Refused,
+        written: "refused 11:1 63 Inconsistent Al Bob\n",
+    },
+    Case {
+        words: RUN,
+        text: "transform f = literal : A -> C { generators a -> d c -> d }
+transform g = literal : C -> C { generators d -> d }
+instance P = pushout f g",
+        status: Status::Refused,
+        written: "refused 10:24 35 NotASpan\n",
+    },
+    // The schemas are written alike, and are two.
+    Case {
+        words: RUN,
+        text: "transform f = literal : A -> J { generators a -> b c -> none }",
+        status: Status::Refused,
+        written: "refused 8:30 34 WrongSchema\n",
+    },
+    // The names of the two ends come first, in their order.
+    Case {
+        words: RUN,
+        text: "transform f = literal : S -> nobody { generators a -> b }",
+        status: Status::Refused,
+        written: "refused 8:25 33 WrongKind\n",
+    },
+    // Images are told before a generator without one, and that before an equation.
+    Case {
+        words: RUN,
+        text: "transform f = literal : A -> B { generators a -> Al }",
+        status: Status::Refused,
+        written: "refused 8:45 44 WrongSort\n",
+    },
+    Case {
+        words: RUN,
+        text: "transform f = literal : A -> B { generators a -> b }",
+        status: Status::Refused,
+        written: "refused 8:1 47 Missing c\n",
+    },
+    Case {
+        words: RUN,
+        text: "transform f = literal : A -> B { generators a -> b a -> none }",
+        status: Status::Refused,
+        written: "refused 8:52 41 Duplicate\n",
+    },
+    Case {
+        words: RUN,
+        text: "transform f = literal : A -> B { generators b -> b }",
+        status: Status::Refused,
+        written: "refused 8:45 42 Unknown\n",
+    },
+];
+
+#[test]
+fn refused_images(rt: HostRuntime) -> Result<(), Fail> {
+    let alloc = rt.alloc();
+    for case in &REFUSED {
+        assert!(rt; passes(alloc, INSTANCES, case)?, "{}", case.text);
+    }
+    Ok(())
+}
