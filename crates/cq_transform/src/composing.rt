@@ -205,7 +205,12 @@ fn finished(
 {
     let rows = composed_rows(alloc, first.rows.as_slice(), second.rows.as_slice())?;
     let entries = last.algebra().entries.as_slice();
-    let nulls = composed_nulls(alloc, entries, second.nulls.as_slice(), first.nulls.as_slice())?;
+    let nulls = composed_nulls(
+        alloc,
+        entries,
+        second.nulls.as_slice(),
+        first.nulls.as_slice(),
+    )?;
     Ok(Transform {
         images: Seq::from_vec(images),
         rows: Seq::from_vec(rows),

@@ -100,11 +100,7 @@ fn put_value(alloc: Global, images: &[Image], term: &TypeTerm) -> Result<TypeTer
 }
 
 /// An image with those of its generators in their place.
-pub(crate) fn put_image(
-    alloc: Global,
-    images: &[Image],
-    image: &Image,
-) -> Result<Image, AllocError>
+pub(crate) fn put_image(alloc: Global, images: &[Image], image: &Image) -> Result<Image, AllocError>
     ensures { IfOk result (λ made. made ≡ image_put images.now image.now) }
 {
     match image {

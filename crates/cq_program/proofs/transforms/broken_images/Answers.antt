@@ -18,4 +18,4 @@ pub returns-in-Ok-clause-well_sorted : goal.returns-in-Ok-clause-well_sorted
 returns-in-Ok-clause-well_sorted c =
     let are : c.from_vec.result ≡ transform_parts c.args.literal.now = c.from_vec.ensures ∙ c.in-Ok.ensures in
     subst (λ (parts : List (Name × Raw)). IsBrokenAt c.args.ends.start.instance.value c.args.ends.finish.instance.value
-        (images_made c.args.ends.start.instance.value c.args.ends.finish.instance.value parts) c.args.number) (sym are) c.requires.1
+    (images_made c.args.ends.start.instance.value c.args.ends.finish.instance.value parts) c.args.number) (sym are) c.requires.1
