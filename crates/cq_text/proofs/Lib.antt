@@ -1,7 +1,6 @@
 pub mod Belows
 pub mod EquationLines
 pub mod Examples
-pub mod FormedTables
 pub mod GeneratorLines
 pub mod Groups
 pub mod Numbers

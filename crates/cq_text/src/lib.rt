@@ -11,8 +11,6 @@ mod pieces;
 mod plan;
 mod rows;
 mod spelling;
-#[cfg(test)]
-mod tests;
 
 pub use instances::transcript;
 pub use literals::literal;
