@@ -1,8 +1,6 @@
 //! Folders with a file of nulls and entries, over a schema without entities.
-use crate::tests::{RUN, run, words};
-use cq_io::{MemFolder, MemSink};
+use crate::tests::{RUN, ends, folder_of};
 use cq_run::Status;
-use std::alloc::{AllocError, Global};
 use std::test::Fail;
 
 const PROGRAM: &str =
@@ -83,27 +81,17 @@ static CASES: [Case; 12] = [
     },
 ];
 
-fn folder(alloc: Global, case: &Case) -> Result<MemFolder, AllocError> {
-    let mut files = Vec::new(alloc);
-    let program = Vec::from_slice(alloc, PROGRAM.as_bytes())?;
-    files.push((String::from_str(alloc, "p.cql")?, program))?;
-    if !case.entries.is_empty() {
-        let bytes = Vec::from_slice(alloc, case.entries.as_bytes())?;
-        files.push((String::from_str(alloc, "I/entries-2.csv")?, bytes))?;
-    }
-    MemFolder::new(alloc, files, Vec::new(alloc))
-}
-
 #[test]
 fn nulls_and_entries_with_their_outcomes(rt: HostRuntime) -> Result<(), Fail> {
     let alloc = rt.alloc();
-    let words = words(alloc, RUN)?;
     for case in &CASES {
-        let mut folder = folder(alloc, case)?;
-        let mut out = MemSink::new(alloc, Vec::new(alloc), 1000)?;
-        let status = run(alloc, words.as_slice(), &mut folder, &mut out);
-        assert_eq!(rt; status, case.status, "{}", case.entries);
-        assert!(rt; out.bytes() == case.written.as_bytes(), "{}", case.entries);
+        let files = [("p.cql", PROGRAM), ("I/entries-2.csv", case.entries)];
+        let mut folder = folder_of(alloc, files.as_slice(), &[])?;
+        assert!(rt;
+            ends(alloc, RUN, &mut folder, 1000, case.status, case.written)?,
+            "{}",
+            case.entries
+        );
     }
     Ok(())
 }

@@ -10,7 +10,7 @@ schema S = literal : T { entities E attributes x : E -> s }
 schema R = literal : T { entities P O foreign_keys t : P -> O attributes w : P -> s }
 ";
 
-static MADE: [Case; 3] = [
+static MADE: [Case; 4] = [
     // Equal attributes merge no answers, and a block without variables has one answer.
     Case {
         words: RUN,
@@ -73,6 +73,37 @@ entries 0
 end
 ",
     },
+    // A test that each new row meets, and a null that stands in no cell.
+    Case {
+        words: RUN,
+        text: "schema W = literal : T { entities P attributes w : P -> s }
+query Q = literal : S -> W { entity P -> { from y:E where x(y) = Al attributes w -> x(y) } }
+instance J = literal : W { generators p q : P a : s equations h(a) = Al }
+instance K = coeval Q J
+",
+        status: Status::Ok,
+        written: "instance J : W
+entity P 2
+1 p w=?0
+2 q w=?1
+nulls 3
+?0 s
+?1 s
+?2 s
+entries 1
+h(?2) = Al
+end
+instance K : S
+entity E 2
+1 g1 x=Al
+2 g2 x=Al
+nulls 1
+?0 s
+entries 1
+h(?0) = Al
+end
+",
+    },
     // An instance that is glued with itself along itself, and two that stand side by side.
     Case {
         words: RUN,
@@ -123,7 +154,11 @@ fn made_along_queries_and_transforms(rt: HostRuntime) -> Result<(), Fail> {
     Ok(())
 }
 
+<<<<<<< HEAD
 static REFUSED: [Case; 7] = [
+=======
+static REFUSED: [Case; 10] = [
+>>>>>>> fddeb3c0ae80eb03bc01fb21be4fc00f4f70f753
     // The instance is not over the schema to which the query is asked, or from which it is read backwards.
     Case {
         words: RUN,
@@ -142,6 +177,29 @@ instance K = coeval Q J
 ",
         status: Status::Refused,
         written: "refused 6:23 34 WrongSchema\n",
+    },
+    // The test of a variable makes two constants equal.
+    Case {
+        words: RUN,
+        text: "schema W = literal : T { entities P attributes w : P -> s }
+query Q = literal : S -> W { entity P -> { from y:E where x(y) = Al attributes w -> x(y) } }
+instance J = literal : W { generators p q : P equations w(q) = Bob }
+instance K = coeval Q J
+",
+        status: Status::Refused,
+        written: "refused 7:1 63 Inconsistent Al Bob\n",
+    },
+    // The source has a key that leads on without end.
+    Case {
+        words: RUN,
+        text: "schema L = literal : T { entities E foreign_keys k : E -> E attributes x : E -> s }
+schema W = literal : T { entities P attributes w : P -> s }
+query Q = literal : L -> W { entity P -> { from y:E where x(y) = Al attributes w -> x(y) } }
+instance J = literal : W { generators p : P }
+instance K = coeval Q J
+",
+        status: Status::Refused,
+        written: "refused 8:1 61 Depth\n",
     },
     // The first operand that is over another schema is told, and two names behind it.
     Case {

@@ -1,6 +1,6 @@
 //! Programs that read a folder of files: what they mean, what is refused, and files that are not read.
 use crate::exporting::have;
-use crate::tests::{RUN, run, words};
+use crate::tests::{RUN, ends, folder_of, words};
 use cq_io::{Exporter, Format, MemExporter, MemFolder, MemSink};
 use cq_run::Status;
 use std::alloc::{AllocError, Global};
@@ -228,39 +228,26 @@ instance I = import_csv \"data\" : S
     },
 ];
 
-/// Adds a file, unless it is empty.
-fn add(
-    alloc: Global,
-    files: &mut Vec<(String, Vec<u8>)>,
-    name: &str,
-    text: &str,
-) -> Result<(), AllocError> {
-    if !text.is_empty() {
-        let bytes = Vec::from_slice(alloc, text.as_bytes())?;
-        files.push((String::from_str(alloc, name)?, bytes))?;
-    }
-    Ok(())
-}
-
 /// The folder of a case, whose reads with these numbers fail.
 fn folder(alloc: Global, case: &Case, failing: &[u64]) -> Result<MemFolder, AllocError> {
-    let mut files = Vec::new(alloc);
-    add(alloc, &mut files, "p.cql", case.text)?;
-    add(alloc, &mut files, "data/E.csv", case.e)?;
-    add(alloc, &mut files, "data/D.csv", case.d)?;
-    MemFolder::new(alloc, files, Vec::from_slice(alloc, failing)?)
+    let files = [
+        ("p.cql", case.text),
+        ("data/E.csv", case.e),
+        ("data/D.csv", case.d),
+    ];
+    folder_of(alloc, files.as_slice(), failing)
 }
 
 #[test]
 fn folders_with_their_outcomes(rt: HostRuntime) -> Result<(), Fail> {
     let alloc = rt.alloc();
-    let words = words(alloc, RUN)?;
     for case in &CASES {
         let mut folder = folder(alloc, case, &[])?;
-        let mut out = MemSink::new(alloc, Vec::new(alloc), 1000)?;
-        let status = run(alloc, words.as_slice(), &mut folder, &mut out);
-        assert_eq!(rt; status, case.status, "{}", case.e);
-        assert!(rt; out.bytes() == case.written.as_bytes(), "{}", case.e);
+        assert!(rt;
+            ends(alloc, RUN, &mut folder, 1000, case.status, case.written)?,
+            "{}",
+            case.e
+        );
     }
     Ok(())
 }
@@ -301,32 +288,34 @@ fn what_was_read_is_exported(rt: HostRuntime) -> Result<(), Fail> {
 #[test]
 fn reads_that_fail(rt: HostRuntime) -> Result<(), Fail> {
     let alloc = rt.alloc();
-    let words = words(alloc, RUN)?;
     for (read, written) in [
         (1, "read data/E.csv failed\n"),
         (2, "read data/D.csv failed\n"),
     ] {
         let mut folder = folder(alloc, &CASES[0], &[read])?;
-        let mut out = MemSink::new(alloc, Vec::new(alloc), 100)?;
-        let status = run(alloc, words.as_slice(), &mut folder, &mut out);
-        assert_eq!(rt; status, Status::Read);
-        assert!(rt; out.bytes() == written.as_bytes());
+        assert!(rt;
+            ends(alloc, RUN, &mut folder, 100, Status::Read, written)?,
+            "{written}"
+        );
     }
     Ok(())
+}
+
+/// The folder of an import from a file of so many blanks.
+fn blank_folder(alloc: Global, length: usize) -> Result<MemFolder, AllocError> {
+    let mut files = Vec::new(alloc);
+    let program = Vec::from_slice(alloc, PROGRAM.as_bytes())?;
+    files.push((String::from_str(alloc, "p.cql")?, program))?;
+    let blanks = vec![in alloc; b' '; length]?;
+    files.push((String::from_str(alloc, "data/E.csv")?, blanks))?;
+    MemFolder::new(alloc, files, Vec::new(alloc))
 }
 
 #[test]
 fn a_file_of_an_import_past_the_limit(rt: HostRuntime) -> Result<(), Fail> {
     let alloc = rt.alloc();
-    let words = words(alloc, RUN)?;
-    let mut files = Vec::new(alloc);
-    add(alloc, &mut files, "p.cql", PROGRAM)?;
-    let blanks = vec![in alloc; b' '; 67108865]?;
-    files.push((String::from_str(alloc, "data/E.csv")?, blanks))?;
-    let mut folder = MemFolder::new(alloc, files, Vec::new(alloc))?;
-    let mut out = MemSink::new(alloc, Vec::new(alloc), 100)?;
-    let status = run(alloc, words.as_slice(), &mut folder, &mut out);
-    assert_eq!(rt; status, Status::Read);
-    assert!(rt; out.bytes() == b"read data/E.csv too long\n".as_slice());
+    let mut folder = blank_folder(alloc, 67108865)?;
+    let written = "read data/E.csv too long\n";
+    assert!(rt; ends(alloc, RUN, &mut folder, 100, Status::Read, written)?);
     Ok(())
 }

@@ -1,21 +1,27 @@
 //! A file and a term at their limits and past them.
-use crate::tests::{RUN, folder, run, words};
-use cq_io::{MemFolder, MemSink};
+use crate::tests::{RUN, ends, folder};
+use cq_io::MemFolder;
+use cq_run::Status;
 use std::alloc::{AllocError, Global};
 use std::test::Fail;
+
+/// A folder with one file of so many blanks.
+fn blank_folder(alloc: Global, length: usize) -> Result<MemFolder, AllocError> {
+    let mut files = Vec::new(alloc);
+    let blanks = vec![in alloc; b' '; length]?;
+    files.push((String::from_str(alloc, "p.cql")?, blanks))?;
+    MemFolder::new(alloc, files, Vec::new(alloc))
+}
 
 #[test]
 fn a_file_at_the_limit_and_past_it(rt: HostRuntime) -> Result<(), Fail> {
     let alloc = rt.alloc();
-    let words = words(alloc, RUN)?;
-    for (length, written) in [(8388608, ""), (8388609, "read p.cql too long\n")] {
-        let mut files = Vec::new(alloc);
-        let blanks = vec![in alloc; b' '; length]?;
-        files.push((String::from_str(alloc, "p.cql")?, blanks))?;
-        let mut folder = MemFolder::new(alloc, files, Vec::new(alloc))?;
-        let mut out = MemSink::new(alloc, Vec::new(alloc), 100)?;
-        run(alloc, words.as_slice(), &mut folder, &mut out);
-        assert!(rt; out.bytes() == written.as_bytes());
+    for (length, status, written) in [
+        (8388608, Status::Ok, ""),
+        (8388609, Status::Read, "read p.cql too long\n"),
+    ] {
+        let mut folder = blank_folder(alloc, length)?;
+        assert!(rt; ends(alloc, RUN, &mut folder, 100, status, written)?);
     }
     Ok(())
 }
@@ -65,13 +71,13 @@ end
 #[test]
 fn a_term_at_the_limit_and_past_it(rt: HostRuntime) -> Result<(), Fail> {
     let alloc = rt.alloc();
-    let words = words(alloc, RUN)?;
-    for (functions, written) in [(1, TALL_LISTED), (2, "refused 3:38 46 TooLarge\n")] {
+    for (functions, status, written) in [
+        (1, Status::Ok, TALL_LISTED),
+        (2, Status::Refused, "refused 3:38 46 TooLarge\n"),
+    ] {
         let text = tall(alloc, functions)?;
         let mut folder = folder(alloc, text.as_str(), &[])?;
-        let mut out = MemSink::new(alloc, Vec::new(alloc), 1000)?;
-        run(alloc, words.as_slice(), &mut folder, &mut out);
-        assert!(rt; out.bytes() == written.as_bytes());
+        assert!(rt; ends(alloc, RUN, &mut folder, 1000, status, written)?);
     }
     Ok(())
 }

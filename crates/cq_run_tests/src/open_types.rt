@@ -1,6 +1,5 @@
 //! Texts as constants of an open type: which are taken, how they are printed, and what is refused.
-use crate::tests::{Case, RUN, folder, passes, run, words};
-use cq_io::MemSink;
+use crate::tests::{Case, RUN, ends, folder, passes};
 use cq_run::Status;
 use std::alloc::{AllocError, Global};
 use std::test::Fail;
@@ -209,32 +208,34 @@ fn letters(alloc: Global, count: usize) -> Result<String, AllocError> {
     Ok(text)
 }
 
-/// Whether a file has this status and writes this.
-fn outcome(alloc: Global, file: &str, status: Status, written: &str) -> Result<bool, AllocError> {
-    let mut folder = folder(alloc, file, &[])?;
-    let mut out = MemSink::new(alloc, Vec::new(alloc), 1000)?;
-    let words = words(alloc, RUN)?;
-    let found = run(alloc, words.as_slice(), &mut folder, &mut out);
-    Ok(out.bytes() == written.as_bytes() && found == status)
+/// A program whose one cell holds a text of so many letters.
+fn program(alloc: Global, count: usize) -> Result<String, AllocError> {
+    let text = letters(alloc, count)?;
+    format!(in alloc;
+        "{HEAD}instance I = literal : S {{ generators a : E equations x(a) = \"{text}\" }}"
+    )
+}
+
+/// What is written of the longest text.
+fn listed(alloc: Global, count: usize) -> Result<String, AllocError> {
+    let text = letters(alloc, count)?;
+    format!(in alloc;
+        "instance I : S\nentity E 1\n1 a x=\"{text}\" y=?0\nnulls 1\n?0 n\nentries 0\nend\n"
+    )
 }
 
 #[test]
 fn a_text_at_the_limit_and_past_it(rt: HostRuntime) -> Result<(), Fail> {
     let alloc = rt.alloc();
-    let longest = letters(alloc, 255)?;
-    let listed = format!(in alloc;
-        "instance I : S\nentity E 1\n1 a x=\"{longest}\" y=?0\nnulls 1\n?0 n\nentries 0\nend\n"
-    )?;
+    let listed = listed(alloc, 255)?;
     let wanted = [
         (255, Status::Ok, listed.as_str()),
         (256, Status::Refused, "refused 3:62 14 LongName\n"),
     ];
     for (count, status, written) in wanted {
-        let text = letters(alloc, count)?;
-        let file = format!(in alloc;
-            "{HEAD}instance I = literal : S {{ generators a : E equations x(a) = \"{text}\" }}"
-        )?;
-        assert!(rt; outcome(alloc, file.as_str(), status, written)?);
+        let text = program(alloc, count)?;
+        let mut folder = folder(alloc, text.as_str(), &[])?;
+        assert!(rt; ends(alloc, RUN, &mut folder, 1000, status, written)?);
     }
     Ok(())
 }

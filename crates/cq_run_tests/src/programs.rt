@@ -237,19 +237,20 @@ fn term_outcome(alloc: Global, text: &str) -> Result<(u32, u32, u32), AllocError
     }
 }
 
-/// A text with `middle` so many times between its ends.
-fn around(
-    alloc: Global,
-    front: &str,
-    middle: &str,
-    count: usize,
-    back: &str,
-) -> Result<String, AllocError> {
-    let mut text = String::from_str(alloc, front)?;
+/// A text, so many times.
+fn push_times(piece: &str, count: usize, text: &mut String) -> Result<(), AllocError> {
     for _ in 0..count {
-        text.push_str(middle)?;
+        text.push_str(piece)?;
     }
-    text.push_str(back)?;
+    Ok(())
+}
+
+/// These pieces, each so many times.
+fn repeated(alloc: Global, pieces: &[(&str, usize)]) -> Result<String, AllocError> {
+    let mut text = String::new(alloc);
+    for (piece, count) in pieces {
+        push_times(piece, *count, &mut text)?;
+    }
     Ok(text)
 }
 
@@ -286,75 +287,56 @@ fn terms_have_the_outcomes_written(rt: HostRuntime) -> Result<(), Fail> {
     for (text, wanted) in TERMS {
         assert_eq!(rt; term_outcome(alloc, text)?, wanted, "{text}");
     }
-    let most = around(alloc, "x", ".f", 63, "")?;
-    let deep = around(alloc, "x", ".f", 64, "")?;
-    assert_eq!(rt; term_outcome(alloc, most.as_str())?, (0, 0, 0), "63 dots");
-    assert_eq!(rt;
-        term_outcome(alloc, deep.as_str())?,
-        (22, 1, 129),
-        "64 dots"
-    );
     Ok(())
 }
 
+/// Terms of 64 and 65 levels.
+static TALL_TERMS: [(&[(&str, usize)], (u32, u32, u32)); 2] = [
+    (&[("x", 1), (".f", 63)], (0, 0, 0)),
+    (&[("x", 1), (".f", 64)], (22, 1, 129)),
+];
+
 #[test]
-fn the_65th_level_is_refused(rt: HostRuntime) -> Result<(), Fail> {
+fn the_65th_level_of_a_term_is_refused(rt: HostRuntime) -> Result<(), Fail> {
     let alloc = rt.alloc();
-    let head = "instance I = literal : S { equations a = ";
-    let dotted = around(alloc, "x", ".f", 63, " }")?;
-    let deep_dotted = around(alloc, "x", ".f", 64, " }")?;
-    let closed = around(alloc, "x", ")", 63, " }")?;
-    let applied = around(alloc, head, "f(", 63, closed.as_str())?;
-    let deep_applied = around(alloc, head, "f(", 64, "x")?;
-    let half = around(alloc, "x", ")", 32, "")?;
-    let mixed = around(alloc, half.as_str(), ".f", 31, " }")?;
-    let deep_mixed = around(alloc, half.as_str(), ".f", 32, " }")?;
-    let both = around(alloc, head, "f(", 32, mixed.as_str())?;
-    let deep_both = around(alloc, head, "f(", 32, deep_mixed.as_str())?;
-    let many = around(alloc, head, "f(", 2000, "")?;
-    let dots = around(alloc, head, "", 0, dotted.as_str())?;
-    let deep_dots = around(alloc, head, "", 0, deep_dotted.as_str())?;
-    assert_eq!(rt; outcome(alloc, dots.as_str())?, (0, 0, 0), "63 dots");
-    assert_eq!(rt;
-        outcome(alloc, deep_dots.as_str())?,
-        (22, 1, 170),
-        "64 dots"
-    );
-    assert_eq!(rt;
-        outcome(alloc, applied.as_str())?,
+    for (pieces, wanted) in &TALL_TERMS {
+        let text = repeated(alloc, pieces)?;
+        assert_eq!(rt; term_outcome(alloc, text.as_str())?, *wanted, "{text}");
+    }
+    Ok(())
+}
+
+const SIDE: (&str, usize) = ("instance I = literal : S { equations a = ", 1);
+
+const PATH: (&str, usize) = ("schema S = literal : T { path_equations E.f = E", 1);
+
+const DONE: (&str, usize) = (" }", 1);
+
+/// Terms of 64 levels and of more, by dots, by applications and by both; and paths of 64 and of 65 names.
+static TALL: [(&[(&str, usize)], (u32, u32, u32)); 9] = [
+    (&[SIDE, ("x", 1), (".f", 63), DONE], (0, 0, 0)),
+    (&[SIDE, ("x", 1), (".f", 64), DONE], (22, 1, 170)),
+    (&[SIDE, ("f(", 63), ("x", 1), (")", 63), DONE], (0, 0, 0)),
+    (&[SIDE, ("f(", 64), ("x", 1)], (22, 1, 170)),
+    (
+        &[SIDE, ("f(", 32), ("x", 1), (")", 32), (".f", 31), DONE],
         (0, 0, 0),
-        "63 applications"
-    );
-    assert_eq!(rt;
-        outcome(alloc, deep_applied.as_str())?,
-        (22, 1, 170),
-        "64 applications"
-    );
-    assert_eq!(rt; outcome(alloc, both.as_str())?, (0, 0, 0), "both");
-    assert_eq!(rt;
-        outcome(alloc, deep_both.as_str())?,
+    ),
+    (
+        &[SIDE, ("f(", 32), ("x", 1), (")", 32), (".f", 32), DONE],
         (22, 1, 202),
-        "both, too deep"
-    );
-    assert_eq!(rt;
-        outcome(alloc, many.as_str())?,
-        (22, 1, 170),
-        "2000 applications"
-    );
-    Ok(())
-}
+    ),
+    (&[SIDE, ("f(", 2000)], (22, 1, 170)),
+    (&[PATH, (".f", 63), DONE], (0, 0, 0)),
+    (&[PATH, (".f", 64), DONE], (22, 1, 175)),
+];
 
 #[test]
-fn the_65th_name_is_refused(rt: HostRuntime) -> Result<(), Fail> {
+fn the_65th_level_and_the_65th_name_are_refused(rt: HostRuntime) -> Result<(), Fail> {
     let alloc = rt.alloc();
-    let head = "schema S = literal : T { path_equations E.f = E";
-    let long = around(alloc, head, ".f", 63, " }")?;
-    let too_long = around(alloc, head, ".f", 64, " }")?;
-    assert_eq!(rt; outcome(alloc, long.as_str())?, (0, 0, 0), "64 names");
-    assert_eq!(rt;
-        outcome(alloc, too_long.as_str())?,
-        (22, 1, 175),
-        "65 names"
-    );
+    for (pieces, wanted) in &TALL {
+        let text = repeated(alloc, pieces)?;
+        assert_eq!(rt; outcome(alloc, text.as_str())?, *wanted, "{text}");
+    }
     Ok(())
 }

@@ -14,11 +14,31 @@ pub(crate) fn words(alloc: Global, texts: &[&str]) -> Result<Vec<String>, AllocE
     Ok(words)
 }
 
+/// A file with this name and text.
+fn file(alloc: Global, name: &str, text: &str) -> Result<(String, Vec<u8>), AllocError> {
+    let bytes = Vec::from_slice(alloc, text.as_bytes())?;
+    Ok((String::from_str(alloc, name)?, bytes))
+}
+
+/// A folder with those of these files that aren't empty, whose reads with these numbers fail.
+pub(crate) fn folder_of(
+    alloc: Global,
+    texts: &[(&str, &str)],
+    failing: &[u64],
+) -> Result<MemFolder, AllocError> {
+    let mut files = Vec::new(alloc);
+    for (name, text) in texts {
+        if !text.is_empty() {
+            files.push(file(alloc, name, text)?)?;
+        }
+    }
+    MemFolder::new(alloc, files, Vec::from_slice(alloc, failing)?)
+}
+
 /// A folder with one file, whose reads with these numbers fail.
 pub(crate) fn folder(alloc: Global, text: &str, failing: &[u64]) -> Result<MemFolder, AllocError> {
     let mut files = Vec::new(alloc);
-    let bytes = Vec::from_slice(alloc, text.as_bytes())?;
-    files.push((String::from_str(alloc, "p.cql")?, bytes))?;
+    files.push(file(alloc, "p.cql", text)?)?;
     MemFolder::new(alloc, files, Vec::from_slice(alloc, failing)?)
 }
 
@@ -32,6 +52,21 @@ pub(crate) fn run<F: Folder, K: Sink>(
     let mut exporters: Vec<Box<dyn Exporter>> = Vec::new(alloc);
     let mut spoiled: Vec<Box<dyn Exporter>> = Vec::new(alloc);
     cq_run::run(alloc, words, folder, &mut exporters, &mut spoiled, out)
+}
+
+/// Whether a run without exporters ends so, with a sink of this room that then holds this.
+pub(crate) fn ends(
+    alloc: Global,
+    line: &[&str],
+    folder: &mut MemFolder,
+    room: u64,
+    status: Status,
+    written: &str,
+) -> Result<bool, AllocError> {
+    let mut out = MemSink::new(alloc, Vec::new(alloc), room)?;
+    let words = words(alloc, line)?;
+    let ended = run(alloc, words.as_slice(), folder, &mut out);
+    Ok(ended == status && out.bytes() == written.as_bytes())
 }
 
 pub(crate) struct Case {
@@ -418,12 +453,7 @@ instance I = literal : S { generators a : E }",
 fn each_status_with_its_line(rt: HostRuntime) -> Result<(), Fail> {
     let alloc = rt.alloc();
     for case in &CASES {
-        let mut folder = folder(alloc, case.text, &[])?;
-        let mut out = MemSink::new(alloc, Vec::new(alloc), 1000)?;
-        let words = words(alloc, case.words)?;
-        let status = run(alloc, words.as_slice(), &mut folder, &mut out);
-        assert!(rt; out.bytes() == case.written.as_bytes(), "{}", case.text);
-        assert_eq!(rt; status, case.status);
+        assert!(rt; passes(alloc, "", case)?, "{}", case.text);
     }
     Ok(())
 }
@@ -432,26 +462,28 @@ fn each_status_with_its_line(rt: HostRuntime) -> Result<(), Fail> {
 pub(crate) fn passes(alloc: Global, first: &str, case: &Case) -> Result<bool, AllocError> {
     let text = format!(in alloc; "{first}{}", case.text)?;
     let mut folder = folder(alloc, text.as_str(), &[])?;
-    let mut out = MemSink::new(alloc, Vec::new(alloc), 1000)?;
-    let words = words(alloc, case.words)?;
-    let status = run(alloc, words.as_slice(), &mut folder, &mut out);
-    Ok(out.bytes() == case.written.as_bytes() && status == case.status)
+    ends(
+        alloc,
+        case.words,
+        &mut folder,
+        1000,
+        case.status,
+        case.written,
+    )
 }
 
 #[test]
 fn devices_that_fail(rt: HostRuntime) -> Result<(), Fail> {
     let alloc = rt.alloc();
-    let words = words(alloc, RUN)?;
-    let mut unreadable = folder(alloc, FIRST, &[0])?;
-    let mut out = MemSink::new(alloc, Vec::new(alloc), 100)?;
-    let status = run(alloc, words.as_slice(), &mut unreadable, &mut out);
-    assert_eq!(rt; status, Status::Read);
-    assert!(rt; out.bytes() == b"read p.cql failed\n".as_slice());
-
-    let mut folder = folder(alloc, FIRST, &[])?;
-    let mut small = MemSink::new(alloc, Vec::new(alloc), 10)?;
-    let status = run(alloc, words.as_slice(), &mut folder, &mut small);
-    assert_eq!(rt; status, Status::Write);
-    assert!(rt; small.bytes() == b"instance I".as_slice());
+    for (failing, room, status, written) in [
+        ([0].as_slice(), 100, Status::Read, "read p.cql failed\n"),
+        ([].as_slice(), 10, Status::Write, "instance I"),
+    ] {
+        let mut folder = folder(alloc, FIRST, failing)?;
+        assert!(rt;
+            ends(alloc, RUN, &mut folder, room, status, written)?,
+            "{written}"
+        );
+    }
     Ok(())
 }

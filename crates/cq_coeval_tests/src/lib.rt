@@ -1,5 +1,0 @@
-//! Tests of what instances become along queries.
-#![tactic(auto)]
-
-#[cfg(test)]
-mod tests;
