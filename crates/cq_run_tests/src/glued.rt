@@ -154,11 +154,7 @@ fn made_along_queries_and_transforms(rt: HostRuntime) -> Result<(), Fail> {
     Ok(())
 }
 
-<<<<<<< HEAD
-static REFUSED: [Case; 7] = [
-=======
-static REFUSED: [Case; 10] = [
->>>>>>> fddeb3c0ae80eb03bc01fb21be4fc00f4f70f753
+static REFUSED: [Case; 9] = [
     // The instance is not over the schema to which the query is asked, or from which it is read backwards.
     Case {
         words: RUN,
