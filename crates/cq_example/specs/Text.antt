@@ -27,7 +27,8 @@ equation_line number = codes "f(" ++ generator number ++ codes ") = f(" ++ gener
 abbrev pub up_to : ℕ → List ℕ
 up_to = range_with_len 1
 
--- the text of the example of a size: so many generators, the equation of the first one's key, and one equation for each generator but the last
+-- the text of the example of a size: so many generators, the equation of the first one's key, and an equation for each generator but the
+-- last
 unfoldable pub text_of : ℕ → List ℕ
 text_of size =
     head

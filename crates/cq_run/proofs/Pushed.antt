@@ -1,5 +1,5 @@
 -- A line of counts, piece by piece.
-use Rattle.std.proofs.Common.{◌≡◌, ◌∙◌, ◌++◌, ℕ, List, append_assoc, ap}
+use Rattle.std.proofs.Common.{◌≡◌, ◌++◌, ℕ, List, append_assoc}
 use Rattle.std.specs.Prelude.{codes, decimal}
 
 -- nine pieces behind a text

@@ -119,7 +119,8 @@ fn publish<K: Sink>(
     spoiled: &mut Vec<Box<dyn Exporter>>,
     out: &mut K,
 ) -> Status
-    ensures { Stage (files_of (map listed_as instances.now)) (shown_of (ask_of order.entry) (map listed_as instances.now))
+    ensures { Stage (files_of (map listed_as instances.now))
+        (shown_of (ask_of order.entry) (map listed_as instances.now))
         (record { held = K.held out.old; faults = K.faults out.old; spare = K.spare out.old })
         (record { held = K.held out.new; faults = K.faults out.new; spare = K.spare out.new })
         (record { exporters = map account exporters.old.items; spoiled = map account spoiled.old.items })

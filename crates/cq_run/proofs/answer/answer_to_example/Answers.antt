@@ -1,4 +1,4 @@
-use Rattle.std.proofs.Common.{◌∙◌, arith}
+use Rattle.std.proofs.Common.{arith}
 use Rattle.cq_words.specs.Ask.{example}
 use Rattle.cq_run.proofs.Answered.{answered, untouched}
 use Rattle.cq_run.proofs.answer.answer_to_example.Goals as goal
