@@ -373,7 +373,9 @@ images_posed place lit e = and_then (images_given place e.start.instance e.finis
 
 -- Two instances are over one schema, and then the images are checked.
 abbrev pub transform_between : Place → TransformLit → InstanceMeant → InstanceMeant → Checked Posed
-transform_between place lit i j = if same_name i.schema j.schema then images_posed place lit (ends_of lit i j) else Err (lit.target.place, WrongSchema)
+transform_between place lit i j =
+    if same_name i.schema j.schema then images_posed place lit (ends_of lit i j)
+    else Err (lit.target.place, WrongSchema)
 
 abbrev pub transform_posed : Environment → Place → TransformLit → Checked Posed
 transform_posed env place lit =
