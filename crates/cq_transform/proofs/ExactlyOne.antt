@@ -28,7 +28,7 @@ is_less : (a b : ℕ) → a < b → nat_lt a b ≡ true
 is_less a b h = grind (arith, nat_tests)
 
 -- an entity with a row is one
-within_counts : (xs : List ℕ) (n m : ℕ) → m < slice_index xs n → n < length xs
+pub within_counts : (xs : List ℕ) (n m : ℕ) → m < slice_index xs n → n < length xs
 within_counts [] n m h = absurd (omega arith)
 within_counts (x ∷ xs) zero m h = omega arith
 within_counts (x ∷ xs) (suc n) m h = let rest : n < length xs = within_counts xs n m h in omega arith

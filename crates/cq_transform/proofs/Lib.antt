@@ -4,3 +4,13 @@ pub mod Kept
 pub mod ExactlyOne
 pub mod Ranges
 pub mod Itself
+pub mod Changed
+pub mod Spelled
+pub mod Everywhere
+pub mod Made
+pub mod SortedImages
+pub mod Loops
+pub mod Steps
+pub mod Told
+pub mod KeptSides
+pub mod Answered

@@ -1,0 +1,9 @@
+use Rattle.std.proofs.Common.{map}
+use Rattle.cq_model.specs.Standing.{meaning}
+use Rattle.cq_transform.proofs.KeptSides.{kept_values}
+use Rattle.cq_transform.proofs.equations.values_kept.Goals as goal
+
+pub returns : goal.returns
+returns c =
+    kept_values c.args.target.now.tables (map meaning c.args.standings.now) c.args.left.now c.args.right.now c.in_ok-first.first c.in_ok-second.second c.is_same.result
+    c.in_ok-first.ensures c.in_ok-second.ensures c.is_same.ensures

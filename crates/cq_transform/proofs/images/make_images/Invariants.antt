@@ -1,0 +1,6 @@
+use Rattle.std.proofs.Common.{◌≡◌, map, take}
+use Rattle.cq_transform.specs.Images.{image_named, names_of}
+use Rattle.cq_transform.proofs.images.make_images.Given as goal
+
+abbrev pub invariant-loop-generator : goal.invariant-loop-generator
+invariant-loop-generator l = l.images.items ≡ map (image_named l.schema l.to l.given l.parts) (names_of (take l.generator-index l.generators))
