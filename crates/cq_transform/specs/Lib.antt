@@ -6,3 +6,5 @@ pub mod Images
 pub mod Rows
 pub mod Nulls
 pub mod Transforming
+pub mod Composing
+pub mod Sent
