@@ -32,8 +32,8 @@ one_place : (i j : InstanceData) (images : List Image) (n m : ℕ) → IsBrokenA
 one_place i j images n m one other = elim (cases_order one.place other.place) [
   | inl same ↦ one.number ∙ ap (λ k. k + 1) same ∙ sym other.number
   | inr rest ↦ elim rest [
-    | inl less ↦ absurd (one.broken (other.first one.place one.equation less one.there))
-    | inr more ↦ absurd (other.broken (one.first other.place other.equation more other.there))
+    | inl less ↦ absurd (one.broken (other.first one.place less one.equation one.there))
+    | inr more ↦ absurd (other.broken (one.first other.place more other.equation other.there))
   ]
 ]
 
