@@ -14,3 +14,8 @@ pub mod Steps
 pub mod Told
 pub mod KeptSides
 pub mod Answered
+pub mod Put
+pub mod SortedValues
+pub mod Composed
+pub mod Composites
+pub mod Placed

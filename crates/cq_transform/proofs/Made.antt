@@ -48,10 +48,10 @@ module _ (i j : InstanceData) (same : j.schema ≡ i.schema) (instance : IsInsta
   H = j.presentation.generators
 
   -- the generators of j, without equations, hold in j
-  abbrev free : Presentation
+  abbrev pub free : Presentation
   free = record { generators = H; equations = [] }
 
-  free_holds : Holds j.schema free j.tables j.assignment
+  pub free_holds : Holds j.schema free j.tables j.assignment
   free_holds = record {
     well_formed = instance.well_formed;
     count = instance.assigned;
@@ -61,7 +61,7 @@ module _ (i j : InstanceData) (same : j.schema ≡ i.schema) (instance : IsInsta
   }
 
   -- what a term means is of its sort
-  meaning_sorted : (t : Term) (sort : Sort) → sort_of j.schema H t ≡ Some sort → HasSort j.schema j.tables sort (meaning_of j.tables j.assignment t)
+  pub meaning_sorted : (t : Term) (sort : Sort) → sort_of j.schema H t ≡ Some sort → HasSort j.schema j.tables sort (meaning_of j.tables j.assignment t)
   meaning_sorted (Ent t) sort h =
       let e = map_some Entity (entity_of j.schema H t) sort h in
       subst (λ (s : Sort). HasSort j.schema j.tables s (AtRow (row_of j.tables j.assignment t))) e.2 (row_of-within j.schema free j.tables j.assignment free_holds t e.0 e.1)

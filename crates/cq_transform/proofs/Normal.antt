@@ -42,7 +42,7 @@ plain_normal M (Null n) h = values.fold-Null Value (normal_step M) n
 plain_normal M _ h = absurd h
 
 -- a function at values on which no entry bears gives such a value
-applied_normal : (S : Schema) (M : Tables) → IsWellFormed S M → (f : ℕ) (vs : List Value) → map (normal_of M) vs ≡ vs → normal_of M (applied M f vs) ≡ applied M f vs
+pub applied_normal : (S : Schema) (M : Tables) → IsWellFormed S M → (f : ℕ) (vs : List Value) → map (normal_of M) vs ≡ vs → normal_of M (applied M f vs) ≡ applied M f vs
 applied_normal S M well f vs h = at_entry (find (is_for f vs) M.algebra.entries) refl
   where
     at_entry : (o : Option Entry) → find (is_for f vs) M.algebra.entries ≡ o → normal_of M (entry_or_built o f vs) ≡ entry_or_built o f vs

@@ -1,5 +1,6 @@
 -- The first fault of the images that are given to generators, and the images that they give.
-use Rattle.std.specs.Prelude.{ℕ, not, List, [], ◌∷◌, ◌||◌, if◌then◌else◌, map, slice_get, Option, Some, None, is_none, option_map, option_and_then}
+use Rattle.std.specs.Prelude.{ℕ, not, List, [], ◌∷◌, ◌||◌, if◌then◌else◌, map, slice_get, Option, Some, None, is_none, option_map}
+use Rattle.std.specs.Prelude.{option_and_then}
 use Rattle.cq_base.specs.declared.name.Name.{Name}
 use Rattle.cq_base.specs.declared.raw.Raw.{Raw}
 use Rattle.cq_base.specs.Names.{number_of}
@@ -20,7 +21,8 @@ use Rattle.cq_model.specs.InstanceData.{InstanceData}
 use Rattle.cq_model.specs.declared.transform.Image.{Image}
 use Rattle.cq_model.specs.declared.transform.Image.TheVariants.{Row, Value}
 use Rattle.cq_transform.specs.declared.refusal.TransformRefusal.{TransformRefusal}
-use Rattle.cq_transform.specs.declared.refusal.TransformRefusal.TheVariants.{Duplicate, Unknown, WrongCount, WrongSort, Reserved, TooLarge, Missing, Memory}
+use Rattle.cq_transform.specs.declared.refusal.TransformRefusal.TheVariants.{Duplicate, Unknown, WrongCount, WrongSort, Reserved, TooLarge}
+use Rattle.cq_transform.specs.declared.refusal.TransformRefusal.TheVariants.{Missing, Memory}
 use Rattle.cq_transform.specs.declared.scope.Scope.{Scope}
 
 -- the same refusal, of a transform
@@ -47,6 +49,13 @@ scope_of G = record { names = names_of G; sorts = sorts_of G }
 abbrev pub sort_in : Scope → Name → Option Sort
 sort_in scope name = option_and_then (slice_get scope.sorts) (number_of scope.names name)
 
+-- the least rule that an image of the right sort breaks
+abbrev pub late_rule : Schema → Raw → Option TermRefusal
+late_rule S raw =
+    if has_reserved S raw then Some term_refusal.Reserved
+    else (if is_too_large raw then Some term_refusal.TooLarge
+    else None)
+
 -- An image is given with the name of its generator. The generators of the source are in `from`, those of the target in `to`.
 module _ (S : Schema) (from to : Scope) where
   -- the least rule that an image breaks, but that no generator is given two
@@ -55,9 +64,7 @@ module _ (S : Schema) (from to : Scope) where
       if is_none (sort_in from part.0) || has_unknown S to.names part.1 then Some term_refusal.Unknown
       else (if has_wrong_count S part.1 then Some term_refusal.WrongCount
       else (if not (are_of_one_sort (raw_sort S to.names to.sorts part.1) (sort_in from part.0)) then Some term_refusal.WrongSort
-      else (if has_reserved S part.1 then Some term_refusal.Reserved
-      else (if is_too_large part.1 then Some term_refusal.TooLarge
-      else None))))
+      else late_rule S part.1))
 
   -- image n: its generator has one already, or the image breaks another rule
   abbrev pub image_fault : List Name → ℕ → Name × Raw → Option TheoryRefusal

@@ -7,3 +7,4 @@ pub mod Rows
 pub mod Nulls
 pub mod Transforming
 pub mod Composing
+pub mod Sent

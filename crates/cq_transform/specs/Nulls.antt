@@ -1,5 +1,6 @@
 -- Where nulls go: to the values of terms that mean them, which are found one after another.
-use Rattle.std.specs.Prelude.{ℕ, Bool, true, false, List, [], ◌∷◌, Option, Some, None, ◌≡◌, ◌<◌, ◌+◌, length, slice_get, slice_index_or, is_none, option_and_then}
+use Rattle.std.specs.Prelude.{ℕ, Bool, true, false, List, [], ◌∷◌, Option, Some, None, ◌≡◌, ◌<◌, ◌+◌, length, slice_get, slice_index_or}
+use Rattle.std.specs.Prelude.{is_none, option_and_then}
 use Rattle.std.specs.List.{list_any}
 use Rattle.cq_theory.specs.declared.constant.Con.TheVariants.{Named}
 use Rattle.cq_base.specs.declared.name.Name.{Name}

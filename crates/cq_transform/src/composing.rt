@@ -1,13 +1,13 @@
 //! One transform after another.
-ghost use Rattle.std.specs.Prelude.{ℕ, List, ◌≡◌, ◌⊎◌, true, false, IfOk, IfErr, OnOk, ◌++◌, ◌∷◌, [], length, map, slice_index, slice_index_or};
-ghost use Rattle.std.specs.List.{enumerate_from, list_any};
-ghost use Rattle.cq_theory.specs.SchemaData.{SchemaData as AnySchema};
-ghost use Rattle.cq_theory.specs.Tables.{Tables, applied as applied_in};
+ghost use Rattle.std.specs.Prelude.{◌≡◌, ◌⊎◌, true, false, IfOk, IfErr, OnOk, ◌++◌, ◌∷◌, [], map, slice_index};
+ghost use Rattle.std.specs.Prelude.{slice_index_or};
+ghost use Rattle.std.specs.List.{enumerate_from};
 ghost use Rattle.cq_theory.specs.declared.constant.Con.TheVariants as con;
 ghost use Rattle.cq_theory.specs.declared.value.Value.TheVariants as any_value;
-ghost use Rattle.cq_theory.specs.Homomorphism.{value_image};
 ghost use Rattle.cq_model.specs.InstanceData.{InstanceData, IsInstance};
-ghost use Rattle.cq_transform.specs.Composing.{put_image as image_put, is_long as is_over, has_long, composed_images as images_then, composed};
+ghost use Rattle.cq_transform.specs.Composing.{put_image as image_put, is_long as is_over, has_long};
+ghost use Rattle.cq_transform.specs.Composing.{composed_images as images_then, composed};
+ghost use Rattle.cq_transform.specs.Sent.{value_sent};
 ghost use Rattle.cq_transform.specs.Transforms.{GoesFrom};
 
 use crate::putting::put_image;
@@ -41,7 +41,7 @@ pub fn compose(
 {
     middle.is_instance();
     last.is_instance();
-    let images = composed_images(alloc, first.images.as_slice(), second.images.as_slice())?;
+    let images = images_of(alloc, first, second)?;
     match finished(alloc, first, second, last, images) {
         Ok(made) => Ok(made),
         Err(_) => Err(SizeRefusal::Memory),
@@ -94,6 +94,24 @@ fn composed_images(
     Ok(made)
 }
 
+/// The images of the composite.
+fn images_of(
+    alloc: Global,
+    first: &Transform,
+    second: &Transform,
+) -> Result<Vec<Image>, SizeRefusal>
+    ensures accepted { IfOk result (λ _. has_long (images_then first.now.images second.now.images) ≡ false) }
+    ensures made { IfOk result (λ made. made.items ≡ images_then first.now.images second.now.images) }
+    ensures refused { IfErr result (λ refusal. (refusal ≡ SizeRefusal.Memory)
+        ⊎ ((refusal ≡ SizeRefusal.TooLarge)
+        × (has_long (images_then first.now.images second.now.images) ≡ true))) }
+{
+    match composed_images(alloc, first.images.as_slice(), second.images.as_slice()) {
+        Ok(images) => Ok(images),
+        Err(refusal) => Err(refusal),
+    }
+}
+
 /// The number at a place, and 0 past the end.
 fn number_at(numbers: &[u32], place: u32) -> u32
     ensures { result ≡ slice_index numbers.now place }
@@ -126,7 +144,6 @@ fn rows_then(alloc: Global, rows: &[u32], then: &[u32]) -> Result<Seq<u32>, Allo
 }
 
 /// Where the rows of each entity go.
-#[tactic(auto, using(cq_model::proofs::Columned::enumerated_more))]
 fn composed_rows(
     alloc: Global,
     first: &[Seq<u32>],
@@ -152,23 +169,22 @@ fn null_then(alloc: Global, nulls: &[Value], label: u64) -> Result<Value, AllocE
     }
 }
 
-/// Where a value goes, if nulls go to these values, by the tables with these entries.
+/// Where a value goes by the second transform, to tables with these entries.
 fn value_then(
     alloc: Global,
     entries: &[Entry],
-    nulls: &[Value],
+    second: &Transform,
     value: &Value,
 ) -> Result<Value, AllocError>
-    ensures { (S : AnySchema) (M N : Tables) (rows : List (List ℕ)) → N.algebra.entries ≡ entries.now
-        → IfOk result (λ made. made ≡ value_image S M N rows nulls.now value.now) }
+    ensures { IfOk result (λ made. made ≡ value_sent entries.now second.now.nulls value.now) }
 {
     match value {
         Value::Const(constant) => Ok(Value::Const(constant.clone()?)),
-        Value::Null(label) => null_then(alloc, nulls, *label),
+        Value::Null(label) => null_then(alloc, second.nulls.as_slice(), *label),
         Value::Fun(function, args) => {
             let mut made = Vec::new(alloc);
             for arg in args.as_slice() {
-                made.push(value_then(alloc, entries, nulls, arg)?)?;
+                made.push(value_then(alloc, entries, second, arg)?)?;
             }
             applied(alloc, entries, *function, made)
         }
@@ -179,15 +195,14 @@ fn value_then(
 fn composed_nulls(
     alloc: Global,
     entries: &[Entry],
-    nulls: &[Value],
+    second: &Transform,
     values: &[Value],
 ) -> Result<Vec<Value>, AllocError>
-    ensures { (S : AnySchema) (M N : Tables) (rows : List (List ℕ)) → N.algebra.entries ≡ entries.now
-        → IfOk result (λ made. made.items ≡ map (value_image S M N rows nulls.now) values.now) }
+    ensures { IfOk result (λ made. made.items ≡ map (value_sent entries.now second.now.nulls) values.now) }
 {
     let mut made = Vec::with_capacity(alloc, values.len())?;
     for value in values {
-        made.push(value_then(alloc, entries, nulls, value)?)?;
+        made.push(value_then(alloc, entries, second, value)?)?;
     }
     Ok(made)
 }
@@ -205,12 +220,7 @@ fn finished(
 {
     let rows = composed_rows(alloc, first.rows.as_slice(), second.rows.as_slice())?;
     let entries = last.algebra().entries.as_slice();
-    let nulls = composed_nulls(
-        alloc,
-        entries,
-        second.nulls.as_slice(),
-        first.nulls.as_slice(),
-    )?;
+    let nulls = composed_nulls(alloc, entries, second, first.nulls.as_slice())?;
     Ok(Transform {
         images: Seq::from_vec(images),
         rows: Seq::from_vec(rows),

@@ -2,7 +2,8 @@
 ghost use Rattle.std.specs.Prelude.{◌≡◌, ◌<◌, ◌||◌, IfOk, OnOk, true, false};
 ghost use Rattle.cq_theory.specs.Tables.{Assignment};
 ghost use Rattle.cq_model.specs.InstanceData.{InstanceData};
-ghost use Rattle.cq_transform.specs.Nulls.{Keeps, IsInitial, AreSpelled, IsEntryOf, IsEntryClosed, AreEntriesClosed, count_open};
+ghost use Rattle.cq_transform.specs.Nulls.{Keeps, IsInitial, AreSpelled, IsEntryOf, IsEntryClosed, AreEntriesClosed};
+ghost use Rattle.cq_transform.specs.Nulls.{count_open};
 
 use crate::found::{has_open, open_label, plain_images, put};
 use cq_model::application::applied;

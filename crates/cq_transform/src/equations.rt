@@ -1,5 +1,6 @@
 //! Whether equations are kept.
-ghost use Rattle.std.specs.Prelude.{ℕ, ◌≡◌, ◌<◌, ◌+◌, ◌-◌, ◌^◌, ◌⊎◌, ◌↔◌, IfOk, IfErr, IsTrue, Some, length, map, slice_get};
+ghost use Rattle.std.specs.Prelude.{ℕ, ◌≡◌, ◌<◌, ◌+◌, ◌-◌, ◌^◌, ◌⊎◌, ◌↔◌, IfOk, IfErr, IsTrue, Some, length, map};
+ghost use Rattle.std.specs.Prelude.{slice_get};
 ghost use Rattle.cq_theory.specs.declared.presentation.Equation.{Equation as AnyEquation};
 ghost use Rattle.cq_theory.specs.Tables.{AtRow, AtValue, row_of, value_of};
 ghost use Rattle.cq_model.specs.Standing.{meaning};
@@ -106,7 +107,8 @@ fn check_equation(
     requires place { place < 2 ^ 64 - 1 }
     ensures kept { IfOk result (λ _. IsEqual target.now.tables (map meaning standings.now) equation.now) }
     ensures refused { IfErr result (λ refusal. (refusal ≡ TransformRefusal.Memory)
-        ⊎ ((refusal ≡ TransformRefusal.Broken (place + 1)) × (IsEqual target.now.tables (map meaning standings.now) equation.now → ⊥))) }
+        ⊎ ((refusal ≡ TransformRefusal.Broken (place + 1))
+        × (IsEqual target.now.tables (map meaning standings.now) equation.now → ⊥))) }
 {
     match is_kept(alloc, target, standings, equation) {
         Ok(kept) => {

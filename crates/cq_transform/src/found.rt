@@ -1,7 +1,8 @@
 //! The values that have been found for nulls.
 ghost use Rattle.std.specs.Prelude.{◌≡◌, IfOk, IfSome, IfNone, Some, ◌<◌, length, map, option_copied, slice_set};
 ghost use Rattle.std.specs.List.{list_any};
-ghost use Rattle.cq_transform.specs.Nulls.{value_at as found_at, value_or_first as value_or_constant, is_open as has_none, plain_image as image_in, IsOpenAt, IsClosed};
+ghost use Rattle.cq_transform.specs.Nulls.{value_at as found_at, value_or_first as value_or_constant};
+ghost use Rattle.cq_transform.specs.Nulls.{is_open as has_none, plain_image as image_in, IsOpenAt, IsClosed};
 
 use cq_model::values::copied;
 use cq_theory::{Con, Value};

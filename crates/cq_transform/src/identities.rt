@@ -1,6 +1,5 @@
 //! Identities.
-ghost use Rattle.std.specs.Prelude.{ℕ, ◌≡◌, ◌<◌, ◌≤◌, ◌^◌, IfOk, length, map};
-ghost use Rattle.std.specs.List.{enumerate_from};
+ghost use Rattle.std.specs.Prelude.{◌≡◌, ◌<◌, ◌≤◌, IfOk, length, map};
 ghost use Rattle.cq_base.specs.declared.name.Name.{Name as AnyName};
 ghost use Rattle.cq_theory.specs.declared.value.Value.TheVariants.{Null};
 ghost use Rattle.cq_theory.specs.Canonical.{below};

@@ -1,9 +1,13 @@
 //! The images of generators, by parts that name them.
-ghost use Rattle.std.specs.Prelude.{◌≡◌, ◌≤◌, ◌-◌, ◌<◌, ◌^◌, ◌⊎◌, ◌||◌, ◌++◌, ◌∷◌, [], IfOk, IfErr, Some, None, is_none, length, map, option_map, option_copied};
+ghost use Rattle.std.specs.Prelude.{◌≡◌, ◌≤◌, ◌-◌, ◌<◌, ◌^◌, ◌⊎◌, ◌||◌, ◌++◌, ◌∷◌, [], IfOk, IfErr, Some, None};
+ghost use Rattle.std.specs.Prelude.{is_none, length, map, option_map, option_copied};
 ghost use Rattle.cq_base.specs.Names.{AreDistinct};
-ghost use Rattle.cq_theory.specs.Resolve.{or_else, in_part, are_of_one_sort, has_unknown as is_unknown_in};
+ghost use Rattle.cq_theory.specs.Resolve.{or_else, are_of_one_sort, has_unknown as is_unknown_in};
 ghost use Rattle.cq_theory.specs.Resolved.{resolved};
-ghost use Rattle.cq_transform.specs.Images.{of_transform as transform_refusal, image_rule as rule_of_image, image_fault, parts_fault, given as given_by, first_missing, image_of as image_of_term, image_in as image_by, image_named, names_of, sorts_of, scope_of, fault_over, made_over};
+ghost use Rattle.cq_transform.specs.Images.{of_transform as transform_refusal, image_rule as rule_of_image};
+ghost use Rattle.cq_transform.specs.Images.{late_rule as rule_of_sorted, image_fault, parts_fault, given as given_by};
+ghost use Rattle.cq_transform.specs.Images.{first_missing, image_of as image_of_term, image_in as image_by};
+ghost use Rattle.cq_transform.specs.Images.{image_named, names_of, scope_of, fault_over, made_over};
 
 use crate::refusal::{TransformRefusal, of_transform};
 use crate::scope::{Scope, make_scope, sort_of};
@@ -34,6 +38,19 @@ fn is_unknown(schema: &Schema, to: &Scope, sort: Option<Sort>, image: &Raw) -> b
     sort.is_none() || has_unknown(schema, &to.names, image)
 }
 
+/// The least rule that an image of the right sort breaks.
+fn late_rule(schema: &Schema, image: &Raw) -> Option<TermRefusal>
+    ensures { result ≡ rule_of_sorted schema.now image.now }
+{
+    if has_reserved(schema, image) {
+        Some(TermRefusal::Reserved)
+    } else if is_too_large(image) {
+        Some(TermRefusal::TooLarge)
+    } else {
+        None
+    }
+}
+
 /// The least rule that an image breaks, but that no generator is given two.
 #[tactic(auto, unfolding(crate::specs::Images::image_rule))]
 fn image_rule(schema: &Schema, from: &Scope, to: &Scope, part: &(Name, Raw)) -> Option<TermRefusal>
@@ -47,12 +64,8 @@ fn image_rule(schema: &Schema, from: &Scope, to: &Scope, part: &(Name, Raw)) -> 
         Some(TermRefusal::WrongCount)
     } else if !have_one_sort(sort_of_raw(schema, &to.names, sorts, &part.1), sort) {
         Some(TermRefusal::WrongSort)
-    } else if has_reserved(schema, &part.1) {
-        Some(TermRefusal::Reserved)
-    } else if is_too_large(&part.1) {
-        Some(TermRefusal::TooLarge)
     } else {
-        None
+        late_rule(schema, &part.1)
     }
 }
 

@@ -1,6 +1,7 @@
 //! The values to which nulls go. Generators, cells and entries tell them: what means the null in the source has its
 //! value in the target.
-ghost use Rattle.std.specs.Prelude.{ℕ, [], ◌≡◌, ◌<◌, IfOk, OnOk, Some, None, length, map, replicate, slice_get, slice_index, slice_index_or};
+ghost use Rattle.std.specs.Prelude.{ℕ, [], ◌≡◌, ◌<◌, IfOk, OnOk, Some, None, length, map, replicate, slice_get};
+ghost use Rattle.std.specs.Prelude.{slice_index, slice_index_or};
 ghost use Rattle.cq_theory.specs.declared.schema.Edge.{Edge as AnyEdge};
 ghost use Rattle.cq_theory.specs.declared.term.Term.TheVariants.{Typ};
 ghost use Rattle.cq_theory.specs.declared.term.TypeTerm.TheVariants.{Gen};
@@ -9,7 +10,9 @@ ghost use Rattle.cq_theory.specs.Tables.{Assignment, AtRow, cell_at as cell_in, 
 ghost use Rattle.cq_model.specs.InstanceData.{InstanceData};
 ghost use Rattle.cq_model.specs.Standing.{meaning};
 ghost use Rattle.cq_transform.specs.Rows.{rows_made};
-ghost use Rattle.cq_transform.specs.Nulls.{Keeps, AreSpelled, AreClosed, AreNulls, IsInitial, IsClosed, IsGenerator, IsGeneratorClosed, IsPlainClosed, AreGeneratorsClosed, IsAttributeClosed, AreAttributesClosed, IsStandingOf, IsCellOf, IsColumnOf};
+ghost use Rattle.cq_transform.specs.Nulls.{Keeps, AreSpelled, AreClosed, AreNulls, IsInitial, IsClosed, IsGenerator};
+ghost use Rattle.cq_transform.specs.Nulls.{IsGeneratorClosed, IsPlainClosed, AreGeneratorsClosed, IsAttributeClosed};
+ghost use Rattle.cq_transform.specs.Nulls.{AreAttributesClosed, IsStandingOf, IsCellOf, IsColumnOf};
 
 use crate::entries::find_entries;
 use crate::found::{open_label, put, values_of};
@@ -260,7 +263,8 @@ fn find_cells(
     ensures spelled { (B : Assignment) → IsInitial source.now → rows.now ≡ rows_made source.now target.now B
         → AreSpelled source.now target.now B found.old.items
         → OnOk result (AreSpelled source.now target.now B found.new.items) }
-    ensures closed { OnOk result (AreAttributesClosed source.now found.new.items (length source.now.schema.attributes)) }
+    ensures closed { OnOk result (AreAttributesClosed source.now found.new.items
+        (length source.now.schema.attributes)) }
 {
     for attribute in 0..attribute_count(source) {
         find_attribute(alloc, source, target, rows, attribute, found)?;

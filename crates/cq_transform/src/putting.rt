@@ -1,6 +1,7 @@
 //! Terms with the images of generators in the place of these.
-ghost use Rattle.std.specs.Prelude.{◌≡◌, ◌++◌, IfOk, option_copied};
-ghost use Rattle.cq_transform.specs.Composing.{row_term, value_term, put_row as row_put, put_value as value_put, put_image as image_put};
+ghost use Rattle.std.specs.Prelude.{◌≡◌, ◌++◌, IfOk, slice_get};
+ghost use Rattle.cq_transform.specs.Composing.{value_term, put_row as row_put, put_value as value_put};
+ghost use Rattle.cq_transform.specs.Composing.{put_image as image_put};
 
 use cq_base::Seq;
 use cq_model::Image;
@@ -69,10 +70,10 @@ fn copied_value(alloc: Global, term: &TypeTerm) -> Result<TypeTerm, AllocError>
 }
 
 /// The term to which a generator of a type is sent, and a constant where there is none.
-fn value_at(alloc: Global, image: Option<&Image>) -> Result<TypeTerm, AllocError>
-    ensures { IfOk result (λ made. made ≡ value_term (option_copied image.entry)) }
+fn value_at(alloc: Global, images: &[Image], generator: u32) -> Result<TypeTerm, AllocError>
+    ensures { IfOk result (λ made. made ≡ value_term (slice_get images.now generator)) }
 {
-    match image {
+    match images.get(generator as usize) {
         Some(Image::Value(term)) => copied_value(alloc, term),
         Some(Image::Row(_)) => Ok(TypeTerm::Const(Con::Named(0))),
         None => Ok(TypeTerm::Const(Con::Named(0))),
@@ -84,7 +85,7 @@ fn put_value(alloc: Global, images: &[Image], term: &TypeTerm) -> Result<TypeTer
     ensures { IfOk result (λ made. made ≡ value_put images.now term.now) }
 {
     match term {
-        TypeTerm::Gen(generator) => value_at(alloc, images.get(*generator as usize)),
+        TypeTerm::Gen(generator) => value_at(alloc, images, *generator),
         TypeTerm::Const(constant) => Ok(TypeTerm::Const(constant.clone()?)),
         TypeTerm::Att(attribute, term) => {
             Ok(TypeTerm::Att(*attribute, put_row(alloc, images, term)?))

@@ -1,5 +1,5 @@
 //! The rows to which rows go.
-ghost use Rattle.std.specs.Prelude.{ℕ, List, [], ◌≡◌, ◌<◌, IfOk, length, map, slice_index_or};
+ghost use Rattle.std.specs.Prelude.{◌≡◌, ◌<◌, IfOk, length, map, slice_index_or};
 ghost use Rattle.cq_theory.specs.Tables.{AtRow, key_at as key_in, row_from as row_behind, row_in as row_meant, row_of};
 ghost use Rattle.cq_model.specs.Standing.{meaning};
 ghost use Rattle.cq_transform.specs.Rows.{rows_there, rows_made};

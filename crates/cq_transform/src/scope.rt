@@ -1,5 +1,5 @@
 //! The generators of a presentation, by name.
-ghost use Rattle.std.specs.Prelude.{◌≡◌, ◌≤◌, ◌<◌, ◌-◌, ◌^◌, ◌++◌, ◌∷◌, [], None, IfOk, length, map};
+ghost use Rattle.std.specs.Prelude.{◌≡◌, ◌≤◌, ◌<◌, ◌-◌, ◌^◌, ◌++◌, ◌∷◌, [], None, IfOk, length};
 ghost use Rattle.cq_base.specs.Names.{number_of, AreDistinct};
 ghost use Rattle.cq_transform.specs.Images.{names_of, sorts_of, scope_of, sort_in};
 

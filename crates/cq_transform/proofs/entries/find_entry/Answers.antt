@@ -1,4 +1,4 @@
-use Rattle.std.proofs.Common.{Bool, false, None, ◌≡◌, ◌<◌, length, map, refl, sym, subst, ◌∙◌}
+use Rattle.std.proofs.Common.{false, None, ◌≡◌, ◌<◌, length, map, refl, sym, subst, ◌∙◌}
 use Rattle.std.specs.List.{list_any}
 use Rattle.std.proofs.lemmas.Option.{slice_get_within}
 use Rattle.cq_transform.specs.Nulls.{Found, is_open, plain_image}

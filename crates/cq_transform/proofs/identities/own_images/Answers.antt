@@ -1,4 +1,4 @@
-use Rattle.std.proofs.Common.{List, [], ◌∷◌, ◌++◌, ◌≡◌, get_or, sym, ap, ◌∙◌}
+use Rattle.std.proofs.Common.{[], ◌∷◌, ◌++◌, ◌≡◌, get_or, sym, ap, ◌∙◌}
 use Rattle.cq_base.specs.declared.name.Name.{Name}
 use Rattle.cq_theory.specs.declared.presentation.Sort.{Sort}
 use Rattle.cq_model.proofs.Columned.{enumerated_more}

@@ -1,4 +1,4 @@
-use Rattle.std.proofs.Common.{◌≡◌, take, map}
+use Rattle.std.proofs.Common.{◌≡◌, take}
 use Rattle.cq_transform.specs.Identities.{identity_images}
 use Rattle.cq_transform.proofs.identities.own_images.Given as goal
 

@@ -1,4 +1,4 @@
-use Rattle.std.proofs.Common.{Some, length, sym, ap, ◌∙◌, arith}
+use Rattle.std.proofs.Common.{length, sym, ap, ◌∙◌, arith}
 use Rattle.std.specs.Prelude.{slice_get}
 use Rattle.cq_theory.specs.Sorts.{Generators}
 use Rattle.cq_theory.specs.declared.presentation.Presentation.{Presentation}

@@ -1,7 +1,6 @@
-use Rattle.std.proofs.Common.{List, ◌≡◌, length, map, sym, ap, subst, ◌∙◌}
+use Rattle.std.proofs.Common.{◌≡◌, length, map, sym, ap, subst, ◌∙◌}
 use Rattle.cq_theory.specs.Tables.{Assignment}
 use Rattle.cq_theory.specs.declared.value.Algebra.{Algebra}
-use Rattle.cq_theory.specs.declared.value.Entry.{Entry}
 use Rattle.cq_model.specs.InstanceData.{InstanceData}
 use Rattle.cq_model.specs.Standing.{meaning}
 use Rattle.cq_transform.specs.Nulls.{Found, AreEntriesClosed, value_or_first}

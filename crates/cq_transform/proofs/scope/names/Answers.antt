@@ -1,5 +1,4 @@
 use Rattle.std.proofs.Common.{[], ◌∷◌, ◌++◌, length, sym, ap, subst, ◌∙◌, arith}
-use Rattle.std.specs.List.{IsDistinct}
 use Rattle.cq_base.specs.Names.{AreDistinct}
 use Rattle.cq_base.proofs.Numbers.{AreDistinct-more}
 use Rattle.cq_transform.proofs.Loops.{names_more, few_names}

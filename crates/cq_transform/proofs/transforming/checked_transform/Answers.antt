@@ -1,4 +1,4 @@
-use Rattle.std.proofs.Common.{List, map, ap, subst, ◌∙◌}
+use Rattle.std.proofs.Common.{List, map, subst}
 use Rattle.cq_theory.specs.Tables.{Assignment}
 use Rattle.cq_theory.specs.declared.presentation.Equation.{Equation}
 use Rattle.cq_model.specs.Standing.{meaning}

@@ -1,6 +1,5 @@
 use Rattle.std.proofs.Common.{None, ◌≡◌, sym, subst, ◌∙◌}
 use Rattle.cq_base.specs.Names.{AreDistinct}
-use Rattle.cq_theory.specs.SchemaData.{SchemaData as Schema}
 use Rattle.cq_theory.specs.Sorts.{Generators}
 use Rattle.cq_transform.specs.Images.{names_of, fault_over, made_over, images_fault, images_made}
 use Rattle.cq_transform.proofs.SortedImages.{images_sorted}

@@ -3,7 +3,6 @@ use Rattle.cq_base.specs.declared.name.Name.{Name}
 use Rattle.cq_base.specs.declared.raw.Raw.{Raw}
 use Rattle.cq_model.specs.InstanceData.{InstanceData}
 use Rattle.cq_model.specs.declared.transform.Transform.{Transform}
-use Rattle.cq_transform.specs.declared.refusal.TransformRefusal.{TransformRefusal}
 use Rattle.cq_transform.specs.Images.{images_fault, images_made}
 use Rattle.cq_transform.specs.Refusals.{TellsUnequal}
 use Rattle.cq_transform.specs.Transforms.{meanings_in}
