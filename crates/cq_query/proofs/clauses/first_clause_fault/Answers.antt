@@ -4,7 +4,7 @@ use Rattle.cq_query.proofs.Repeats.{nothing_given, given_more, clause_refused, c
 use Rattle.cq_query.proofs.clauses.first_clause_fault.Goals as goal
 
 pub loop-part-init : goal.loop-part-init
-loop-part-init c = (omega arith, nothing_given c.new-symbols.result.keys c.new-assigned.result.keys c.new-symbols.ensures.empty c.new-assigned.ensures.empty, refl)
+loop-part-init c = (omega arith, nothing_given c.with_hasher-symbols.result.keys c.with_hasher-assigned.result.keys c.with_hasher-symbols.ensures.empty c.with_hasher-assigned.ensures.empty, refl)
 
 pub loop-part-preserved : goal.loop-part-preserved
 loop-part-preserved c =
