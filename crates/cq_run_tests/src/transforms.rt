@@ -73,8 +73,10 @@ instance P : S
 entity E 2
 1 g1 x=Al
 2 g2 x=Al
-nulls 0
-entries 0
+nulls 1
+?0 s
+entries 1
+h(Al) = ?0
 end
 ",
     },
