@@ -7,13 +7,14 @@ use cq_run::run;
 use std::alloc::Global;
 use std::process::ExitCode;
 
-const FILES: [&str; 11] = [
+const FILES: [&str; 12] = [
     "examples/first-run.cql",
     "examples/orders.cql",
     "examples/departments.cql",
     "examples/employees.cql",
     "examples/people.cql",
     "examples/lists.cql",
+    "examples/glued.cql",
     "examples/moves.cql",
     "examples/questions.cql",
     "examples/exercises/chief.cql",
