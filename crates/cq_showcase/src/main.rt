@@ -33,7 +33,7 @@ fn main(rt: HostRuntime) -> ExitCode {
 }
 
 /// Prints the name of a file, what a run of it prints, and what it exports. None: the memory or the output failed.
-fn show(rt: HostRuntime, out: &mut StdSink, name: &str) -> Option<()> {
+fn show<K: Sink>(rt: HostRuntime, out: &mut K, name: &str) -> Option<()> {
     let alloc = rt.alloc();
     head(out, "== ", name)?;
     let mut words = Vec::new(alloc);
@@ -67,7 +67,7 @@ fn both(alloc: Global) -> Option<Vec<Box<dyn Exporter>>> {
 }
 
 /// Prints files with their names.
-fn files(out: &mut StdSink, kept: &[(String, Vec<u8>)]) -> Option<()> {
+fn files<K: Sink>(out: &mut K, kept: &[(String, Vec<u8>)]) -> Option<()> {
     for (name, bytes) in kept {
         head(out, "-- ", name.as_str())?;
         out.write_all(bytes.as_slice()).ok()?;
@@ -76,7 +76,7 @@ fn files(out: &mut StdSink, kept: &[(String, Vec<u8>)]) -> Option<()> {
 }
 
 /// Prints a line with a name.
-fn head(out: &mut StdSink, mark: &str, name: &str) -> Option<()> {
+fn head<K: Sink>(out: &mut K, mark: &str, name: &str) -> Option<()> {
     out.write_all(mark.as_bytes()).ok()?;
     out.write_all(name.as_bytes()).ok()?;
     out.write_all(b"\n").ok()
