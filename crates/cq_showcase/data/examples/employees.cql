@@ -1,4 +1,5 @@
-// Employees, their managers and their departments.
+// Employees, their managers and their departments: what follows from two path equations and an observation equation,
+// and values that are known only as sums.
 typeside Ty = literal {
   types string nat
   constants Al Bob Bo Carl Math CS : string

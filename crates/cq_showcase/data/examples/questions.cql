@@ -1,4 +1,5 @@
-// A query asks which orders were made from the same street, and what it answers is an instance.
+// A query asks which orders were made from the same street, and what it answers is an instance: a street that nobody
+// knows is equal to itself alone.
 typeside T = literal { types text literals text }
 
 schema Shop = literal : T {

@@ -1,4 +1,5 @@
 // Solution of the third exercise: a query with one variable and a where equation finds the customers in a given street.
+// A customer whose street nobody knows is not found.
 typeside T = literal { types text literals text }
 
 schema Shop = literal : T { entities Customer attributes name street : Customer -> text }
