@@ -36,11 +36,13 @@ fn main(rt: HostRuntime) -> ExitCode {
 fn show<K: Sink>(rt: HostRuntime, out: &mut K, name: &str) -> Option<()> {
     let alloc = rt.alloc();
     head(out, "== ", name)?;
-    let mut words = Vec::new(alloc);
-    words.push(String::from_str(alloc, "run").ok()?).ok()?;
-    words.push(String::from_str(alloc, name).ok()?).ok()?;
+    let words = words(alloc, name)?;
     let mut folder = DirFolder::new(rt, alloc);
-    let mut exporters = both(alloc)?;
+    let csv = MemExporter::new(alloc, Format::Csv, Vec::new(alloc)).ok()?;
+    let cql = MemExporter::new(alloc, Format::Cql, Vec::new(alloc)).ok()?;
+    let mut exporters: Vec<Box<dyn Exporter>> = Vec::new(alloc);
+    exporters.push(Box::new(alloc, csv).ok()?).ok()?;
+    exporters.push(Box::new(alloc, cql).ok()?).ok()?;
     let mut spoiled: Vec<Box<dyn Exporter>> = Vec::new(alloc);
     run(
         alloc,
@@ -56,14 +58,12 @@ fn show<K: Sink>(rt: HostRuntime, out: &mut K, name: &str) -> Option<()> {
     Some(())
 }
 
-/// An exporter in memory of each format.
-fn both(alloc: Global) -> Option<Vec<Box<dyn Exporter>>> {
-    let mut exporters: Vec<Box<dyn Exporter>> = Vec::new(alloc);
-    for format in [Format::Csv, Format::Cql] {
-        let exporter = MemExporter::new(alloc, format, Vec::new(alloc)).ok()?;
-        exporters.push(Box::new(alloc, exporter).ok()?).ok()?;
-    }
-    Some(exporters)
+/// The words that run a file.
+fn words(alloc: Global, name: &str) -> Option<Vec<String>> {
+    let mut words = Vec::new(alloc);
+    words.push(String::from_str(alloc, "run").ok()?).ok()?;
+    words.push(String::from_str(alloc, name).ok()?).ok()?;
+    Some(words)
 }
 
 /// Prints files with their names.
