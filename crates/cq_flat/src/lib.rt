@@ -16,6 +16,3 @@ mod uses;
 
 pub use flat::Flat;
 pub use node::Node;
-
-#[cfg(test)]
-mod tests;

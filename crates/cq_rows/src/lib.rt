@@ -11,6 +11,3 @@ mod settle;
 mod waiting;
 
 pub use grow::{MOST_ROWS, Partial, RowsRefusal, saturate};
-
-#[cfg(test)]
-mod tests;

@@ -9,6 +9,3 @@ pub mod words;
 
 pub use request::Request;
 pub use words::read_words;
-
-#[cfg(test)]
-mod tests;

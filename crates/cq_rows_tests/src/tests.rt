@@ -3,9 +3,9 @@ ghost use Rattle.std.specs.Prelude.{◌≡◌, ◌+◌, ◌<◌, ◌≤◌, ◌^
 ghost use Rattle.cq_theory.specs.TypesideParts.{literals_count};
 ghost use Rattle.cq_theory.specs.Presentation.{IsPresentation};
 
-use crate::fill::count_live;
-use crate::{Partial, RowsRefusal, saturate};
 use cq_base::{Name, Raw, Seq};
+use cq_rows::{Partial, RowsRefusal, saturate};
+use cq_tables::Tables;
 use cq_theory::{
     Presentation, PresentationParts, Schema, SchemaParts, TheoryRefusal, Typeside, TypesideParts,
 };
@@ -125,6 +125,16 @@ fn saturated(alloc: Global, schema: &Schema, presentation: &Presentation, depth:
         Err(RowsRefusal::TooManyRows) => Outcome::TooManyRows,
         Err(RowsRefusal::Memory) => Outcome::NoMemory,
     }
+}
+
+fn count_live(tables: &Tables) -> u64 {
+    let mut count: u64 = 0;
+    for row in 0..tables.made() {
+        if tables.live(row) {
+            count = count.saturating_add(1);
+        }
+    }
+    count
 }
 
 fn outcome_of(partial: &Partial) -> Outcome {

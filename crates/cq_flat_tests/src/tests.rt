@@ -1,8 +1,8 @@
 //! Closures that are known, and closures compared with a slow one.
 ghost use Rattle.std.specs.Prelude.{◌≡◌, ◌≤◌, length, IfOk};
 
-use crate::{Flat, Node};
 use cq_base::{Name, Seq};
+use cq_flat::{Flat, Node};
 use cq_theory::{Con, Value};
 use std::alloc::{AllocError, Global};
 use std::process::Abort;

@@ -1,7 +1,7 @@
 //! Lines of words, and what they ask for.
 
-use crate::{Request, read_words};
 use cq_io::Format;
+use cq_words::{Request, read_words};
 use std::alloc::{AllocError, Global};
 use std::test::Fail;
 

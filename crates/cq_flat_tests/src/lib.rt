@@ -1,0 +1,5 @@
+//! Tests of ground congruence closure.
+#![tactic(auto)]
+
+#[cfg(test)]
+mod tests;

@@ -1,0 +1,5 @@
+//! Tests of lines of words.
+#![tactic(auto)]
+
+#[cfg(test)]
+mod tests;
