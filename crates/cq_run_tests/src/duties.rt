@@ -135,7 +135,7 @@ schema Round = literal : T { entities P foreign_keys t : P -> P path_equations t
 schema Pairs = literal : T { entities P O foreign_keys t : P -> O }
 ";
 
-/// Sources with more and more equations, and a target with an equation of each kind.
+/// Sources of rows that come round, and a target with an equation of each kind.
 const ORDER: &str = "\
 typeside T = literal { types n s literals s constants one zero : n Al : s functions succ : n -> n }
 schema S0 = literal : T { entities E foreign_keys k : E -> E path_equations k.k = E attributes x : E -> s v : E -> n }

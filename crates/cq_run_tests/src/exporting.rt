@@ -1,7 +1,7 @@
 //! Runs with exporters.
-use crate::tests::{RUN, folder, words};
+use crate::tests::{RUN, folder, run_with, words};
 use cq_io::{DirExporter, DirFolder, Exporter, Folder, Format, MemExporter, MemSink};
-use cq_run::{Status, run};
+use cq_run::Status;
 use std::alloc::{AllocError, Global};
 use std::test::Fail;
 
@@ -100,7 +100,7 @@ fn leaves(alloc: Global, choice: &Choice) -> Result<bool, AllocError> {
     let mut out = MemSink::new(alloc, Vec::new(alloc), 1000)?;
     let mut exporters = both(alloc, &[], &[])?;
     let mut spoiled: Vec<Box<dyn Exporter>> = Vec::new(alloc);
-    let ended = run(
+    let ended = run_with(
         alloc,
         words.as_slice(),
         &mut folder,
@@ -108,11 +108,7 @@ fn leaves(alloc: Global, choice: &Choice) -> Result<bool, AllocError> {
         &mut spoiled,
         &mut out,
     );
-    Ok(
-        ended == choice.status
-            && spoiled.is_empty()
-            && are_of(exporters.as_slice(), choice.formats),
-    )
+    Ok(ended == choice.status && spoiled.is_empty() && are_of(exporters.as_slice(), choice.formats))
 }
 
 #[test]
@@ -233,7 +229,7 @@ fn gives(
     let mut out = MemSink::new(alloc, Vec::new(alloc), room)?;
     let mut exporters = both(alloc, wanted.csv, wanted.cql)?;
     let mut spoiled: Vec<Box<dyn Exporter>> = Vec::new(alloc);
-    let ended = run(
+    let ended = run_with(
         alloc,
         words.as_slice(),
         &mut folder,
@@ -313,7 +309,7 @@ fn exported_files_lie_in_a_folder(rt: HostRuntime) -> Result<(), Fail> {
     let mut exporters: Vec<Box<dyn Exporter>> = Vec::new(alloc);
     exporters.push(Box::new(alloc, csv)?)?;
     let mut spoiled: Vec<Box<dyn Exporter>> = Vec::new(alloc);
-    let ended = run(
+    let ended = run_with(
         alloc,
         words.as_slice(),
         &mut folder,

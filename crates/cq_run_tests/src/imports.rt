@@ -1,6 +1,6 @@
 //! Programs that read a folder of files: what they mean, what is refused, and files that are not read.
 use crate::exporting::have;
-use crate::tests::{RUN, ends, file, folder_of, words};
+use crate::tests::{RUN, ends, file, folder_of, run_with, words};
 use cq_io::{Exporter, Format, MemExporter, MemFolder, MemSink};
 use cq_run::Status;
 use std::alloc::{AllocError, Global};
@@ -271,7 +271,7 @@ fn exports(alloc: Global) -> Result<bool, AllocError> {
     let mut exporters: Vec<Box<dyn Exporter>> = Vec::new(alloc);
     exporters.push(Box::new(alloc, csv)?)?;
     let mut spoiled: Vec<Box<dyn Exporter>> = Vec::new(alloc);
-    let status = cq_run::run(
+    let status = run_with(
         alloc,
         words.as_slice(),
         &mut folder,

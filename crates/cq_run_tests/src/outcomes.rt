@@ -48,24 +48,36 @@ fn filled(alloc: Global, text: &str, leaf: &str) -> Result<String, AllocError> {
     }
 }
 
+/// The status and what is written, where this is told between these parts of a text.
+fn wanted(
+    alloc: Global,
+    table: &Table,
+    told: &str,
+    (before, behind): (&str, &str),
+) -> Result<(Status, String), AllocError> {
+    if told.is_empty() {
+        return Ok((Status::Ok, String::from_str(alloc, table.listed)?));
+    }
+    let line = table.lines.lines().count().saturating_add(1);
+    let column = if behind.is_empty() {
+        0
+    } else {
+        table.front.len().saturating_add(before.len())
+    };
+    let written = format!(in alloc; "refused {line}:{} {told}\n", column.saturating_add(1))?;
+    Ok((Status::Refused, written))
+}
+
 /// Whether a text ends in what is told.
 fn tells(alloc: Global, table: &Table, told: &str, text: &str) -> Result<bool, AllocError> {
     let (before, behind) = cut(text, "^");
     let before = filled(alloc, before, table.leaf)?;
     let behind = filled(alloc, behind, table.leaf)?;
+    let halves = (before.as_str(), behind.as_str());
+    let (status, written) = wanted(alloc, table, told, halves)?;
     let file = format!(in alloc; "{}{}{before}{behind}", table.lines, table.front)?;
     let mut folder = folder(alloc, file.as_str(), &[])?;
-    if told.is_empty() {
-        return ends(alloc, table.words, &mut folder, 2000, Status::Ok, table.listed);
-    }
-    let line = table.lines.lines().count().saturating_add(1);
-    let column = if behind.is_empty() {
-        1
-    } else {
-        table.front.len().saturating_add(before.len()).saturating_add(1)
-    };
-    let written = format!(in alloc; "refused {line}:{column} {told}\n")?;
-    ends(alloc, table.words, &mut folder, 100, Status::Refused, written.as_str())
+    ends(alloc, table.words, &mut folder, 2000, status, &written)
 }
 
 /// Stops at the first row that ends in something else.

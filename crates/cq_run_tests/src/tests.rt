@@ -55,7 +55,19 @@ pub(crate) fn run<F: Folder, K: Sink>(
 ) -> Status {
     let mut exporters: Vec<Box<dyn Exporter>> = Vec::new(alloc);
     let mut spoiled: Vec<Box<dyn Exporter>> = Vec::new(alloc);
-    cq_run::run(alloc, words, folder, &mut exporters, &mut spoiled, out)
+    run_with(alloc, words, folder, &mut exporters, &mut spoiled, out)
+}
+
+/// A run, of which its callers see no clause: they only compare what it leaves.
+pub(crate) fn run_with<F: Folder, K: Sink>(
+    alloc: Global,
+    words: &[String],
+    folder: &mut F,
+    exporters: &mut Vec<Box<dyn Exporter>>,
+    spoiled: &mut Vec<Box<dyn Exporter>>,
+    out: &mut K,
+) -> Status {
+    cq_run::run(alloc, words, folder, exporters, spoiled, out)
 }
 
 /// Whether a run without exporters ends so, with a sink of this room that then holds this.
