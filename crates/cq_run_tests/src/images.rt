@@ -1,4 +1,5 @@
-//! What is moved along a mapping, term by term and up to the limit, and what is read backwards along a query.
+//! What is moved along a mapping, term by term and up to the limit; what is read backwards along a query; and an
+//! instance beside itself.
 use crate::outcomes::{Table, try_rows};
 use crate::tests::RUN;
 use std::test::Fail;
@@ -227,7 +228,34 @@ entries 0
 end
 ";
 
-static TABLES: [Table; 4] = [
+/// One entity with one attribute.
+const ATTRIBUTE: &str = "\
+typeside T = literal { types s constants Al : s }
+schema S = literal : T { entities E attributes x : E -> s }
+";
+
+// An operand that stands beside itself.
+const TWICE: &str = "\
+| instance A = literal : S { generators a : E equations x(a) = Al } instance P = coproduct A + A : S
+";
+
+const TWICE_LISTED: &str = "\
+instance A : S
+entity E 1
+1 a x=Al
+nulls 0
+entries 0
+end
+instance P : S
+entity E 2
+1 g1 x=Al
+2 g2 x=Al
+nulls 0
+entries 0
+end
+";
+
+static TABLES: [Table; 5] = [
     Table {
         words: RUN,
         lines: ALONG,
@@ -258,6 +286,14 @@ static TABLES: [Table; 4] = [
         front: "transform h = literal : ",
         rows: PRESENTED,
         listed: PRESENTED_LISTED,
+        leaf: "zero",
+    },
+    Table {
+        words: RUN,
+        lines: ATTRIBUTE,
+        front: "",
+        rows: TWICE,
+        listed: TWICE_LISTED,
         leaf: "zero",
     },
 ];
