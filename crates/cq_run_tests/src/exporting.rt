@@ -1,8 +1,8 @@
 //! Runs with exporters.
-use cq_io::{DirExporter, DirFolder, Exporter, Folder, Format, MemExporter, MemFolder, MemSink};
-use cq_run::{Status, run};
+use crate::tests::{RUN, folder, run_with, words};
+use cq_io::{DirExporter, DirFolder, Exporter, Folder, Format, MemExporter, MemSink};
+use cq_run::Status;
 use std::alloc::{AllocError, Global};
-use std::process::Abort;
 use std::test::Fail;
 
 const FIRST: &str = "typeside T = literal { types s constants Al Bob : s }
@@ -31,32 +31,76 @@ fn both(alloc: Global, csv: &[u64], cql: &[u64]) -> Result<Vec<Box<dyn Exporter>
     Ok(exporters)
 }
 
-/// The words, and a folder with the one file `p.cql`.
-fn given(alloc: Global, line: &str, text: &str) -> Result<(Vec<String>, MemFolder), AllocError> {
-    let mut words = Vec::new(alloc);
-    for word in line.split(' ') {
-        words.push(String::from_str(alloc, word)?)?;
-    }
-    let mut files = Vec::new(alloc);
-    let bytes = Vec::from_slice(alloc, text.as_bytes())?;
-    files.push((String::from_str(alloc, "p.cql")?, bytes))?;
-    Ok((words, MemFolder::new(alloc, files, Vec::new(alloc))?))
+/// A line of words that is run on a text with an exporter of each format, and the formats of those that are left.
+struct Choice {
+    words: &'static [&'static str],
+    text: &'static str,
+    status: Status,
+    formats: &'static [Format],
 }
 
-/// Runs a line of words on a text, with an exporter of each format. The formats of the exporters that are left are
-/// those wanted, and none was moved.
-fn leaves(
-    rt: &impl Abort,
-    alloc: Global,
-    (line, text): (&str, &str),
-    status: Status,
-    formats: &[Format],
-) -> Result<(), AllocError> {
-    let (words, mut folder) = given(alloc, line, text)?;
+static CHOICES: [Choice; 7] = [
+    Choice {
+        words: RUN,
+        text: FIRST,
+        status: Status::Ok,
+        formats: &[Format::Csv, Format::Cql],
+    },
+    Choice {
+        words: &["run", "p.cql", "--only", "csv"],
+        text: FIRST,
+        status: Status::Ok,
+        formats: &[Format::Csv],
+    },
+    Choice {
+        words: &["run", "--only=cql", "p.cql"],
+        text: FIRST,
+        status: Status::Ok,
+        formats: &[Format::Cql],
+    },
+    Choice {
+        words: &["run", "p.cql", "--only", "cql"],
+        text: "!",
+        status: Status::Refused,
+        formats: &[Format::Cql],
+    },
+    Choice {
+        words: &["run", "q.cql", "--only", "csv"],
+        text: FIRST,
+        status: Status::Read,
+        formats: &[Format::Csv],
+    },
+    Choice {
+        words: &["run", "p.cql", "--only", "xml"],
+        text: FIRST,
+        status: Status::Usage,
+        formats: &[Format::Csv, Format::Cql],
+    },
+    Choice {
+        words: &["example", "3"],
+        text: "!",
+        status: Status::Ok,
+        formats: &[Format::Csv, Format::Cql],
+    },
+];
+
+/// Whether the exporters are of these formats.
+fn are_of(exporters: &[Box<dyn Exporter>], formats: &[Format]) -> bool {
+    exporters.len() == formats.len()
+        && exporters
+            .iter()
+            .zip(formats)
+            .all(|(exporter, format)| exporter.format() == *format)
+}
+
+/// Whether the exporters that are left are of the formats that are chosen, and none was moved.
+fn leaves(alloc: Global, choice: &Choice) -> Result<bool, AllocError> {
+    let words = words(alloc, choice.words)?;
+    let mut folder = folder(alloc, choice.text, &[])?;
     let mut out = MemSink::new(alloc, Vec::new(alloc), 1000)?;
     let mut exporters = both(alloc, &[], &[])?;
     let mut spoiled: Vec<Box<dyn Exporter>> = Vec::new(alloc);
-    let ended = run(
+    let ended = run_with(
         alloc,
         words.as_slice(),
         &mut folder,
@@ -64,46 +108,15 @@ fn leaves(
         &mut spoiled,
         &mut out,
     );
-    assert_eq!(rt; ended, status, "{line}");
-    assert!(rt; spoiled.is_empty(), "{line}");
-    assert_eq!(rt; exporters.len(), formats.len(), "{line}");
-    for (exporter, format) in exporters.iter().zip(formats.iter()) {
-        assert_eq!(rt; exporter.format(), *format, "{line}");
-    }
-    Ok(())
+    Ok(ended == choice.status && spoiled.is_empty() && are_of(exporters.as_slice(), choice.formats))
 }
 
 #[test]
 fn the_choice_of_format(rt: HostRuntime) -> Result<(), Fail> {
     let alloc = rt.alloc();
-    let both = [Format::Csv, Format::Cql].as_slice();
-    let csv = [Format::Csv].as_slice();
-    let cql = [Format::Cql].as_slice();
-    leaves(&rt, alloc, ("run p.cql", FIRST), Status::Ok, both)?;
-    leaves(&rt, alloc, ("run p.cql --only csv", FIRST), Status::Ok, csv)?;
-    leaves(&rt, alloc, ("run --only=cql p.cql", FIRST), Status::Ok, cql)?;
-    leaves(
-        &rt,
-        alloc,
-        ("run p.cql --only cql", "!"),
-        Status::Refused,
-        cql,
-    )?;
-    leaves(
-        &rt,
-        alloc,
-        ("run q.cql --only csv", FIRST),
-        Status::Read,
-        csv,
-    )?;
-    leaves(
-        &rt,
-        alloc,
-        ("run p.cql --only xml", FIRST),
-        Status::Usage,
-        both,
-    )?;
-    leaves(&rt, alloc, ("example 3", "!"), Status::Ok, both)?;
+    for (number, choice) in CHOICES.iter().enumerate() {
+        assert!(rt; leaves(alloc, choice)?, "{number}");
+    }
     Ok(())
 }
 
@@ -206,16 +219,17 @@ static FAILING: [Failing; 5] = [
 /// Whether the run of a line of words with a sink of this room gives what is wanted, with this transcript.
 fn gives(
     alloc: Global,
-    line: &str,
+    line: &[&str],
     wanted: &Failing,
     room: u64,
     written: &str,
 ) -> Result<bool, AllocError> {
-    let (words, mut folder) = given(alloc, line, FIRST)?;
+    let words = words(alloc, line)?;
+    let mut folder = folder(alloc, FIRST, &[])?;
     let mut out = MemSink::new(alloc, Vec::new(alloc), room)?;
     let mut exporters = both(alloc, wanted.csv, wanted.cql)?;
     let mut spoiled: Vec<Box<dyn Exporter>> = Vec::new(alloc);
-    let ended = run(
+    let ended = run_with(
         alloc,
         words.as_slice(),
         &mut folder,
@@ -235,7 +249,7 @@ fn gives(
 fn exporters_that_fail(rt: HostRuntime) -> Result<(), Fail> {
     let alloc = rt.alloc();
     for wanted in &FAILING {
-        assert!(rt; gives(alloc, "run p.cql", wanted, 1000, LISTED)?);
+        assert!(rt; gives(alloc, RUN, wanted, 1000, LISTED)?);
     }
     let nothing = Failing {
         csv: &[],
@@ -244,7 +258,7 @@ fn exporters_that_fail(rt: HostRuntime) -> Result<(), Fail> {
         exporters: &[],
         spoiled: &[],
     };
-    assert!(rt; gives(alloc, "run p.cql", &nothing, 10, "instance I")?);
+    assert!(rt; gives(alloc, RUN, &nothing, 10, "instance I")?);
     Ok(())
 }
 
@@ -281,20 +295,21 @@ f(g2) = g2
 #[test]
 fn the_example_is_exported(rt: HostRuntime) -> Result<(), Fail> {
     let written = "instance I rows 2 nulls 1 entries 0\ninstance J rows 2 nulls 1 entries 0\n";
-    assert!(rt; gives(rt.alloc(), "example 1", &EXAMPLE, 1000, written)?);
+    assert!(rt; gives(rt.alloc(), &["example", "1"], &EXAMPLE, 1000, written)?);
     Ok(())
 }
 
 #[test]
 fn exported_files_lie_in_a_folder(rt: HostRuntime) -> Result<(), Fail> {
     let alloc = rt.alloc();
-    let (words, mut folder) = given(alloc, "run p.cql", FIRST)?;
+    let words = words(alloc, RUN)?;
+    let mut folder = folder(alloc, FIRST, &[])?;
     let mut out = MemSink::new(alloc, Vec::new(alloc), 1000)?;
     let csv = DirExporter::new(rt, alloc, Format::Csv, "out/run/csv")?;
     let mut exporters: Vec<Box<dyn Exporter>> = Vec::new(alloc);
     exporters.push(Box::new(alloc, csv)?)?;
     let mut spoiled: Vec<Box<dyn Exporter>> = Vec::new(alloc);
-    let ended = run(
+    let ended = run_with(
         alloc,
         words.as_slice(),
         &mut folder,

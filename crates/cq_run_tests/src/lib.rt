@@ -2,15 +2,21 @@
 #![tactic(auto)]
 
 #[cfg(test)]
+mod duties;
+#[cfg(test)]
 mod entries;
 #[cfg(test)]
 mod exporting;
 #[cfg(test)]
 mod glued;
 #[cfg(test)]
+mod images;
+#[cfg(test)]
 mod imports;
 #[cfg(test)]
 mod limits;
+#[cfg(test)]
+mod mapping_parts;
 #[cfg(test)]
 mod mappings;
 #[cfg(test)]
@@ -18,7 +24,11 @@ mod moves;
 #[cfg(test)]
 mod open_types;
 #[cfg(test)]
+mod outcomes;
+#[cfg(test)]
 mod programs;
+#[cfg(test)]
+mod query_parts;
 #[cfg(test)]
 mod tests;
 #[cfg(test)]

@@ -1,5 +1,5 @@
 //! A file and a term at their limits and past them.
-use crate::tests::{RUN, ends, folder};
+use crate::tests::{RUN, ends, file, folder};
 use cq_io::MemFolder;
 use cq_run::Status;
 use std::alloc::{AllocError, Global};
@@ -9,7 +9,7 @@ use std::test::Fail;
 fn blank_folder(alloc: Global, length: usize) -> Result<MemFolder, AllocError> {
     let mut files = Vec::new(alloc);
     let blanks = vec![in alloc; b' '; length]?;
-    files.push((String::from_str(alloc, "p.cql")?, blanks))?;
+    files.push(file(alloc, "p.cql", blanks.as_slice())?)?;
     MemFolder::new(alloc, files, Vec::new(alloc))
 }
 

@@ -14,9 +14,13 @@ pub(crate) fn words(alloc: Global, texts: &[&str]) -> Result<Vec<String>, AllocE
     Ok(words)
 }
 
-/// A file with this name and text.
-fn file(alloc: Global, name: &str, text: &str) -> Result<(String, Vec<u8>), AllocError> {
-    let bytes = Vec::from_slice(alloc, text.as_bytes())?;
+/// A file with this name and content.
+pub(crate) fn file(
+    alloc: Global,
+    name: &str,
+    content: &[u8],
+) -> Result<(String, Vec<u8>), AllocError> {
+    let bytes = Vec::from_slice(alloc, content)?;
     Ok((String::from_str(alloc, name)?, bytes))
 }
 
@@ -29,7 +33,7 @@ pub(crate) fn folder_of(
     let mut files = Vec::new(alloc);
     for (name, text) in texts {
         if !text.is_empty() {
-            files.push(file(alloc, name, text)?)?;
+            files.push(file(alloc, name, text.as_bytes())?)?;
         }
     }
     MemFolder::new(alloc, files, Vec::from_slice(alloc, failing)?)
@@ -38,7 +42,7 @@ pub(crate) fn folder_of(
 /// A folder with one file, whose reads with these numbers fail.
 pub(crate) fn folder(alloc: Global, text: &str, failing: &[u64]) -> Result<MemFolder, AllocError> {
     let mut files = Vec::new(alloc);
-    files.push(file(alloc, "p.cql", text)?)?;
+    files.push(file(alloc, "p.cql", text.as_bytes())?)?;
     MemFolder::new(alloc, files, Vec::from_slice(alloc, failing)?)
 }
 
@@ -51,7 +55,19 @@ pub(crate) fn run<F: Folder, K: Sink>(
 ) -> Status {
     let mut exporters: Vec<Box<dyn Exporter>> = Vec::new(alloc);
     let mut spoiled: Vec<Box<dyn Exporter>> = Vec::new(alloc);
-    cq_run::run(alloc, words, folder, &mut exporters, &mut spoiled, out)
+    run_with(alloc, words, folder, &mut exporters, &mut spoiled, out)
+}
+
+/// A run, of which its callers see no clause: they only compare what it leaves.
+pub(crate) fn run_with<F: Folder, K: Sink>(
+    alloc: Global,
+    words: &[String],
+    folder: &mut F,
+    exporters: &mut Vec<Box<dyn Exporter>>,
+    spoiled: &mut Vec<Box<dyn Exporter>>,
+    out: &mut K,
+) -> Status {
+    cq_run::run(alloc, words, folder, exporters, spoiled, out)
 }
 
 /// Whether a run without exporters ends so, with a sink of this room that then holds this.

@@ -1,5 +1,0 @@
-//! Tests of mappings by their parts, and of what they give.
-#![tactic(auto)]
-
-#[cfg(test)]
-mod tests;

@@ -1,4 +1,0 @@
-//! Mappings between small schemas.
-mod given;
-mod images;
-mod refusals;

@@ -1,5 +1,0 @@
-//! Tests of coproducts and pushouts.
-#![tactic(auto)]
-
-#[cfg(test)]
-mod tests;
