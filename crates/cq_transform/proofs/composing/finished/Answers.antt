@@ -1,4 +1,4 @@
-use Rattle.std.proofs.Common.{ℕ, List, [], ◌≡◌, map, ap, ◌∙◌}
+use Rattle.std.proofs.Common.{ℕ, List, [], ◌≡◌, map, ◌∙◌}
 use Rattle.std.specs.Prelude.{slice_index, slice_index_or}
 use Rattle.std.specs.List.{enumerate_from}
 use Rattle.cq_model.specs.InstanceData.{InstanceData}
