@@ -10,7 +10,7 @@ schema S = literal : T { entities E attributes x : E -> s }
 schema R = literal : T { entities E attributes x : E -> s }
 ";
 
-static GLUED: [Case; 4] = [
+static GLUED: [Case; 5] = [
     // The generator of the start makes one row of two.
     Case {
         words: RUN,
@@ -77,6 +77,45 @@ nulls 1
 ?0 s
 entries 1
 h(Al) = ?0
+end
+",
+    },
+    // An image behind a foreign key: the rows to which it leads become one.
+    Case {
+        words: RUN,
+        text: "schema L = literal : T { entities E foreign_keys k : E -> E path_equations k.k = k attributes x : E -> s }
+instance A = literal : L { generators a : E }
+instance B = literal : L { generators b : E equations x(k(b)) = Al }
+transform f = literal : A -> B { generators a -> k(b) }
+instance P = pushout f f
+",
+        status: Status::Ok,
+        written: "instance A : L
+entity E 2
+1 a x=?0 k=2
+2 a.k x=?1 k=2
+nulls 2
+?0 s
+?1 s
+entries 0
+end
+instance B : L
+entity E 2
+1 b x=?0 k=2
+2 b.k x=Al k=2
+nulls 1
+?0 s
+entries 0
+end
+instance P : L
+entity E 3
+1 g1 x=?0 k=3
+2 g2 x=?1 k=3
+3 g1.k x=Al k=3
+nulls 2
+?0 s
+?1 s
+entries 0
 end
 ",
     },
