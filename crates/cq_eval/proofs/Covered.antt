@@ -1,10 +1,10 @@
 -- The lists of an index have all rows at which the where equations can hold.
-use Rattle.std.proofs.Common.{ℕ, zero, suc, Bool, true, false, not, cond, List, [], ◌∷◌, ◌++◌, Option, Some, IfSome, Bor, ◌≡◌, ◌<◌, ◌≤◌, ◌+◌, ◌%◌, ◌==◌, ◌||◌, map, filter, take, drop, length, inl, inr, refl, sym, ap, subst, ◌∙◌, arith}
+use Rattle.std.proofs.Common.{ℕ, zero, suc, Bool, true, false, not, cond, List, [], ◌∷◌, ◌++◌, Option, Some, IfSome, Bor, ◌≡◌, ◌<◌, ◌≤◌, ◌+◌, ◌==◌, ◌||◌, map, filter, take, drop, length, inl, inr, refl, sym, ap, subst, ◌∙◌, arith}
 use Rattle.std.specs.Prelude.{slice_get, slice_index, slice_index_or, All}
 use Rattle.std.specs.List.{range_with_len}
 use Rattle.std.proofs.lemmas.Bool.{eq-eqb, eqb-true}
-use Rattle.std.proofs.lemmas.List.{length-append, length-map, length-take-le, take-append-drop}
-use Rattle.std.proofs.lemmas.List.FromFn.{get_or-map-range_with_len, length-map-range_with_len, length-range_with_len}
+use Rattle.std.proofs.lemmas.List.{length-append, length-take-le, take-append-drop}
+use Rattle.std.proofs.lemmas.List.FromFn.{length-map-range_with_len, length-range_with_len}
 use Rattle.std.proofs.lemmas.Option.{get_or_from_slice_get, slice_get_within}
 use Rattle.cq_theory.specs.declared.constant.Con.TheVariants.{Named}
 use Rattle.cq_theory.specs.declared.presentation.Equation.{Equation}
@@ -19,39 +19,48 @@ use Rattle.cq_model.specs.Numbering.{positions_from, positions}
 use Rattle.cq_model.proofs.Lists.{All_from, get-range}
 use Rattle.cq_query.specs.Answers.{IsTuple}
 use Rattle.cq_query.proofs.Holding.{tuple_length}
-use Rattle.cq_eval.specs.Testing.{holds_at, reach_step, reach_of_entity, reach_of, reach, stage}
+use Rattle.cq_eval.specs.Testing.{holds_at, reach_step, reach_of_entity, reach_of, stage}
 use Rattle.cq_eval.specs.Join.{passes}
-use Rattle.cq_model.specs.Digests.{digest_of}
-use Rattle.cq_eval.specs.Index.{IsCellIndex, IsPathIndex, IsIndex, IsCover, HasList, sides, entity_sides, other_side, other_entity, indexed_rows}
+use Rattle.cq_model.specs.CellRows.{rows_from, rows_with}
+use Rattle.cq_model.specs.SameValue.{same_value}
+use Rattle.cq_eval.specs.Index.{IsCellIndex, IsPathIndex, IsIndex, IsCover, sides, entity_sides, other_side, other_entity, rows_of_value, rows_of_row, listed_rows}
 use Rattle.cq_eval.specs.declared.index.TestIndex.{TestIndex}
 use Rattle.cq_eval.proofs.Answered.{all_at}
-use Rattle.cq_model.proofs.SameValues.{same_from_value}
+use Rattle.cq_model.proofs.SameValues.{same_from_value, value_from_same}
 use Rattle.cq_eval.proofs.Tested.{row_front, value_front}
 
 pub some_listed : (M : Tables) (choice : List ℕ) (index : TestIndex) (o : Option (Bor (List ℕ))) (r : Bor (List ℕ)) (x e : Equation) → o ≡ Some r → x ≡ e
-    → IfSome o (λ rows. (rows.now ≡ indexed_rows M choice x index) × HasList M choice x index) → (r.now ≡ indexed_rows M choice e index) × HasList M choice e index
+    → IfSome o (λ rows. rows.now ≡ listed_rows M choice x index) → r.now ≡ listed_rows M choice e index
 some_listed M choice index o r x e is same h =
-    subst (λ (y : Equation). (r.now ≡ indexed_rows M choice y index) × HasList M choice y index) same
-    (subst (λ (p : Option (Bor (List ℕ))). IfSome p (λ rows. (rows.now ≡ indexed_rows M choice x index) × HasList M choice x index)) is h)
+    subst (λ (y : Equation). r.now ≡ listed_rows M choice y index) same
+    (subst (λ (p : Option (Bor (List ℕ))). IfSome p (λ rows. rows.now ≡ listed_rows M choice x index)) is h)
 
--- the places of a number have all members that pass, if only members that are the number pass
+-- the places of a number, or of a value, have all members that pass, if only members that are it pass
 module _ (P : List ℕ → Bool) (f : ℕ → List ℕ) where
-  step : (s x e : ℕ) (some all : List ℕ) (b : Bool) → (x == e) ≡ b → (P (f s) ≡ true → x ≡ e) → filter P (map f some) ≡ filter P (map f all)
+  step : (s : ℕ) (some all : List ℕ) (b : Bool) → (P (f s) ≡ true → b ≡ true) → filter P (map f some) ≡ filter P (map f all)
       → filter P (map f (cond b (s ∷ some) some)) ≡ cond (P (f s)) (f s ∷ filter P (map f all)) (filter P (map f all))
-  step s x e some all true test only same = ap (λ l. cond (P (f s)) (f s ∷ l) l) same
-  step s x e some all false test only same = same ∙ by (P (f s)) refl
+  step s some all true only same = ap (λ l. cond (P (f s)) (f s ∷ l) l) same
+  step s some all false only same = same ∙ by (P (f s)) refl
     where
       by : (c : Bool) → P (f s) ≡ c → filter P (map f all) ≡ cond c (f s ∷ filter P (map f all)) (filter P (map f all))
       by false h = refl
-      by true h = let both : false ≡ true = sym test ∙ eq-eqb x e (only h) in cc
+      by true h = let both : false ≡ true = only h in cc
 
   pub positions_cover : (s : ℕ) (xs : List ℕ) (e : ℕ) → ((n x : ℕ) → slice_get xs n ≡ Some x → P (f (s + n)) ≡ true → x ≡ e)
       → filter P (map f (positions_from s xs e)) ≡ filter P (map f (range_with_len s (length xs)))
   positions_cover s [] e h = refl
   positions_cover s (x ∷ xs) e h =
       let here : s + 0 ≡ s = omega arith in
-      step s x e (positions_from (s + 1) xs e) (range_with_len (s + 1) (length xs)) (x == e) refl (λ p. h 0 x refl (ap (λ n. P (f n)) here ∙ p))
+      step s (positions_from (s + 1) xs e) (range_with_len (s + 1) (length xs)) (x == e) (λ p. eq-eqb x e (h 0 x refl (ap (λ n. P (f n)) here ∙ p)))
       (positions_cover (s + 1) xs e (λ n y at p. let there : s + suc n ≡ s + 1 + n = omega arith in h (suc n) y at (ap (λ m. P (f m)) there ∙ p)))
+
+  pub cells_cover : (s : ℕ) (cells : List Value) (v : Value) → ((n : ℕ) (cell : Value) → slice_get cells n ≡ Some cell → P (f (s + n)) ≡ true → cell ≡ v)
+      → filter P (map f (rows_from s cells v)) ≡ filter P (map f (range_with_len s (length cells)))
+  cells_cover s [] v h = refl
+  cells_cover s (x ∷ cells) v h =
+      let here : s + 0 ≡ s = omega arith in
+      step s (rows_from (s + 1) cells v) (range_with_len (s + 1) (length cells)) (same_value x v) (λ p. value_from_same x v (h 0 x refl (ap (λ n. P (f n)) here ∙ p)))
+      (cells_cover (s + 1) cells v (λ n y at p. let there : s + suc n ≡ s + 1 + n = omega arith in h (suc n) y at (ap (λ m. P (f m)) there ∙ p)))
 
 one_within : (s : ℕ) (some : List ℕ) (r n : ℕ) (b : Bool) (k : ℕ) → s < n → ((k : ℕ) → slice_get some k ≡ Some r → r < n) → slice_get (cond b (s ∷ some) some) k ≡ Some r → r < n
 one_within s some r n true zero less rest at = let same : s ≡ r = cc in omega arith
@@ -62,6 +71,11 @@ position_within : (s : ℕ) (xs : List ℕ) (e k r : ℕ) → slice_get (positio
 position_within s [] e k r at = cc
 position_within s (x ∷ xs) e k r at =
     one_within s (positions_from (s + 1) xs e) r (s + length (x ∷ xs)) (x == e) k (omega arith) (λ j there. let inside : r < s + 1 + length xs = position_within (s + 1) xs e j r there in omega arith) at
+
+row_within : (s : ℕ) (cells : List Value) (v : Value) (k r : ℕ) → slice_get (rows_from s cells v) k ≡ Some r → r < s + length cells
+row_within s [] v k r at = cc
+row_within s (x ∷ cells) v k r at =
+    one_within s (rows_from (s + 1) cells v) r (s + length (x ∷ cells)) (same_value x v) k (omega arith) (λ j there. let inside : r < s + 1 + length cells = row_within (s + 1) cells v j r there in omega (arith, inside)) at
 
 at_end : (bound : List ℕ) (row : ℕ) → slice_index_or (map AtRow (bound ++ row ∷ [])) (length bound) (AtRow 0) ≡ AtRow row
 at_end [] row = refl
@@ -83,9 +97,6 @@ module _ (M : Tables) (tests : List Equation) (counts : List ℕ) (choice : List
 
   abbrev value : Value
   value = value_of M (map AtRow choice) is.other
-
-  abbrev numbers : List ℕ
-  numbers = map (λ v. digest_of v % count) column
 
   abbrev P : List ℕ → Bool
   P = passes (stage (length counts)) (holds_at M) tests
@@ -133,44 +144,35 @@ module _ (M : Tables) (tests : List Equation) (counts : List ℕ) (choice : List
       let holds : holds_at M rows e ≡ true = second (stage (length counts) e == length rows) (holds_at M rows e) (eq-eqb (stage (length counts) e) (length rows) (staged ∙ sym long)) test in
       sym (cell_read row) ∙ equal_sides rows index.turned (ap (holds_at M rows) (sym is.equation) ∙ holds) ∙ other_same row
 
-  passing_number : (row x : ℕ) → slice_get numbers row ≡ Some x → P (bound ++ (0 + row) ∷ []) ≡ true → x ≡ digest_of value % count
-  passing_number row x there h =
-      let cell = made_of (λ v. digest_of v % count) column row x there in
+  passing_value : (row : ℕ) (cell : Value) → slice_get column row ≡ Some cell → P (bound ++ (0 + row) ∷ []) ≡ true → cell ≡ value
+  passing_value row cell there h =
       let here : 0 + row ≡ row = omega arith in
-      let read : cell_at M is.attribute row ≡ cell.0 = get_or_from_slice_get column row cell.0 (Const (Named 0)) cell.1 in
-      cell.2 ∙ ap (λ v. digest_of v % count) (sym read ∙ passing_cell row (ap (λ r. P (bound ++ r ∷ [])) (sym here) ∙ h))
+      sym (get_or_from_slice_get column row cell (Const (Named 0)) there) ∙ passing_cell row (ap (λ r. P (bound ++ r ∷ [])) (sym here) ∙ h)
 
-  pub index_covers : (rows : List ℕ) → rows ≡ slice_index_or index.lists (digest_of value % count) [] → IsCover M tests counts bound count rows
-  index_covers rows are =
-      let place : ℕ = digest_of value % count in
-      let inside : place < count = omega (arith, is.some) in
-      let here : 0 + place ≡ place = omega arith in
-      let listed : rows ≡ positions numbers place = are ∙ ap (λ (l : List (List ℕ)). slice_index_or l place []) is.lists ∙ get_or-map-range_with_len (positions numbers) 0 count place place [] inside here in
-      let many : length numbers ≡ count = length-map column (λ v. digest_of v % count) ∙ is.column in
-      record {
-        same = ap (λ l. filter P (map (λ row. bound ++ row ∷ []) l)) listed ∙ positions_cover P (λ row. bound ++ row ∷ []) 0 numbers place passing_number ∙ ap (λ k. filter P (map (λ row. bound ++ row ∷ []) (below k))) many;
-        within = subst (λ (l : List ℕ). All (λ row. row < count) l) (sym listed)
-            (All_from (λ row. row < count) (positions numbers place) (λ k r there. let less : r < 0 + length numbers = position_within 0 numbers place k r there in omega (arith, less, many)));
-      }
+  index_covers : (rows : List ℕ) → rows ≡ rows_with column value → IsCover M tests counts bound count rows
+  index_covers rows are = record {
+    same = ap (λ l. filter P (map (λ row. bound ++ row ∷ []) l)) are ∙ cells_cover P (λ row. bound ++ row ∷ []) 0 column value passing_value
+        ∙ ap (λ k. filter P (map (λ row. bound ++ row ∷ []) (below k))) is.column;
+    within = subst (λ (l : List ℕ). All (λ row. row < count) l) (sym are)
+        (All_from (λ row. row < count) (rows_with column value) (λ k r there. let less : r < 0 + length column = row_within 0 column value k r there in omega (arith, less, is.column)));
+  }
 
   turned_back : (b : Bool) → other_side b (sides b (Att is.attribute is.term) is.other) ≡ is.other
   turned_back false = refl
   turned_back true = refl
 
   -- the rows that are read of an index
-  pub cell_rows_cover : (next : ℕ) (rows : List ℕ) → m ≡ next → rows ≡ indexed_rows M choice e index → IsCover M tests counts (take next choice) (slice_index counts next) rows
+  pub cell_rows_cover : (next : ℕ) (rows : List ℕ) → m ≡ next → rows ≡ listed_rows M choice e index → IsCover M tests counts (take next choice) (slice_index counts next) rows
   cell_rows_cover next rows same are =
-      let side : other_side index.turned e ≡ is.other = ap (other_side index.turned) is.equation ∙ turned_back index.turned in
-      let many : length index.lists ≡ count = ap length is.lists ∙ length-map-range_with_len (positions numbers) 0 count in
-      let typed : indexed_rows M choice e index ≡ slice_index_or index.lists (digest_of (value_of M (map AtRow choice) (other_side index.turned e)) % length index.lists) [] =
-      ap (λ (x : Equation). indexed_rows M choice x index) is.equation ∙ by index.turned ∙ ap (λ (x : Equation). slice_index_or index.lists (digest_of (value_of M (map AtRow choice) (other_side index.turned x)) % length index.lists) []) (sym is.equation) in
-      let read : rows ≡ slice_index_or index.lists (digest_of value % count) [] =
-      are ∙ typed ∙ (λ j. slice_index_or index.lists (digest_of (value_of M (map AtRow choice) (side j)) % many j) []) in
+      let read : rows ≡ rows_with column value = are ∙ ap (λ (x : Equation). listed_rows M choice x index) is.equation ∙ by index.turned refl ∙ is.lists value in
       subst (λ k. IsCover M tests counts (take k choice) (slice_index counts k) rows) same (index_covers rows read)
     where
-      by : (b : Bool) → indexed_rows M choice (sides b (Att is.attribute is.term) is.other) index ≡ slice_index_or index.lists (digest_of (value_of M (map AtRow choice) (other_side index.turned (sides b (Att is.attribute is.term) is.other))) % length index.lists) []
-      by false = refl
-      by true = refl
+      typed : (b : Bool) → listed_rows M choice (sides b (Att is.attribute is.term) is.other) index ≡ rows_of_value index.lists (value_of M (map AtRow choice) (other_side index.turned (sides b (Att is.attribute is.term) is.other)))
+      typed false = refl
+      typed true = refl
+
+      by : (b : Bool) → index.turned ≡ b → listed_rows M choice (sides b (Att is.attribute is.term) is.other) index ≡ rows_of_value index.lists value
+      by b turned = typed b ∙ ap (λ t. rows_of_value index.lists (value_of M (map AtRow choice) t)) (ap (λ c. other_side c (sides b (Att is.attribute is.term) is.other)) turned ∙ turned_back b)
 
 -- the same for a path from the variable
 module _ (M : Tables) (tests : List Equation) (counts : List ℕ) (choice : List ℕ) (tuple : IsTuple choice counts) (e : Equation) (index : TestIndex) (is : IsPathIndex M counts e index)
@@ -242,14 +244,9 @@ module _ (M : Tables) (tests : List Equation) (counts : List ℕ) (choice : List
   turned_other false = refl
   turned_other true = refl
 
-  pub path_rows_cover : (next : ℕ) (rows : List ℕ) → v ≡ next → rows ≡ indexed_rows M choice e index → HasList M choice e index → IsCover M tests counts (take next choice) (slice_index counts next) rows
-  path_rows_cover next rows same are listed =
-      let side : other_entity index.turned e ≡ is.other = ap (other_entity index.turned) is.equation ∙ turned_other index.turned in
-      let read : rows ≡ slice_index_or index.lists reached [] = are ∙ ap (λ (x : Equation). indexed_rows M choice x index) is.equation ∙ by index.turned refl in
-      let inside : reached < length index.lists = has index.turned refl (subst (λ (x : Equation). HasList M choice x index) is.equation listed) in
-      let here : 0 + reached ≡ reached = omega arith in
-      let found : rows ≡ positions ends reached =
-      read ∙ ap (λ (l : List (List ℕ)). slice_index_or l reached []) is.lists ∙ get_or-map-range_with_len (positions ends) 0 (length index.lists) reached reached [] inside here in
+  pub path_rows_cover : (next : ℕ) (rows : List ℕ) → v ≡ next → rows ≡ listed_rows M choice e index → IsCover M tests counts (take next choice) (slice_index counts next) rows
+  path_rows_cover next rows same are =
+      let found : rows ≡ positions ends reached = are ∙ ap (λ (x : Equation). listed_rows M choice x index) is.equation ∙ by index.turned refl ∙ is.lists reached in
       let many : length ends ≡ amount = length-map-range_with_len (λ row. row_from M row is.term.path) 0 amount in
       subst (λ k. IsCover M tests counts (take k choice) (slice_index counts k) rows) same (record {
         same = ap (λ l. filter P' (map (λ row. front ++ row ∷ []) l)) found ∙ positions_cover P' (λ row. front ++ row ∷ []) 0 ends reached passing_place ∙ ap (λ k. filter P' (map (λ row. front ++ row ∷ []) (below k))) many;
@@ -257,21 +254,14 @@ module _ (M : Tables) (tests : List Equation) (counts : List ℕ) (choice : List
             (All_from (λ row. row < amount) (positions ends reached) (λ k r there. let less : r < 0 + length ends = position_within 0 ends reached k r there in omega (arith, less, many)));
       })
     where
-      typed : (b : Bool) → indexed_rows M choice (entity_sides b is.term is.other) index ≡ slice_index_or index.lists (row_of M (map AtRow choice) (other_entity index.turned (entity_sides b is.term is.other))) []
+      typed : (b : Bool) → listed_rows M choice (entity_sides b is.term is.other) index ≡ rows_of_row index.lists (row_of M (map AtRow choice) (other_entity index.turned (entity_sides b is.term is.other)))
       typed false = refl
       typed true = refl
 
-      by : (b : Bool) → index.turned ≡ b → indexed_rows M choice (entity_sides b is.term is.other) index ≡ slice_index_or index.lists reached []
-      by b turned = typed b ∙ ap (λ t. slice_index_or index.lists (row_of M (map AtRow choice) t) []) (ap (λ c. other_entity c (entity_sides b is.term is.other)) turned ∙ turned_other b)
-
-      listed_row : (b : Bool) → HasList M choice (entity_sides b is.term is.other) index → row_of M (map AtRow choice) (other_entity index.turned (entity_sides b is.term is.other)) < length index.lists
-      listed_row false h = h
-      listed_row true h = h
-
-      has : (b : Bool) → index.turned ≡ b → HasList M choice (entity_sides b is.term is.other) index → reached < length index.lists
-      has b turned h = subst (λ t. row_of M (map AtRow choice) t < length index.lists) (ap (λ c. other_entity c (entity_sides b is.term is.other)) turned ∙ turned_other b) (listed_row b h)
+      by : (b : Bool) → index.turned ≡ b → listed_rows M choice (entity_sides b is.term is.other) index ≡ rows_of_row index.lists reached
+      by b turned = typed b ∙ ap (λ t. rows_of_row index.lists (row_of M (map AtRow choice) t)) (ap (λ c. other_entity c (entity_sides b is.term is.other)) turned ∙ turned_other b)
 
 pub rows_cover : (M : Tables) (tests : List Equation) (counts choice : List ℕ) → IsTuple choice counts → (e : Equation) (index : TestIndex) → IsIndex M counts e index → (n : ℕ) → slice_get tests n ≡ Some e
-    → (next : ℕ) (rows : List ℕ) → index.variable ≡ next → (rows ≡ indexed_rows M choice e index) × HasList M choice e index → IsCover M tests counts (take next choice) (slice_index counts next) rows
-rows_cover M tests counts choice tuple e index (inl is) n at next rows same are = cell_rows_cover M tests counts choice tuple e index is n at next rows same are.0
-rows_cover M tests counts choice tuple e index (inr is) n at next rows same are = path_rows_cover M tests counts choice tuple e index is n at next rows same are.0 are.1
+    → (next : ℕ) (rows : List ℕ) → index.variable ≡ next → rows ≡ listed_rows M choice e index → IsCover M tests counts (take next choice) (slice_index counts next) rows
+rows_cover M tests counts choice tuple e index (inl is) n at next rows same are = cell_rows_cover M tests counts choice tuple e index is n at next rows same are
+rows_cover M tests counts choice tuple e index (inr is) n at next rows same are = path_rows_cover M tests counts choice tuple e index is n at next rows same are

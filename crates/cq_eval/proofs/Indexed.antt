@@ -12,22 +12,13 @@ use Rattle.cq_model.proofs.OnWay.{begins}
 use Rattle.cq_query.specs.Answers.{IsTuple}
 use Rattle.cq_eval.specs.Testing.{IsTestAt}
 use Rattle.cq_eval.proofs.Extended.{tuple_set, first_tuple}
-use Rattle.std.proofs.Common.{ℕ, zero, suc, List, [], ◌∷◌, ◌++◌, Option, Some, None, ◌≡◌, ◌<◌, ◌+◌, ◌%◌, map, take, length, get_or, IfSome, sym, ap, subst, ◌∙◌, arith}
-use Rattle.std.specs.Prelude.{slice_get, All}
+use Rattle.std.proofs.Common.{ℕ, zero, suc, List, [], ◌∷◌, ◌++◌, Option, Some, None, ◌≡◌, ◌<◌, ◌+◌, map, take, length, get_or, IfSome, sym, ap, subst, ◌∙◌, arith}
+use Rattle.std.specs.Prelude.{slice_get}
 use Rattle.std.proofs.lemmas.List.{take_more, length-take-le}
 use Rattle.cq_theory.specs.declared.presentation.Equation.{Equation}
-use Rattle.cq_theory.specs.declared.value.Value.{Value}
 use Rattle.cq_theory.specs.Tables.{Tables}
-use Rattle.cq_theory.proofs.Faults.{made_of}
-use Rattle.cq_model.proofs.Lists.{All_from}
-use Rattle.cq_model.specs.Digests.{digest_of}
 use Rattle.cq_eval.specs.Index.{IsIndex, AreIndexes}
 use Rattle.cq_eval.specs.declared.index.TestIndex.{TestIndex}
-
-pub numbers_within : (count : ℕ) (column : List Value) (numbers : List ℕ) → 0 < count → numbers ≡ map (λ v. digest_of v % count) column → All (λ n. n < count) numbers
-numbers_within count column numbers some are = All_from (λ n. n < count) numbers (λ k n at.
-    let cell = made_of (λ v. digest_of v % count) column k n (ap (λ l. slice_get l k) (sym are) ∙ at) in
-    omega (arith, some, cell.2))
 
 -- one more member beside one more
 module _ {X Y : Type 0} (R : X → Y → Type 0) (x : X) (y : Y) (here : R x y) where

@@ -1,5 +1,5 @@
 -- Lists of rows from which the rows for a new variable are taken.
-use Rattle.std.specs.Prelude.{ℕ, Bool, true, false, List, [], ◌∷◌, ◌++◌, ◌≡◌, ◌<◌, ◌≤◌, ◌%◌, ◌⊎◌, Option, Some, All, map, filter, length}
+use Rattle.std.specs.Prelude.{ℕ, Bool, true, false, List, [], ◌∷◌, ◌++◌, ◌≡◌, ◌<◌, ◌≤◌, ◌⊎◌, Option, Some, All, map, filter, length}
 use Rattle.std.specs.Prelude.{slice_get, slice_index, slice_index_or}
 use Rattle.cq_theory.specs.declared.presentation.Equation.{Equation}
 use Rattle.cq_theory.specs.declared.presentation.Equation.TheVariants.{Ent, Typ}
@@ -9,15 +9,24 @@ use Rattle.cq_theory.specs.declared.term.TypeTerm.TheVariants.{Att, Const}
 use Rattle.cq_theory.specs.declared.constant.Con.TheVariants.{Named}
 use Rattle.cq_theory.specs.Canonical.{below}
 use Rattle.cq_theory.specs.Tables.{Tables, AtRow, row_of, row_from, value_of}
+use Rattle.cq_theory.specs.declared.value.Value.{Value}
+use Rattle.cq_model.specs.CellRows.{rows_with, indexed_rows}
 use Rattle.cq_model.specs.Numbering.{positions}
 use Rattle.cq_eval.specs.Testing.{reach_of_entity, reach_of, holds_at, stage}
 use Rattle.cq_eval.specs.Join.{passes}
-use Rattle.cq_model.specs.Digests.{digest_of}
+use Rattle.cq_eval.specs.declared.index.Lists.{Lists}
+use Rattle.cq_eval.specs.declared.index.Lists.TheVariants.{Cells, Keys}
 use Rattle.cq_eval.specs.declared.index.TestIndex.{TestIndex}
 
--- the rows of a column by the numbers of their cells
-abbrev pub cell_lists : Tables → ℕ → ℕ → List (List ℕ)
-cell_lists M a count = map (positions (map (λ value. digest_of value % count) (slice_index_or M.sheet.cells a []))) (below count)
+-- the rows that are listed for a value
+abbrev pub rows_of_value : Lists → Value → List ℕ
+rows_of_value (Cells groups) v = indexed_rows groups v
+rows_of_value (Keys lists) v = []
+
+-- the rows that are listed for a row
+abbrev pub rows_of_row : Lists → ℕ → List ℕ
+rows_of_row (Cells groups) row = []
+rows_of_row (Keys lists) row = slice_index_or lists row []
 
 -- the equation of two sides, or of these turned round
 abbrev pub sides : Bool → TypeTerm → TypeTerm → Equation
@@ -35,22 +44,13 @@ other_entity false (Ent t u) = u
 other_entity true (Ent t u) = t
 other_entity turned (Typ t u) = record { generator = 0; path = [] }
 
-abbrev pub cell_list : Tables → List ℕ → TypeTerm → TestIndex → List ℕ
-cell_list M choice other index = slice_index_or index.lists (digest_of (value_of M (map AtRow choice) other) % length index.lists) []
+-- the rows that are listed for the other side
+abbrev pub listed_rows : Tables → List ℕ → Equation → TestIndex → List ℕ
+listed_rows M choice (Typ t u) index = rows_of_value index.lists (value_of M (map AtRow choice) (other_side index.turned (Typ t u)))
+listed_rows M choice (Ent t u) index = rows_of_row index.lists (row_of M (map AtRow choice) (other_entity index.turned (Ent t u)))
 
--- the rows of the lists at which the cells have the number of the other side, or at which the path leads where the other side does
-abbrev pub indexed_rows : Tables → List ℕ → Equation → TestIndex → List ℕ
-indexed_rows M choice (Typ t u) index = slice_index_or index.lists
-    (digest_of (value_of M (map AtRow choice) (other_side index.turned (Typ t u))) % length index.lists) []
-indexed_rows M choice (Ent t u) index = slice_index_or index.lists (row_of M (map AtRow choice) (other_entity index.turned (Ent t u))) []
-
--- there is a list for the other side's row
-abbrev pub HasList : Tables → List ℕ → Equation → TestIndex → Type 0
-HasList M choice (Typ t u) index = Unit {0}
-HasList M choice (Ent t u) index = row_of M (map AtRow choice) (other_entity index.turned (Ent t u)) < length index.lists
-
--- the where equation joins a variable by one attribute to a term over variables before it, and the lists are those of the
--- attribute's cells, of which there are as many as rows for the variable
+-- the where equation joins a variable by one attribute to a term over variables before it, and for each value the rows are
+-- listed at which it stands among the attribute's cells, of which there are as many as rows for the variable
 pub record IsCellIndex (M : Tables) (counts : List ℕ) (e : Equation) (index : TestIndex) : Type 0 where
   pub attribute : ℕ
   pub term : EntTerm
@@ -61,15 +61,14 @@ pub record IsCellIndex (M : Tables) (counts : List ℕ) (e : Equation) (index : 
   pub within : index.variable < length counts
   pub before : reach_of other ≤ index.variable
   pub column : length (slice_index_or M.sheet.cells attribute []) ≡ slice_index counts index.variable
-  pub some : 0 < slice_index counts index.variable
-  pub lists : index.lists ≡ cell_lists M attribute (slice_index counts index.variable)
+  pub lists : (v : Value) → rows_of_value index.lists v ≡ rows_with (slice_index_or M.sheet.cells attribute []) v
 
 abbrev pub entity_sides : Bool → EntTerm → EntTerm → Equation
 entity_sides false t u = Ent t u
 entity_sides true t u = Ent u t
 
--- the where equation joins a path from a variable to a term over variables before it, and the lists are those of the rows from
--- which the path leads to each row
+-- the where equation joins a path from a variable to a term over variables before it, and for each row the rows are listed from
+-- which the path leads to it
 pub record IsPathIndex (M : Tables) (counts : List ℕ) (e : Equation) (index : TestIndex) : Type 0 where
   pub term : EntTerm
   pub other : EntTerm
@@ -77,8 +76,8 @@ pub record IsPathIndex (M : Tables) (counts : List ℕ) (e : Equation) (index : 
   pub variable : term.generator ≡ index.variable
   pub within : index.variable < length counts
   pub before : reach_of_entity other ≤ index.variable
-  pub lists : index.lists ≡ map (positions (map (λ row. row_from M row term.path) (below (slice_index counts index.variable))))
-      (below (length index.lists))
+  pub lists : (row : ℕ) → rows_of_row index.lists row
+      ≡ positions (map (λ start. row_from M start term.path) (below (slice_index counts index.variable))) row
 
 abbrev pub IsIndex : Tables → List ℕ → Equation → TestIndex → Type 0
 IsIndex M counts e index = IsCellIndex M counts e index ⊎ IsPathIndex M counts e index

@@ -1,52 +1,69 @@
-//! Lists of rows by their cells, and by where paths lead from them, for where equations that join a new variable.
-ghost use Rattle.std.specs.Prelude.{ℕ, List, ◌≡◌, ◌+◌, ◌==◌, ◌<◌, ◌≤◌, ◌%◌, ◌^◌, [], false, IfOk, IfSome, Some, length};
-ghost use Rattle.std.specs.Prelude.{map, slice_get, slice_index, slice_index_or};
+//! The indexes of where equations that join a new variable.
+ghost use Rattle.std.specs.Prelude.{ℕ, List, ◌≡◌, ◌==◌, ◌<◌, [], false, IfOk, IfSome, Some, length};
+ghost use Rattle.std.specs.Prelude.{slice_get, slice_index, slice_index_or};
 ghost use Rattle.std.specs.List.{list_any};
 ghost use Rattle.cq_theory.specs.declared.presentation.Equation.{Equation};
-ghost use Rattle.cq_theory.specs.Canonical.{below};
-ghost use Rattle.cq_model.specs.Numbering.{positions};
-ghost use Rattle.cq_model.specs.Digests.{digest_of};
-ghost use Rattle.cq_theory.specs.Tables.{row_from};
 ghost use Rattle.cq_model.specs.Terms.{IsOnWay};
 ghost use Rattle.cq_query.specs.Answers.{IsTuple};
 ghost use Rattle.cq_eval.specs.Index.{IsCellIndex, IsPathIndex, IsIndex, AreIndexes, sides, entity_sides};
+ghost use Rattle.cq_eval.specs.Index.{rows_of_value, rows_of_row};
 ghost use Rattle.cq_eval.specs.Testing.{IsTestAt};
 
 use crate::reaches::{reach_of, reach_of_entity};
 use cq_base::Seq;
-use cq_model::Instance;
-use cq_model::digests::digests;
-use cq_model::groups::grouped;
+use cq_model::{CellIndex, Instance, KeyIndex};
 use cq_theory::{EntTerm, Equation, TypeTerm, Value};
 use std::alloc::{AllocError, Global};
 
-/// The rows for a variable that a where equation joins to a term over variables before it: by one attribute, the lists
-/// of the rows whose cells have a number, or by a path, the lists of the rows from which it leads to a row. The
-/// equation's sides may be turned round.
+/// Rows by the values of an attribute's cells, or by the rows to which a path leads from them.
+#[derive(Drop)]
+pub(crate) enum Lists {
+    Cells(CellIndex),
+    Keys(KeyIndex),
+}
+
+impl Lists {
+    /// The rows that are listed for a value, where rows are listed by values.
+    pub(crate) fn for_value(&self, value: &Value) -> Option<&[u32]>
+        ensures { IfSome result (λ rows. rows.now ≡ rows_of_value self.now value.now) }
+    {
+        match self {
+            Lists::Cells(cells) => Some(cells.rows(value)),
+            Lists::Keys(_) => None,
+        }
+    }
+
+    /// The rows that are listed for a row, where rows are listed by rows.
+    pub(crate) fn for_row(&self, row: u32) -> Option<&[u32]>
+        ensures { IfSome result (λ rows. rows.now ≡ rows_of_row self.now row) }
+    {
+        match self {
+            Lists::Cells(_) => None,
+            Lists::Keys(keys) => Some(keys.rows(row)),
+        }
+    }
+}
+
+/// The rows for a variable that a where equation joins by one attribute, or by a path, to a term over variables before
+/// it. The equation's sides may be turned round.
 #[derive(Drop)]
 pub(crate) struct TestIndex {
     pub(crate) variable: usize,
     pub(crate) turned: bool,
-    pub(crate) lists: Seq<Seq<u32>>,
+    pub(crate) lists: Lists,
 }
 
-/// The rows of a column by the numbers of their cells, of which there are `count`.
-fn lists_of(alloc: Global, column: &[Value], count: u32) -> Result<Seq<Seq<u32>>, AllocError>
-    requires some { 0 < count }
-    requires numbers { length column.now ≡ count }
-    ensures { IfOk result (λ lists. lists ≡ map (positions (map (λ value. digest_of value % count) column.now))
-        (below count)) }
+/// How many cells an attribute has, if there is one with this number.
+fn cell_count(instance: &Instance, attribute: u32) -> Option<usize>
+    ensures within { IfSome result (λ _. attribute < length instance.now.schema.attributes) }
+    ensures count { IfSome result (λ count. length (slice_index_or instance.now.tables.sheet.cells attribute [])
+        ≡ count) }
 {
-    let numbers = digests(alloc, column, count)?;
-    grouped(alloc, count as usize, numbers.as_slice())
-}
-
-/// The column of an attribute, if there is one.
-fn column_of(instance: &Instance, attribute: u32) -> Option<&[Value]>
-    ensures { IfSome result (λ column. column.now ≡ slice_index_or instance.now.tables.sheet.cells attribute []) }
-{
+    if attribute as usize >= instance.schema().attributes.len() {
+        return None;
+    }
     match instance.sheet().cells.as_slice().get(attribute as usize) {
-        Some(column) => Some(column.as_slice()),
+        Some(column) => Some(column.len()),
         None => None,
     }
 }
@@ -72,51 +89,20 @@ fn index_of(
         return Ok(None);
     }
     let count = counts[variable];
-    match column_of(instance, *attribute) {
-        Some(column) => {
-            if count == 0 || column.len() != count as usize {
+    match cell_count(instance, *attribute) {
+        Some(cells) => {
+            if cells != count as usize {
                 return Ok(None);
             }
+            let index = CellIndex::new(alloc, instance, *attribute)?;
             Ok(Some(TestIndex {
                 variable,
                 turned,
-                lists: lists_of(alloc, column, count)?,
+                lists: Lists::Cells(index),
             }))
         }
         None => Ok(None),
     }
-}
-
-/// The rows to which a path leads from the first rows.
-fn ends(
-    alloc: Global,
-    instance: &Instance,
-    path: &[u32],
-    count: u32,
-) -> Result<Vec<u32>, AllocError>
-    requires { (row : ℕ) → row < count → (target : ℕ)
-        × IsOnWay instance.now.schema instance.now.tables path.now row target }
-    ensures ends { IfOk result (λ ends. ends.items ≡ map (λ row. row_from instance.now.tables row path.now)
-        (below count)) }
-    ensures few { IfOk result (λ ends. length ends.items ≤ 2 ^ 32) }
-{
-    let mut ends = Vec::with_capacity(alloc, count as usize)?;
-    for row in 0..count {
-        ends.push(instance.row_along(path, row))?;
-    }
-    Ok(ends)
-}
-
-/// For each number up to the greatest one the places at which it stands.
-fn lists_by(alloc: Global, numbers: &[u32]) -> Result<Seq<Seq<u32>>, AllocError>
-    requires { length numbers.now ≤ 2 ^ 32 }
-    ensures { IfOk result (λ lists. lists ≡ map (positions numbers.now) (below (length lists))) }
-{
-    let count = match numbers.iter().copied().max() {
-        Some(greatest) => greatest as usize + 1,
-        None => 0,
-    };
-    grouped(alloc, count, numbers)
 }
 
 /// The index for sides of a where equation, if the first is a path from a variable and the other one needs only
@@ -138,11 +124,11 @@ fn path_index_of(
     if variable >= counts.len() || reach_of_entity(other) > variable {
         return Ok(None);
     }
-    let numbers = ends(alloc, instance, side.path.as_slice(), counts[variable])?;
+    let index = KeyIndex::along(alloc, instance, side.path.as_slice(), counts[variable])?;
     Ok(Some(TestIndex {
         variable,
         turned,
-        lists: lists_by(alloc, numbers.as_slice())?,
+        lists: Lists::Keys(index),
     }))
 }
 

@@ -2,11 +2,11 @@
 ghost use Rattle.std.specs.Prelude.{ℕ, ◌≡◌, ◌+◌, ◌<◌, ◌≤◌, ◌==◌, ◌++◌, ◌∷◌, [], false, IfOk, IfSome, OnOk, IfErr};
 ghost use Rattle.std.specs.Prelude.{length, map, take, drop, slice_get, slice_index, option_copied};
 ghost use Rattle.std.specs.List.{list_any};
-ghost use Rattle.cq_theory.specs.Tables.{AtRow};
+ghost use Rattle.cq_theory.specs.Tables.{AtRow, value_of};
 ghost use Rattle.cq_model.specs.Terms.{IsTypeTermOf};
 ghost use Rattle.cq_query.specs.Answers.{IsTuple};
 ghost use Rattle.cq_eval.specs.Join.{IsJoin, test_passes_at, found_from, found_by};
-ghost use Rattle.cq_eval.specs.Index.{AreIndexes, HasList, IsCover, cell_list, indexed_rows};
+ghost use Rattle.cq_eval.specs.Index.{AreIndexes, IsCover, rows_of_value, listed_rows};
 ghost use Rattle.cq_eval.specs.Made.{answers_with};
 ghost use Rattle.cq_eval.specs.Testing.{IsTestAt};
 ghost use Rattle.cq_eval.specs.Refused.{TellsOver};
@@ -18,7 +18,6 @@ use crate::rows::Rows;
 use crate::testing::passes_test;
 use cq_base::Seq;
 use cq_model::Instance;
-use cq_model::digests::digest;
 use cq_theory::{Equation, TypeTerm};
 use std::alloc::{AllocError, Global};
 
@@ -37,7 +36,7 @@ pub(crate) struct Join<'a> {
     pub(crate) indexes: Seq<Option<TestIndex>>,
 }
 
-/// The rows of an index whose cells have the number of a term's value.
+/// The rows that an index lists for the value of a term.
 fn cell_rows<'b>(
     alloc: Global,
     instance: &Instance,
@@ -46,19 +45,14 @@ fn cell_rows<'b>(
     index: &'b TestIndex,
 ) -> Result<Option<&'b [u32]>, AllocError>
     requires { (type : ℕ) × IsTypeTermOf instance.now.schema instance.now.tables (map AtRow choice.now) other.now type }
-    ensures { IfOk result (λ found. IfSome found (λ rows. rows.now ≡ cell_list instance.now.tables choice.now other.now
-        index.now)) }
+    ensures { IfOk result (λ found. IfSome found (λ rows. rows.now
+        ≡ rows_of_value index.now.lists (value_of instance.now.tables (map AtRow choice.now) other.now))) }
 {
     let value = instance.value_over(alloc, choice.standings(), other)?;
-    let lists = index.lists.as_slice();
-    if lists.len() == 0 {
-        return Ok(None);
-    }
-    let place = (digest(&value) % lists.len() as u64) as usize;
-    Ok(Some(lists[place].as_slice()))
+    Ok(index.lists.for_value(&value))
 }
 
-/// The rows of an index at which its where equation can hold.
+/// The rows that an index lists for the other side of its where equation.
 fn indexed<'b>(
     alloc: Global,
     instance: &Instance,
@@ -68,21 +62,13 @@ fn indexed<'b>(
 ) -> Result<Option<&'b [u32]>, AllocError>
     requires test { IsTestAt instance.now.schema instance.now.tables choice.now test.now }
     ensures { IfOk result (λ found. IfSome found (λ rows.
-        (rows.now ≡ indexed_rows instance.now.tables choice.now test.now index.now)
-        × HasList instance.now.tables choice.now test.now index.now)) }
+        rows.now ≡ listed_rows instance.now.tables choice.now test.now index.now)) }
 {
     let standings = choice.standings();
-    let lists = index.lists.as_slice();
     match test {
         Equation::Ent(left, right) => {
-            let place = instance.row_over(
-                standings,
-                if index.turned { left } else { right },
-            ) as usize;
-            if place >= lists.len() {
-                return Ok(None);
-            }
-            Ok(Some(lists[place].as_slice()))
+            let row = instance.row_over(standings, if index.turned { left } else { right });
+            Ok(index.lists.for_row(row))
         }
         Equation::Typ(left, right) => {
             if index.turned {

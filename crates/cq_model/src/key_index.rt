@@ -1,6 +1,9 @@
-//! The rows of a foreign key's source by the rows to which it leads.
-ghost use Rattle.std.specs.Prelude.{ℕ, ◌≡◌, ◌<◌, [], All, IfOk, length, slice_index_or};
+//! Rows by the rows to which foreign keys lead from them.
+ghost use Rattle.std.specs.Prelude.{ℕ, ◌≡◌, ◌<◌, [], All, IfOk, length, map, slice_index_or};
+ghost use Rattle.cq_theory.specs.Canonical.{below};
+ghost use Rattle.cq_theory.specs.Tables.{row_from};
 ghost use Rattle.cq_model.specs.Numbering.{positions};
+ghost use Rattle.cq_model.specs.Terms.{IsOnWay};
 
 use crate::canonical::generators::number_at;
 use crate::groups::grouped;
@@ -9,7 +12,7 @@ use cq_base::Seq;
 use std::alloc::{AllocError, Global};
 use std::marker::Model;
 
-/// For each row of a foreign key's target the rows from which the key leads to it. Contracts see the lists of these.
+/// For each row the rows from which a foreign key, or a path of them, leads to it. Contracts see the lists of these.
 #[derive(Drop)]
 pub struct KeyIndex {
     lists: Seq<Seq<u32>>,
@@ -28,13 +31,42 @@ fn lists_of(
     alloc: Global,
     column: &[u32],
     rows: u32,
-    count: u32,
+    count: usize,
 ) -> Result<Seq<Seq<u32>>, AllocError>
     requires rows { length column.now ≡ rows }
     requires within { All (λ row. row < count) column.now }
     ensures { IfOk result (λ lists. (row : ℕ) → slice_index_or lists row [] ≡ positions column.now row) }
 {
-    grouped(alloc, count as usize, column)
+    grouped(alloc, count, column)
+}
+
+/// The rows to which a path leads from the first rows.
+fn ends(
+    alloc: Global,
+    instance: &Instance,
+    path: &[u32],
+    count: u32,
+) -> Result<Vec<u32>, AllocError>
+    requires { (row : ℕ) → row < count → (target : ℕ)
+        × IsOnWay instance.now.schema instance.now.tables path.now row target }
+    ensures { IfOk result (λ ends. ends.items ≡ map (λ row. row_from instance.now.tables row path.now)
+        (below count)) }
+{
+    let mut ends = Vec::with_capacity(alloc, count as usize)?;
+    for row in 0..count {
+        ends.push(instance.row_along(path, row))?;
+    }
+    Ok(ends)
+}
+
+/// A number above those of a list.
+fn above(numbers: &[u32]) -> usize
+    ensures { All (λ number. number < result) numbers.now }
+{
+    match numbers.iter().copied().max() {
+        Some(greatest) => greatest as usize + 1,
+        None => 0,
+    }
 }
 
 impl KeyIndex {
@@ -50,11 +82,31 @@ impl KeyIndex {
         let count = number_at(sheet.counts.as_slice(), edge.to as usize);
         let column = sheet.keys.as_slice()[key as usize].as_slice();
         Ok(KeyIndex {
-            lists: lists_of(alloc, column, rows, count)?,
+            lists: lists_of(alloc, column, rows, count as usize)?,
         })
     }
 
-    /// The rows of the key's source whose cell is this row, ascending, and none where no cell is.
+    /// The index of a path of foreign keys over the first `count` rows of the entity from which it leads. The empty path
+    /// leads from each row to itself.
+    pub fn along(
+        alloc: Global,
+        instance: &Instance,
+        path: &[u32],
+        count: u32,
+    ) -> Result<KeyIndex, AllocError>
+        requires { (row : ℕ) → row < count → (target : ℕ)
+            × IsOnWay instance.now.schema instance.now.tables path.now row target }
+        ensures { IfOk result (λ index. (row : ℕ) → slice_index_or index row []
+            ≡ positions (map (λ start. row_from instance.now.tables start path.now) (below count)) row) }
+    {
+        let ends = ends(alloc, instance, path, count)?;
+        let column = ends.as_slice();
+        Ok(KeyIndex {
+            lists: lists_of(alloc, column, count, above(column))?,
+        })
+    }
+
+    /// The rows from which the key, or the path, leads to this row, ascending, and none where it leads there from none.
     pub fn rows(&self, row: u32) -> &[u32]
         ensures { result.now ≡ slice_index_or self.now row [] }
     {

@@ -3,6 +3,7 @@ ghost use Rattle.std.specs.Prelude.{ℕ, ◌≡◌, ◌<◌, IfOk, Some, length,
 ghost use Rattle.cq_theory.specs.declared.term.Term.TheVariants.{Ent, Typ};
 ghost use Rattle.cq_theory.specs.Sorts.{entity_of, IsGround};
 ghost use Rattle.cq_theory.specs.Tables.{AtRow, count_of, row_from, row_of as row_named, value_of as value_meant};
+ghost use Rattle.cq_theory.specs.Tables.{applied as value_applied};
 ghost use Rattle.cq_model.specs.Standing.{meaning};
 ghost use Rattle.cq_model.specs.Terms.{IsOnWay, IsEntTermOf, IsTypeTermOf};
 
@@ -74,6 +75,19 @@ impl Instance {
                 self.entry_table().applied(alloc, *function, values)
             }
         }
+    }
+
+    /// The value of a function at values: that of the first entry for it, or the value that is built where there is
+    /// none. The entry is found by a table, in one step.
+    pub fn applied(
+        &self,
+        alloc: Global,
+        function: u32,
+        args: Vec<Value>,
+    ) -> Result<Value, AllocError>
+        ensures { IfOk result (λ value. value ≡ value_applied self.now.tables function args.items) }
+    {
+        self.entry_table().applied(alloc, function, args)
     }
 
     /// The row that an entity term over the presentation names.

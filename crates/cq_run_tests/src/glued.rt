@@ -10,7 +10,7 @@ schema S = literal : T { entities E attributes x : E -> s }
 schema R = literal : T { entities P O foreign_keys t : P -> O attributes w : P -> s }
 ";
 
-static MADE: [Case; 4] = [
+static MADE: [Case; 6] = [
     // Equal attributes merge no answers, and a block without variables has one answer.
     Case {
         words: RUN,
@@ -101,6 +101,57 @@ nulls 1
 ?0 s
 entries 1
 h(?0) = Al
+end
+",
+    },
+    // A row to which no foreign key leads, and a constant that no cell is.
+    Case {
+        words: RUN,
+        text: "schema K = literal : T { entities E D foreign_keys k : E -> D attributes x : E -> s }
+schema V = literal : T { entities P O }
+query Q = literal : K -> V { entity P -> { from d:D e:E where k(e) = d } entity O -> { from o:E where x(o) = Carl } }
+instance I = literal : K { generators d f : D e : E equations k(e) = d x(e) = Al }
+instance J = eval Q I
+",
+        status: Status::Ok,
+        written: "instance I : K
+entity E 1
+1 e x=Al k=1
+entity D 2
+1 d
+2 f
+nulls 0
+entries 0
+end
+instance J : V
+entity P 1
+1 g1
+entity O 0
+nulls 0
+entries 0
+end
+",
+    },
+    // Nothing is read backwards to nothing.
+    Case {
+        words: RUN,
+        text: "query Q = literal : S -> R {
+  entity P -> { from y:E z:E attributes w -> x(y) foreign_keys t -> { o -> z } }
+  entity O -> { from o:E } }
+instance J = literal : R { }
+instance K = coeval Q J
+",
+        status: Status::Ok,
+        written: "instance J : R
+entity P 0
+entity O 0
+nulls 0
+entries 0
+end
+instance K : S
+entity E 0
+nulls 0
+entries 0
 end
 ",
     },

@@ -26,8 +26,8 @@ fn a_file_at_the_limit_and_past_it(rt: HostRuntime) -> Result<(), Fail> {
     Ok(())
 }
 
-/// A file whose one equation has a left side of 1,023 symbols under this many functions.
-fn tall(alloc: Global, functions: usize) -> Result<String, AllocError> {
+/// A term of 1,023 symbols under this many functions.
+fn tall_term(alloc: Global, functions: usize) -> Result<String, AllocError> {
     let mut term = String::from_str(alloc, "zero")?;
     for _level in 0..9 {
         term = format!(in alloc; "plus({term}, {term})")?;
@@ -35,6 +35,12 @@ fn tall(alloc: Global, functions: usize) -> Result<String, AllocError> {
     for _function in 0..functions {
         term = format!(in alloc; "succ({term})")?;
     }
+    Ok(term)
+}
+
+/// A file whose one equation has such a term on the left.
+fn tall(alloc: Global, functions: usize) -> Result<String, AllocError> {
+    let term = tall_term(alloc, functions)?;
     format!(in alloc;
         "typeside T = literal {{ types n constants zero : n functions succ : n -> n plus : n, n -> n }}
 schema S = literal : T {{ }}
@@ -78,6 +84,32 @@ fn a_term_at_the_limit_and_past_it(rt: HostRuntime) -> Result<(), Fail> {
         let text = tall(alloc, functions)?;
         let mut folder = folder(alloc, text.as_str(), &[])?;
         assert!(rt; ends(alloc, RUN, &mut folder, 1000, status, written)?);
+    }
+    Ok(())
+}
+
+/// A file whose transform gives such an image to one generator, and none to the other.
+fn sent(alloc: Global, functions: usize) -> Result<String, AllocError> {
+    let term = tall_term(alloc, functions)?;
+    format!(in alloc;
+        "typeside T = literal {{ types n constants zero : n functions succ : n -> n plus : n, n -> n }}
+schema S = literal : T {{ }}
+instance A = literal : S {{ generators u v : n }}
+instance B = literal : S {{ }}
+transform f = literal : A -> B {{ generators v -> {term} }}"
+    )
+}
+
+#[test]
+fn an_image_at_the_limit_and_past_it(rt: HostRuntime) -> Result<(), Fail> {
+    let alloc = rt.alloc();
+    for (functions, written) in [
+        (1, "refused 5:1 47 Missing u\n"),
+        (2, "refused 5:45 46 TooLarge\n"),
+    ] {
+        let text = sent(alloc, functions)?;
+        let mut folder = folder(alloc, text.as_str(), &[])?;
+        assert!(rt; ends(alloc, RUN, &mut folder, 100, Status::Refused, written)?);
     }
     Ok(())
 }

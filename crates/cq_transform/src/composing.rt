@@ -13,10 +13,9 @@ ghost use Rattle.cq_transform.specs.Transforms.{GoesFrom};
 use crate::putting::put_image;
 use crate::sizes::is_long;
 use cq_base::Seq;
-use cq_model::application::applied;
 use cq_model::values::copied;
 use cq_model::{Image, Instance, Transform};
-use cq_theory::{Con, Entry, SizeRefusal, Value};
+use cq_theory::{Con, SizeRefusal, Value};
 use std::alloc::{AllocError, Global};
 
 /// The transform that goes first by `first`, which ends in `middle`, and then by `second`, which goes from there to
@@ -169,14 +168,14 @@ fn null_then(alloc: Global, nulls: &[Value], label: u64) -> Result<Value, AllocE
     }
 }
 
-/// Where a value goes by the second transform, to tables with these entries.
+/// Where a value goes by the second transform, which ends in the last instance.
 fn value_then(
     alloc: Global,
-    entries: &[Entry],
+    last: &Instance,
     second: &Transform,
     value: &Value,
 ) -> Result<Value, AllocError>
-    ensures { IfOk result (λ made. made ≡ value_sent entries.now second.now.nulls value.now) }
+    ensures { IfOk result (λ made. made ≡ value_sent last.now.tables.algebra.entries second.now.nulls value.now) }
 {
     match value {
         Value::Const(constant) => Ok(Value::Const(constant.clone()?)),
@@ -184,9 +183,9 @@ fn value_then(
         Value::Fun(function, args) => {
             let mut made = Vec::new(alloc);
             for arg in args.as_slice() {
-                made.push(value_then(alloc, entries, second, arg)?)?;
+                made.push(value_then(alloc, last, second, arg)?)?;
             }
-            applied(alloc, entries, *function, made)
+            last.applied(alloc, *function, made)
         }
     }
 }
@@ -194,15 +193,16 @@ fn value_then(
 /// Where each value goes.
 fn composed_nulls(
     alloc: Global,
-    entries: &[Entry],
+    last: &Instance,
     second: &Transform,
     values: &[Value],
 ) -> Result<Vec<Value>, AllocError>
-    ensures { IfOk result (λ made. made.items ≡ map (value_sent entries.now second.now.nulls) values.now) }
+    ensures { IfOk result (λ made. made.items
+        ≡ map (value_sent last.now.tables.algebra.entries second.now.nulls) values.now) }
 {
     let mut made = Vec::with_capacity(alloc, values.len())?;
     for value in values {
-        made.push(value_then(alloc, entries, second, value)?)?;
+        made.push(value_then(alloc, last, second, value)?)?;
     }
     Ok(made)
 }
@@ -219,8 +219,7 @@ fn finished(
         → IfOk result (λ made. made ≡ composed j last.now first.now second.now) }
 {
     let rows = composed_rows(alloc, first.rows.as_slice(), second.rows.as_slice())?;
-    let entries = last.algebra().entries.as_slice();
-    let nulls = composed_nulls(alloc, entries, second, first.nulls.as_slice())?;
+    let nulls = composed_nulls(alloc, last, second, first.nulls.as_slice())?;
     Ok(Transform {
         images: Seq::from_vec(images),
         rows: Seq::from_vec(rows),

@@ -6,7 +6,7 @@ ghost use Rattle.cq_transform.specs.Nulls.{Keeps, IsInitial, AreSpelled, IsEntry
 ghost use Rattle.cq_transform.specs.Nulls.{count_open};
 
 use crate::found::{has_open, open_label, plain_images, put};
-use cq_model::application::applied;
+use cq_model::Instance;
 use cq_theory::{Entry, Value};
 use std::alloc::{AllocError, Global};
 
@@ -14,14 +14,13 @@ use std::alloc::{AllocError, Global};
 /// Whether a value was found.
 fn find_entry(
     alloc: Global,
-    there: &[Entry],
+    target: &Instance,
     entry: &Entry,
     found: &mut Vec<Option<Value>>,
 ) -> Result<bool, AllocError>
     ensures keeps { OnOk result (Keeps found.old.items found.new.items) }
-    ensures spelled { (i j : InstanceData) (B : Assignment) → IsInitial i → IsEntryOf i entry.now
-        → j.tables.algebra.entries ≡ there.now → AreSpelled i j B found.old.items
-        → OnOk result (AreSpelled i j B found.new.items) }
+    ensures spelled { (i : InstanceData) (B : Assignment) → IsInitial i → IsEntryOf i entry.now
+        → AreSpelled i target.now B found.old.items → OnOk result (AreSpelled i target.now B found.new.items) }
     ensures more { IfOk result (λ changed. changed ≡ true → count_open found.new.items < count_open found.old.items) }
     ensures closed { IfOk result (λ changed. changed ≡ false → (found.new.items ≡ found.old.items)
         × IsEntryClosed found.old.items entry.now) }
@@ -34,7 +33,7 @@ fn find_entry(
         return Ok(false);
     }
     let images = plain_images(alloc, found.as_slice(), args)?;
-    put(found, label, applied(alloc, there, entry.function, images)?);
+    put(found, label, target.applied(alloc, entry.function, images)?);
     Ok(true)
 }
 
@@ -49,20 +48,19 @@ fn either(first: bool, second: bool) -> bool
 fn find_once(
     alloc: Global,
     here: &[Entry],
-    there: &[Entry],
+    target: &Instance,
     found: &mut Vec<Option<Value>>,
 ) -> Result<bool, AllocError>
     ensures keeps { OnOk result (Keeps found.old.items found.new.items) }
-    ensures spelled { (i j : InstanceData) (B : Assignment) → IsInitial i → i.tables.algebra.entries ≡ here.now
-        → j.tables.algebra.entries ≡ there.now → AreSpelled i j B found.old.items
-        → OnOk result (AreSpelled i j B found.new.items) }
+    ensures spelled { (i : InstanceData) (B : Assignment) → IsInitial i → i.tables.algebra.entries ≡ here.now
+        → AreSpelled i target.now B found.old.items → OnOk result (AreSpelled i target.now B found.new.items) }
     ensures more { IfOk result (λ changed. changed ≡ true → count_open found.new.items < count_open found.old.items) }
     ensures closed { IfOk result (λ changed. changed ≡ false → (found.new.items ≡ found.old.items)
         × AreEntriesClosed found.old.items here.now) }
 {
     let mut changed = false;
     for entry in here {
-        changed = either(changed, find_entry(alloc, there, entry, found)?);
+        changed = either(changed, find_entry(alloc, target, entry, found)?);
     }
     Ok(changed)
 }
@@ -71,18 +69,17 @@ fn find_once(
 pub(crate) fn find_entries(
     alloc: Global,
     here: &[Entry],
-    there: &[Entry],
+    target: &Instance,
     found: &mut Vec<Option<Value>>,
 ) -> Result<(), AllocError>
     ensures keeps { OnOk result (Keeps found.old.items found.new.items) }
-    ensures spelled { (i j : InstanceData) (B : Assignment) → IsInitial i → i.tables.algebra.entries ≡ here.now
-        → j.tables.algebra.entries ≡ there.now → AreSpelled i j B found.old.items
-        → OnOk result (AreSpelled i j B found.new.items) }
+    ensures spelled { (i : InstanceData) (B : Assignment) → IsInitial i → i.tables.algebra.entries ≡ here.now
+        → AreSpelled i target.now B found.old.items → OnOk result (AreSpelled i target.now B found.new.items) }
     ensures closed { OnOk result (AreEntriesClosed found.new.items here.now) }
 {
     let mut changed = true;
     while changed {
-        changed = find_once(alloc, here, there, found)?;
+        changed = find_once(alloc, here, target, found)?;
     }
     Ok(())
 }

@@ -300,8 +300,7 @@ pub(crate) fn nulls(
     find_generators(alloc, source, standings, &mut found)?;
     find_cells(alloc, source, target, rows, &mut found)?;
     let here = source.algebra().entries.as_slice();
-    let there = target.algebra().entries.as_slice();
-    find_entries(alloc, here, there, &mut found)?;
+    find_entries(alloc, here, target, &mut found)?;
     let values = values_of(alloc, found.as_slice())?;
     Ok(values)
 }

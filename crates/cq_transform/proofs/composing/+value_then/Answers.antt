@@ -10,7 +10,7 @@ loop-arg-preserved t c =
     let items : List Value = c.as_slice-arg-items.result.now in
     let n : ℕ = c.loop-arg.arg-index in
     let arg : Value = c.arg-item.result in
-    let f : Value → Value = value_sent c.args.entries.now c.args.second.now.nulls in
+    let f : Value → Value = value_sent c.args.last.now.tables.algebra.entries c.args.second.now.nulls in
     c.in_ok-push-in-Fun.ensures.items
     ∙ (λ j. c.loop-arg.invariant j ++ (c.in_ok-value_then-in-Fun.ensures ∙ ap f c.arg-item.is) j ∷ [])
     ∙ sym (ap (map f) (take_more items n arg c.loop-arg-test.true) ∙ map-append f (take n items) (get_or items n arg ∷ []))
@@ -18,7 +18,7 @@ loop-arg-preserved t c =
 pub returns-after-loop-arg : goal.returns-after-loop-arg
 returns-after-loop-arg t c =
     subst (λ (v : Value). IfOk c.applied.result (λ w. w ≡ v))
-    (sent_function c.args.entries.now c.args.second.now.nulls c.args.value.now c.in-Fun.function c.in-Fun.args c.loop-arg.made.items c.in-Fun.is
-    (c.loop-arg.invariant ∙ ap (map (value_sent c.args.entries.now c.args.second.now.nulls))
+    (sent_function c.args.last.now.tables.algebra.entries c.args.second.now.nulls c.args.value.now c.in-Fun.function c.in-Fun.args c.loop-arg.made.items c.in-Fun.is
+    (c.loop-arg.invariant ∙ ap (map (value_sent c.args.last.now.tables.algebra.entries c.args.second.now.nulls))
     (take_all c.loop-arg.arg-index c.as_slice-arg-items.result.now c.loop-arg-test.false ∙ c.as_slice-arg-items.ensures)))
     c.applied.ensures

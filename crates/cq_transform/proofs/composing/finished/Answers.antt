@@ -1,7 +1,6 @@
-use Rattle.std.proofs.Common.{ℕ, List, [], ◌≡◌, map, ap, ◌∙◌}
+use Rattle.std.proofs.Common.{ℕ, List, [], ◌≡◌, map, ◌∙◌}
 use Rattle.std.specs.Prelude.{slice_index, slice_index_or}
 use Rattle.std.specs.List.{enumerate_from}
-use Rattle.cq_theory.specs.declared.value.Algebra.{Algebra}
 use Rattle.cq_model.specs.InstanceData.{InstanceData}
 use Rattle.cq_model.specs.declared.transform.Transform.{Transform}
 use Rattle.cq_transform.specs.Composing.{composed_images, composed_rows, composed_nulls}
@@ -18,8 +17,7 @@ returns c = λ j images.
     let rows : c.from_vec-2.result ≡ composed_rows j last f g =
     c.from_vec-2.ensures ∙ c.in_ok-rows.ensures
     ∙ (λ k. map (λ (e : ℕ × List ℕ). map (slice_index (slice_index_or (c.as_slice-2.ensures k) e.0 [])) e.1) (enumerate_from 0 (c.as_slice.ensures k))) in
-    let entries : c.as_slice-entries.result.now ≡ last.tables.algebra.entries = c.as_slice-entries.ensures ∙ ap (λ (a : Algebra). a.entries) c.algebra.ensures.algebra in
     let nulls : c.from_vec-3.result ≡ composed_nulls j last f g =
-    c.from_vec-3.ensures ∙ c.in_ok-nulls.ensures ∙ (λ k. map (value_sent (entries k) g.nulls) (c.as_slice-3.ensures k))
+    c.from_vec-3.ensures ∙ c.in_ok-nulls.ensures ∙ (λ k. map (value_sent last.tables.algebra.entries g.nulls) (c.as_slice-3.ensures k))
     ∙ all_sent j.schema j.tables last.tables g.rows g.nulls f.nulls in
     λ k. record { images = first k; rows = rows k; nulls = nulls k }

@@ -6,7 +6,7 @@ use Rattle.cq_transform.proofs.entries.find_entries.Goals as goal
 pub loop-changed-preserved : goal.loop-changed-preserved
 loop-changed-preserved c = record {
   keeps = keeps-then c.args.found.now.items c.loop-changed.found.items c.find_once.new.found.items c.loop-changed.invariant.keeps c.in_ok-changed.ensures.keeps;
-  spelled = λ i j B initial here there all. c.in_ok-changed.ensures.spelled i j B initial here there (c.loop-changed.invariant.spelled i j B initial here there all);
+  spelled = λ i B initial here all. c.in_ok-changed.ensures.spelled i B initial here (c.loop-changed.invariant.spelled i B initial here all);
   closed = λ e.
       let h = c.in_ok-changed.ensures.closed e in
       subst (λ (found : Found). AreEntriesClosed found c.args.here.now) (sym h.0) h.1;

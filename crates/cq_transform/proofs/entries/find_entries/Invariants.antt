@@ -7,8 +7,8 @@ use Rattle.cq_transform.proofs.entries.find_entries.Given as goal
 abbrev pub invariant-loop-changed : goal.invariant-loop-changed
 invariant-loop-changed l = record {
   keeps : Keeps l.initial.found.items l.found.items;
-  spelled : (i j : InstanceData) (B : Assignment) → IsInitial i → i.tables.algebra.entries ≡ l.here → j.tables.algebra.entries ≡ l.there
-      → AreSpelled i j B l.initial.found.items → AreSpelled i j B l.found.items;
+  spelled : (i : InstanceData) (B : Assignment) → IsInitial i → i.tables.algebra.entries ≡ l.here
+      → AreSpelled i l.target B l.initial.found.items → AreSpelled i l.target B l.found.items;
   closed : l.changed ≡ false → AreEntriesClosed l.found.items l.here;
 }
 

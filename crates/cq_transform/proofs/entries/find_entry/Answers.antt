@@ -29,10 +29,10 @@ returns-clause-spelled c =
     sym (c.has_open.ensures ∙ (λ k. list_any (is_open (c.as_slice-2.ensures.value k)) (c.as_slice-args.ensures k))) ∙ c.if-has_open.false in
     let images : c.in_ok-images.images.items ≡ map (plain_image c.args.found.now.items) c.args.entry.now.args =
     c.in_ok-images.ensures ∙ (λ k. map (plain_image (c.as_slice-3.ensures.value k)) (c.as_slice-args.ensures k)) in
-    λ i j B initial stands same all.
+    λ i B initial stands all.
     put_entry c.args.found.now.items c.as_slice.result.now c.put.new.found.items c.args.entry.now.value c.in_ok-applied.field-0 c.in-Some.label
-    c.as_slice.ensures.value c.in-Some.ensures.open c.put.ensures i j B c.args.there.now c.args.entry.now c.in_ok-images.images.items refl images
-    c.in_ok-applied.ensures known initial stands same all
+    c.as_slice.ensures.value c.in-Some.ensures.open c.put.ensures i c.args.target.now B c.args.target.now.tables.algebra.entries c.args.entry.now c.in_ok-images.images.items refl images
+    c.in_ok-applied.ensures known initial stands refl all
 
 pub returns-clause-more : goal.returns-clause-more
 returns-clause-more c = λ e.

@@ -10,9 +10,9 @@ use Rattle.cq_transform.proofs.entries.find_once.Goals as goal
 pub loop-entry-preserved : goal.loop-entry-preserved
 loop-entry-preserved c = record {
   keeps = keeps-then c.args.found.now.items c.loop-entry.found.items c.find_entry.new.found.items c.loop-entry.invariant.keeps c.in_ok-find_entry.ensures.keeps;
-  spelled = λ i j B initial here there all.
-      c.in_ok-find_entry.ensures.spelled i j B initial (entry_of i c.args.here.now c.loop-entry.entry-index c.entry-item.result here c.loop-entry-test.true c.entry-item.is) there
-      (c.loop-entry.invariant.spelled i j B initial here there all);
+  spelled = λ i B initial here all.
+      c.in_ok-find_entry.ensures.spelled i B initial (entry_of i c.args.here.now c.loop-entry.entry-index c.entry-item.result here c.loop-entry-test.true c.entry-item.is)
+      (c.loop-entry.invariant.spelled i B initial here all);
   more = λ e.
       once_more c.loop-entry.changed c.in_ok-find_entry.field-0 c.args.found.now.items c.loop-entry.found.items c.find_entry.new.found.items
       ((n : ℕ) → n < c.loop-entry.entry-index → (e : Entry) → slice_get c.args.here.now n ≡ Some e → IsEntryClosed c.args.found.now.items e)

@@ -25,10 +25,9 @@ returns c = λ initial.
     let count : length third ≡ length i.tables.algebra.nulls =
     to_third.count ∙ to_second.count ∙ to_first.count ∙ nothing_count c.len.result none c.in_ok-found.ensures ∙ size in
     let here : i.tables.algebra.entries ≡ c.as_slice-here.result.now = sym (c.as_slice-here.ensures ∙ ap (λ (a : Algebra). a.entries) c.algebra-2.ensures.algebra) in
-    let there : j.tables.algebra.entries ≡ c.as_slice-there.result.now = sym (c.as_slice-there.ensures ∙ ap (λ (a : Algebra). a.entries) c.algebra-3.ensures.algebra) in
     let spelled = c.in_ok-find_generators.ensures.spelled j (nothing_spelled i j B none c.len.result c.in_ok-found.ensures) in
     let spelled' = c.in_ok-find_cells.ensures.spelled B initial c.requires spelled in
-    let spelled'' = c.in_ok-find_entries.ensures.spelled i j B initial here there spelled' in
+    let spelled'' = c.in_ok-find_entries.ensures.spelled i B initial here spelled' in
     nulls_found i j B initial third count
     (generators_kept i first third (length i.presentation.generators) (keeps-then first second third to_second to_third) c.in_ok-find_generators.ensures.closed)
     (attributes_kept i second third (length i.schema.attributes) to_third c.in_ok-find_cells.ensures.closed)
