@@ -1,0 +1,3 @@
+pub mod Derivable
+pub mod Arguments
+pub mod Deciding
