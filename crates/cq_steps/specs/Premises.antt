@@ -1,5 +1,5 @@
 -- Premises by how many they are.
-use Rattle.std.specs.Prelude.{List, [], ◌∷◌, Option, Some, None}
+use Rattle.std.specs.Prelude.{List, [], ◌∷◌, Option, None}
 use Rattle.cq_theory.specs.declared.presentation.Equation.{Equation}
 
 -- the one premise

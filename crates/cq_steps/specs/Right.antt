@@ -48,15 +48,18 @@ module _ (S : Schema) (P : Presentation) where
 
   -- e follows from the premise by the foreign key k
   abbrev pub IsByKey : ℕ → Option Equation → Equation → Type 0
-  IsByKey k p e = (a : EntTerm) × (b : EntTerm) × (p ≡ Some (Ent a b)) × (e ≡ Ent (extended a (k ∷ [])) (extended b (k ∷ []))) × IsGround S P (left_of e)
+  IsByKey k p e = (a : EntTerm) × (b : EntTerm) × (p ≡ Some (Ent a b)) × (e ≡ Ent (extended a (k ∷ [])) (extended b (k ∷ [])))
+      × IsGround S P (left_of e)
 
   -- e follows from the premise by the attribute n
   abbrev pub IsByAttribute : ℕ → Option Equation → Equation → Type 0
-  IsByAttribute n p e = (a : EntTerm) × (b : EntTerm) × (p ≡ Some (Ent a b)) × (e ≡ Typ (Att n a) (Att n b)) × IsGround S P (left_of e)
+  IsByAttribute n p e = (a : EntTerm) × (b : EntTerm) × (p ≡ Some (Ent a b)) × (e ≡ Typ (Att n a) (Att n b))
+      × IsGround S P (left_of e)
 
   -- e follows from the premises by the function f
   abbrev pub IsByFunction : ℕ → List (Option Equation) → Equation → Type 0
-  IsByFunction f premises e = (ts : List TypeTerm) × (us : List TypeTerm) × AreBetween premises ts us × (e ≡ Typ (Fun f ts) (Fun f us)) × IsGround S P (left_of e)
+  IsByFunction f premises e = (ts : List TypeTerm) × (us : List TypeTerm) × AreBetween premises ts us × (e ≡ Typ (Fun f ts) (Fun f us))
+      × IsGround S P (left_of e)
 
   -- e is path equation n, at a term of its entity
   abbrev pub IsPathAt : ℕ → EntTerm → Equation → Type 0

@@ -17,8 +17,8 @@ pub enum Rule {
     Obs(u32, EntTerm),
 }
 
-/// An equation, with the rule by which it follows, and the numbers of the earlier steps, from 0, whose equations are the
-/// rule's premises in their order.
+/// An equation, with the rule by which it follows, and the numbers of the earlier steps, from 0, whose equations are
+/// the rule's premises in their order.
 #[derive(Drop)]
 pub struct Step {
     pub rule: Rule,

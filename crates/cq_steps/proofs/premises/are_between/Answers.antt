@@ -1,5 +1,3 @@
-use Rattle.std.proofs.Common.{◌≡◌, ap, ◌∙◌, sym, map, length}
-use Rattle.cq_steps.specs.Right.{equation_at, equations_at, AreBetween}
 use Rattle.cq_steps.proofs.Arguments.{between-lefts, between-rights}
 use Rattle.cq_steps.proofs.Deciding.{decides_no}
 use Rattle.cq_steps.proofs.premises.are_between.Goals as goal
