@@ -1,0 +1,7 @@
+pub mod Classes
+pub mod PlacedData
+pub mod Placing
+pub mod Ends
+pub mod Clashes
+pub mod Joined
+pub mod Faults

@@ -1,0 +1,14 @@
+//! Colimits of schemas: several schemas over one typeside made one, in which listed entities are the same, and the
+//! mapping by which each of them goes into it.
+#![tactic(auto)]
+
+pub mod colimits;
+pub mod joined;
+pub mod parts;
+pub(crate) mod placed;
+pub mod refusal;
+
+pub use colimits::colimit;
+pub use joined::Colimit;
+pub use parts::ColimitParts;
+pub use refusal::ColimitRefusal;

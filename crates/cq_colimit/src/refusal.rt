@@ -1,0 +1,20 @@
+//! Why schemas could not be joined.
+
+/// Why parts make no colimit. The first six are those of `TheoryRefusal`, with the number of the first wrong part.
+#[derive(Clone, Copy, Debug, PartialEq, Eq)]
+pub enum ColimitRefusal {
+    Duplicate(u32),
+    Unknown(u32),
+    WrongCount(u32),
+    WrongSort(u32),
+    Reserved(u32),
+    TooLarge(u32),
+    /// Two joined names of one table are equal: the least pair of parts that give them, the lesser part first. Or the
+    /// typeside has a joined name in its own table: the least part that gives one, twice.
+    NameClash(u32, u32),
+    /// The first part that gives a joined name of over 255 bytes.
+    LongName(u32),
+    /// The entities, foreign keys, attributes and equations of the parts and the added equations are over 1,000,000.
+    TooMany,
+    Memory,
+}
