@@ -20,7 +20,7 @@ with_links first [] = first
 with_links first (link ∷ links) = with_links (with_link first link) links
 
 -- The first member of a number's class. Without pairs each number is alone.
-unfoldable pub first_of : List (ℕ × ℕ) → ℕ → ℕ
+abbrev pub first_of : List (ℕ × ℕ) → ℕ → ℕ
 first_of links = with_links (λ x. x) links
 
 abbrev pub is_first : List (ℕ × ℕ) → ℕ → Bool

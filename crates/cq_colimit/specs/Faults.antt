@@ -6,11 +6,10 @@ use Rattle.cq_theory.specs.declared.lookup.TheoryRefusal.TheVariants as theory
 use Rattle.cq_theory.specs.SchemaData.{SchemaData as Schema}
 use Rattle.cq_theory.specs.TypesideData.{TypesideData as Typeside}
 use Rattle.cq_theory.specs.Typeside.{function_names}
-use Rattle.cq_theory.specs.Schema.{edge_names}
-use Rattle.cq_theory.specs.Resolve.{or_else, first_fault}
+use Rattle.cq_theory.specs.Resolve.{or_else}
 use Rattle.cq_theory.specs.Declaring.{first_part_fault, duplicate_or}
-use Rattle.cq_theory.specs.Paths.{is_among, path_eq_fault}
-use Rattle.cq_theory.specs.SchemaParts.{observation_fault}
+use Rattle.cq_theory.specs.Paths.{is_among}
+use Rattle.cq_theory.specs.SchemaParts.{path_eqs_fault, observations_fault, extended}
 use Rattle.cq_colimit.specs.declared.refusal.ColimitRefusal.{ColimitRefusal}
 use Rattle.cq_colimit.specs.declared.refusal.ColimitRefusal.TheVariants.{Duplicate, Unknown, WrongCount, WrongSort, Reserved, TooLarge}
 use Rattle.cq_colimit.specs.declared.refusal.ColimitRefusal.TheVariants.{NameClash, LongName, TooMany, Memory}
@@ -19,7 +18,7 @@ use Rattle.cq_colimit.specs.PlacedData.{PlacedData as Placed}
 use Rattle.cq_colimit.specs.Placing.{Part, placed}
 use Rattle.cq_colimit.specs.Ends.{pairs_fault}
 use Rattle.cq_colimit.specs.Clashes.{given_entities, given_arrows, least_giver, least_clash}
-use Rattle.cq_colimit.specs.Joined.{links_in, frame}
+use Rattle.cq_colimit.specs.Joined.{links_in, entities_of, attributes_of, keyed}
 
 -- the same refusal, of a colimit
 abbrev pub of_colimit : TheoryRefusal → ColimitRefusal
@@ -73,18 +72,18 @@ long_fault entities arrows = option_map LongName (least_giver is_long (least_giv
 unfoldable pub given_fault : Typeside → List (Name × ℕ) → List (Name × ℕ) → Option ColimitRefusal
 given_fault T entities arrows = or_else (clash_fault T entities arrows) (long_fault entities arrows)
 
--- the faults of the added equations, the first of which is part n
-unfoldable pub added_fault : Schema → ℕ → ColimitParts → Option TheoryRefusal
-added_fault F n joins =
-    or_else (first_fault (path_eq_fault F (is_among (edge_names F.attributes))) n joins.path_eqs)
-    (first_fault (observation_fault F) (n + length joins.path_eqs) joins.obs_eqs)
+-- the faults of the added equations, the first of which is part n, over the schema of joined entities and foreign keys
+unfoldable pub added_fault : Schema → List (Name × Name × Name) → ℕ → ColimitParts → Option TheoryRefusal
+added_fault K attributes n joins =
+    or_else (path_eqs_fault K attributes n joins.path_eqs)
+    (observations_fault (extended K joins.path_eqs attributes []) (n + length joins.path_eqs) joins.obs_eqs)
 
 -- the faults after those of part names and sizes, over some pairs of entities that are one
 abbrev pub joining_fault : Typeside → List Placed → List (ℕ × ℕ) → ℕ → ColimitParts → Option ColimitRefusal
 joining_fault T parts links n joins =
     or_else (option_map of_colimit (pairs_fault parts n joins.pairs))
     (or_else (given_fault T (given_entities links parts) (given_arrows parts))
-    (option_map of_colimit (added_fault (frame links T parts) (n + length joins.pairs) joins)))
+    (option_map of_colimit (added_fault (keyed links T parts) (attributes_of links (entities_of links parts) parts) (n + length joins.pairs) joins)))
 
 -- The first fault: equal names of parts, the sizes, the pairs, the joined names, and then the added equations. The parts of the call are the
 -- names of parts, the pairs, the path equations and the observation equations.

@@ -1,13 +1,13 @@
 -- The joined schema, and the inclusions of the parts.
-use Rattle.std.specs.Prelude.{ℕ, List, [], ◌∷◌, ◌++◌, ◌+◌, length, map}
+use Rattle.std.specs.Prelude.{ℕ, List, [], ◌∷◌, ◌++◌, ◌+◌, length, map, slice_index_or}
 use Rattle.std.specs.List.{flat_map, range_with_len}
+use Rattle.cq_base.specs.declared.name.Name.{Name}
 use Rattle.cq_theory.specs.declared.schema.Edge.{Edge}
 use Rattle.cq_theory.specs.declared.schema.PathEq.{PathEq}
 use Rattle.cq_theory.specs.declared.schema.ObsEq.{ObsEq}
 use Rattle.cq_theory.specs.SchemaData.{SchemaData as Schema}
 use Rattle.cq_theory.specs.TypesideData.{TypesideData as Typeside}
-use Rattle.cq_theory.specs.Paths.{made_path_eq}
-use Rattle.cq_theory.specs.SchemaParts.{made_observation}
+use Rattle.cq_theory.specs.SchemaParts.{started, completed}
 use Rattle.cq_mapping.specs.MappingData.{MappingData as Mapping}
 use Rattle.cq_mapping.specs.Mapping.{attribute_itself}
 use Rattle.cq_mapping.specs.Images.{entity_image, path_image, type_image}
@@ -31,27 +31,37 @@ path_eq_images F = map (path_eq_image F) F.source.path_eqs
 abbrev pub obs_eq_images : Mapping → List ObsEq
 obs_eq_images F = map (obs_eq_image F) F.source.obs_eqs
 
--- Each entity of a part stands for its class.
 module _ (links : List (ℕ × ℕ)) where
-  abbrev pub joined_key : Placed → Edge → Edge
-  joined_key part edge = record {
-    name = joined_name part.name edge.name;
-    from = class_of links (part.start.entity + edge.from);
-    to = class_of links (part.start.entity + edge.to);
-  }
+  -- the joined entities
+  abbrev pub entities_of : List Placed → List Name
+  entities_of parts = map (λ given. given.0) (given_entities links parts)
 
-  abbrev pub joined_attribute : Placed → Edge → Edge
-  joined_attribute part edge = record {
-    name = joined_name part.name edge.name;
-    from = class_of links (part.start.entity + edge.from);
-    to = edge.to;
-  }
+  -- the name of the class of an entity of a part
+  abbrev pub class_name : List Name → Placed → ℕ → Name
+  class_name entities part entity = slice_index_or entities (class_of links (part.start.entity + entity)) []
 
-  abbrev pub joined_keys : Placed → List Edge
-  joined_keys part = map (joined_key part) part.schema.keys
+  -- the joined foreign keys and attributes, as parts of a schema with these entities
+  abbrev pub key_part : List Name → Placed → Edge → Name × Name × Name
+  key_part entities part edge =
+      (joined_name part.name edge.name, class_name entities part edge.from, class_name entities part edge.to)
 
-  abbrev pub joined_attributes : Placed → List Edge
-  joined_attributes part = map (joined_attribute part) part.schema.attributes
+  abbrev pub attribute_part : List Name → Placed → Edge → Name × Name × Name
+  attribute_part entities part edge =
+      (joined_name part.name edge.name, class_name entities part edge.from, slice_index_or part.schema.typeside.types edge.to [])
+
+  abbrev pub keys_of : List Name → List Placed → List (Name × Name × Name)
+  keys_of entities parts = flat_map (λ part. map (key_part entities part) part.schema.keys) parts
+
+  abbrev pub attributes_of : List Name → List Placed → List (Name × Name × Name)
+  attributes_of entities parts = flat_map (λ part. map (attribute_part entities part) part.schema.attributes) parts
+
+  -- the joined entities and foreign keys
+  unfoldable pub keyed : Typeside → List Placed → Schema
+  keyed T parts = started T (entities_of parts) (keys_of (entities_of parts) parts)
+
+  -- the schema of the joined entities, foreign keys and attributes, with some equations that are looked up in it
+  unfoldable pub framed : Typeside → List Placed → ColimitParts → Schema
+  framed T parts joins = completed (keyed T parts) joins.path_eqs (attributes_of (entities_of parts) parts) joins.obs_eqs
 
   -- each symbol of the part goes to its joined symbol
   abbrev pub inclusion : Schema → Placed → Mapping
@@ -63,34 +73,24 @@ module _ (links : List (ℕ × ℕ)) where
     attributes = map attribute_itself (range_with_len part.start.attribute (length part.schema.attributes));
   }
 
-  -- the joined entities, foreign keys and attributes, without equations
-  unfoldable pub frame : Typeside → List Placed → Schema
-  frame T parts = record {
-    typeside = T;
-    entities = map (λ given. given.0) (given_entities links parts);
-    keys = flat_map joined_keys parts;
-    attributes = flat_map joined_attributes parts;
-    path_eqs = [];
-    obs_eqs = [];
-  }
-
-  -- the images of the parts' equations, in order, and then the added equations
-  abbrev pub joined_over : Schema → List Placed → ColimitParts → Schema
-  joined_over F parts joins = record {
+  -- the schema with the images of the parts' equations, in order, before its own
+  abbrev pub with_images : Schema → List Placed → Schema
+  with_images F parts = record {
     typeside = F.typeside;
     entities = F.entities;
     keys = F.keys;
     attributes = F.attributes;
-    path_eqs = flat_map (λ part. path_eq_images (inclusion F part)) parts ++ map (made_path_eq F) joins.path_eqs;
-    obs_eqs = flat_map (λ part. obs_eq_images (inclusion F part)) parts ++ map (made_observation F) joins.obs_eqs;
+    path_eqs = flat_map (λ part. path_eq_images (inclusion F part)) parts ++ F.path_eqs;
+    obs_eqs = flat_map (λ part. obs_eq_images (inclusion F part)) parts ++ F.obs_eqs;
   }
 
 -- the numbers of the pairs of entities that are listed as one
 abbrev pub links_in : List Part → ColimitParts → List (ℕ × ℕ)
 links_in parts joins = links_of (placed parts) joins.pairs
 
+-- the joined symbols, the equations of the parts, in order, and then the added ones
 unfoldable pub joined : Typeside → List Part → ColimitParts → Schema
-joined T parts joins = joined_over (links_in parts joins) (frame (links_in parts joins) T (placed parts)) (placed parts) joins
+joined T parts joins = with_images (links_in parts joins) (framed (links_in parts joins) T (placed parts) joins) (placed parts)
 
 unfoldable pub inclusions : Typeside → List Part → ColimitParts → List Mapping
 inclusions T parts joins = map (inclusion (links_in parts joins) (joined T parts joins)) (placed parts)

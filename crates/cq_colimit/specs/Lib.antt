@@ -1,4 +1,5 @@
 pub mod Classes
+pub mod Forest
 pub mod PlacedData
 pub mod Placing
 pub mod Ends

@@ -2,7 +2,9 @@
 //! mapping by which each of them goes into it.
 #![tactic(auto)]
 
+pub(crate) mod classes;
 pub mod colimits;
+pub(crate) mod ends;
 pub mod joined;
 pub mod parts;
 pub(crate) mod placed;
