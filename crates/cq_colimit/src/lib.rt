@@ -5,10 +5,12 @@
 pub(crate) mod classes;
 pub mod colimits;
 pub(crate) mod ends;
+pub(crate) mod given;
 pub mod joined;
 pub mod parts;
 pub(crate) mod placed;
 pub mod refusal;
+pub(crate) mod text;
 
 pub use colimits::colimit;
 pub use joined::Colimit;
