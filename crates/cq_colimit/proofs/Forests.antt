@@ -10,10 +10,10 @@ use Rattle.cq_theory.specs.Canonical.{below}
 use Rattle.cq_colimit.specs.Classes.{with_link}
 use Rattle.cq_colimit.specs.Forest.{IsDown, IsForest}
 
-chosen : (x m y : ℕ) → x ≡ m → cond (nat_eq x m) y x ≡ y
+pub chosen : (x m y : ℕ) → x ≡ m → cond (nat_eq x m) y x ≡ y
 chosen x m y e = grind (arith, nat_tests)
 
-passed : (x m y : ℕ) → x ≢ m → cond (nat_eq x m) y x ≡ x
+pub passed : (x m y : ℕ) → x ≢ m → cond (nat_eq x m) y x ≡ x
 passed x m y e = grind (arith, nat_tests)
 
 module _ (parents : List ℕ) (i v : ℕ) (within : i < length parents) where

@@ -1,2 +1,5 @@
 pub mod Forests
 pub mod Numbering
+pub mod Giving
+pub mod Least
+pub mod Clashing

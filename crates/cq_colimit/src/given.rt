@@ -1,9 +1,9 @@
 //! Joined names, each with the part that gives it.
-ghost use Rattle.std.specs.Prelude.{◌≡◌, ◌+◌, ◌≤◌, ◌<◌, ◌++◌, ◌∷◌, [], All, IfOk, OnOk, length, map, List, ℕ};
+ghost use Rattle.std.specs.Prelude.{◌≡◌, ◌+◌, ◌≤◌, ◌<◌, ◌++◌, ◌∷◌, [], All, IfOk, OnOk, length, map, List, ℕ, if◌then◌else◌};
 ghost use Rattle.std.specs.List.{flat_map};
 ghost use Rattle.cq_theory.specs.Canonical.{below};
 ghost use Rattle.cq_theory.specs.Schema.{edge_names};
-ghost use Rattle.cq_colimit.specs.Classes.{first_of};
+ghost use Rattle.cq_colimit.specs.Classes.{first_of, is_first};
 ghost use Rattle.cq_colimit.specs.Clashes.{joined_name, given_by, first_entities};
 ghost use Rattle.cq_colimit.specs.Clashes.{given_entities as joined_entities, given_arrows as joined_arrows};
 
@@ -28,6 +28,27 @@ fn give(
     Ok(())
 }
 
+/// Appends the joined name of an entity of a part, if it is the first member of its class.
+#[tactic(auto, using(crate::proofs::Giving::first_at))]
+fn give_first(
+    alloc: Global,
+    part: &Placed,
+    firsts: &[u32],
+    number: usize,
+    name: &Name,
+    made: &mut Vec<(Text, u32)>,
+) -> Result<(), AllocError>
+    requires { number < length firsts.now }
+    ensures { (links : List (ℕ × ℕ)) → firsts.now ≡ map (first_of links) (below (length firsts.now)) → OnOk result (
+        made.new.items ≡ made.old.items
+        ++ given_by part.now (if is_first links number then name.now ∷ [] else [])) }
+{
+    if firsts[number] as usize == number {
+        give(alloc, part, name, made)?;
+    }
+    Ok(())
+}
+
 /// Appends the joined names of those entities of a part that are first members of their classes.
 fn give_entities(
     alloc: Global,
@@ -39,11 +60,9 @@ fn give_entities(
     ensures { (links : List (ℕ × ℕ)) → firsts.now ≡ map (first_of links) (below (length firsts.now)) → OnOk result (
         made.new.items ≡ made.old.items ++ given_by part.now (first_entities links part.now)) }
 {
-    let mut number = part.start.entity;
+    let mut number = part.start.entity as usize;
     for name in part.schema.entities.as_slice() {
-        if firsts[number as usize] == number {
-            give(alloc, part, name, made)?;
-        }
+        give_first(alloc, part, firsts, number, name, made)?;
         number += 1;
     }
     Ok(())

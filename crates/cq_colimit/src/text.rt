@@ -38,6 +38,15 @@ impl Text {
         Ok(Text { text })
     }
 
+    /// The text of a name.
+    pub(crate) fn of_name(alloc: Global, name: &Name) -> Result<Text, AllocError>
+        ensures { IfOk result (λ made. made ≡ name.now) }
+    {
+        Ok(Text {
+            text: String::from_str(alloc, name.as_str())?,
+        })
+    }
+
     /// The text.
     pub(crate) fn as_str(&self) -> &str
         ensures { result.now ≡ self.now }
