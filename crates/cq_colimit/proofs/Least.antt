@@ -28,7 +28,7 @@ module _ (first : ℕ → ℕ) (link : ℕ × ℕ) where
 met : (first : ℕ → ℕ) (links : List (ℕ × ℕ)) (i a b : ℕ) → slice_get links i ≡ Some (a, b) → with_links first links a ≡ with_links first links b
 met first [] i a b h = cc
 met first (link ∷ links) zero a b h =
-    let is : link ≡ (a, b) = same_Some h in
+    let is : link ≡ (a, b) = same_Some link (a, b) h in
     let fa : first a ≡ first link.0 = ap first (ap (λ p. p.0) (sym is)) in
     let fb : first b ≡ first link.1 = ap first (ap (λ p. p.1) (sym is)) in
     kept links (with_link first link) a b (to_least first link a (inl fa) ∙ sym (to_least first link b (inr fb)))
