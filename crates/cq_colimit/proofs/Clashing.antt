@@ -1,10 +1,11 @@
 -- The least pair of parts that give one name, by the least part that has given each name so far.
-use Rattle.std.proofs.Common.{ℕ, Bool, true, false, List, [], ◌∷◌, ◌++◌, Option, Some, None, ◌≡◌, ◌<◌, ◌≤◌, refl, sym, ap, subst, ◌∙◌, arith, cond}
+use Rattle.std.proofs.Common.{ℕ, Bool, true, false, List, [], ◌∷◌, ◌++◌, Option, Some, None, ◌≡◌, ◌<◌, ◌≤◌, ◌+◌, take, drop, length, get_or, refl, sym, ap, subst, ◌∙◌, arith, cond}
 use Rattle.std.specs.Prelude.{min, max, nat_eq, nat_lt}
 use Rattle.std.proofs.lemmas.Bool.Decides.{nat_tests}
 use Rattle.cq_base.specs.declared.name.Name.{Name}
 use Rattle.cq_base.specs.Names.{same_name}
-use Rattle.cq_colimit.specs.Clashes.{lesser, least_giver, is_before, lesser_pair, ordered, least_with, least_clash}
+use Rattle.cq_colimit.proofs.Among.{same_is}
+use Rattle.cq_colimit.specs.Clashes.{lesser, least_giver, is_before, lesser_pair, ordered, with_owner, least_with, least_clash}
 
 -- the least of three pairs, taken in either order
 of_three : (least p q : ℕ × ℕ) → lesser_pair (Some (lesser_pair (Some least) p)) q ≡ lesser_pair (Some least) (lesser_pair (Some p) q)
@@ -35,11 +36,6 @@ of_lesser k o q = by (is_before (ordered o q) (ordered k q)) refl
         let right : max k q ≡ max (min k o) q = grind (arith, nat_tests, h) in
         λ i. (left i, right i)
 
--- the least pair, where the least part that has given this name may be there
-abbrev pub with_owner : Option (ℕ × ℕ) → ℕ → Option ℕ → Option (ℕ × ℕ)
-with_owner least part None = least
-with_owner least part (Some owner) = Some (lesser_pair least (ordered owner part))
-
 one_more : (least : Option (ℕ × ℕ)) (part other : ℕ) (owner : Option ℕ)
     → Some (lesser_pair (with_owner least part owner) (ordered other part)) ≡ with_owner least part (Some (lesser owner other))
 one_more least part other None = refl
@@ -59,10 +55,28 @@ module _ (least : Option (ℕ × ℕ)) (given : Name × ℕ) where
           → least_with (with_owner least given.1 (Some (lesser owner other.1))) given earlier ≡ with_owner least given.1 (least_giver (λ g. same_name g.0 given.0) (Some (lesser owner other.1)) earlier)
           → least_with (cond b (Some (lesser_pair (with_owner least given.1 owner) (ordered other.1 given.1))) (with_owner least given.1 owner)) given earlier
           ≡ with_owner least given.1 (least_giver (λ g. same_name g.0 given.0) (cond b (Some (lesser owner other.1)) owner) earlier)
-      by true no yes = ap (λ l. least_with l given earlier) (one_more least given.1 other.1 owner) ∙ yes
-      by false no yes = no
+      by true kept more = ap (λ l. least_with l given earlier) (one_more least given.1 other.1 owner) ∙ more
+      by false kept more = kept
 
 pub least_giver-more : (test : Name × ℕ → Bool) (least : Option ℕ) (xs : List (Name × ℕ)) (x : Name × ℕ)
     → least_giver test least (xs ++ x ∷ []) ≡ cond (test x) (Some (lesser (least_giver test least xs) x.1)) (least_giver test least xs)
 least_giver-more test least [] x = refl
 least_giver-more test least (y ∷ xs) x = least_giver-more test (cond (test y) (Some (lesser least y.1)) least) xs x
+
+-- one more name is noted
+module _ (old new : Name → Option ℕ) (seen rest : List (Name × ℕ)) (name : Name × ℕ) (least after total : Option (ℕ × ℕ)) where
+  pub clash_step : ((text : Name) → old text ≡ least_giver (λ g. same_name g.0 text) None seen)
+      → ((text : Name) → new text ≡ cond (same_name name.0 text) (Some (lesser (old name.0) name.1)) (old text))
+      → least_clash least seen (name ∷ rest) ≡ total → after ≡ with_owner least name.1 (old name.0)
+      → ((text : Name) → new text ≡ least_giver (λ g. same_name g.0 text) None (seen ++ name ∷ [])) × (least_clash after (seen ++ name ∷ []) rest ≡ total)
+  clash_step known noted before is = (
+    λ text. noted text ∙ at text (same_name name.0 text) refl ∙ sym (least_giver-more (λ g. same_name g.0 text) None seen name),
+    ap (λ l. least_clash l (seen ++ name ∷ []) rest) (is ∙ ap (with_owner least name.1) (known name.0) ∙ sym (least_with-owner least name None seen)) ∙ before,
+  )
+    where
+      at : (text : Name) (b : Bool) → same_name name.0 text ≡ b
+          → cond b (Some (lesser (old name.0) name.1)) (old text)
+          ≡ cond b (Some (lesser (least_giver (λ g. same_name g.0 text) None seen) name.1)) (least_giver (λ g. same_name g.0 text) None seen)
+      at text true same =
+          ap (λ o. Some (lesser o name.1)) (known name.0 ∙ ap (λ t. least_giver (λ g. same_name g.0 t) None seen) (same_is name.0 text same))
+      at text false same = known text

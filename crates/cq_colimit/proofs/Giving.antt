@@ -39,7 +39,7 @@ not_given part links firsts x name made is within other =
     sym (append-nil made) ∙ ap (λ b. made ++ given_by part (cond b (name ∷ []) [])) (sym no)
 
 -- the next name of a list
-pub next_of : (names : List Name) (i : ℕ) (name : Name) → i < length names → name ≡ get_or names i name → drop i names ≡ name ∷ drop (i + 1) names
+pub next_of : {X : Type 0} (names : List X) (i : ℕ) (name : X) → i < length names → name ≡ get_or names i name → drop i names ≡ name ∷ drop (i + 1) names
 next_of names i name within is =
     let next : drop i names ≡ get_or names i name ∷ drop (i + 1) names = rw (add-one) (drop-cons names i name within) in
     next ∙ ap (λ n. n ∷ drop (i + 1) names) (sym is)

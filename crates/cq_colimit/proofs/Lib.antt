@@ -3,3 +3,5 @@ pub mod Numbering
 pub mod Giving
 pub mod Least
 pub mod Clashing
+pub mod Ranges
+pub mod Among

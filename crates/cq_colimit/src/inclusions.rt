@@ -1,20 +1,16 @@
-//! The inclusions of the parts, and the images of their equations.
-ghost use Rattle.std.specs.Prelude.{ℕ, List, ◌≡◌, ◌+◌, ◌<◌, ◌≤◌, ◌^◌, ◌++◌, ◌∷◌, [], All, IfOk, OnOk, length, map};
+//! The images of the symbols of a part.
+ghost use Rattle.std.specs.Prelude.{ℕ, List, ◌≡◌, ◌+◌, ◌<◌, ◌≤◌, ◌^◌, ◌∷◌, [], IfOk, length, map};
 ghost use Rattle.std.specs.List.{range_with_len};
 ghost use Rattle.cq_theory.specs.Canonical.{below};
 ghost use Rattle.cq_mapping.specs.Mapping.{attribute_itself};
 ghost use Rattle.cq_colimit.specs.Classes.{class_of};
-ghost use Rattle.cq_colimit.specs.Joined.{path_eq_image as image_of_path_eq, obs_eq_image as image_of_obs_eq};
-ghost use Rattle.cq_colimit.specs.Joined.{path_eq_images, obs_eq_images, inclusion};
 
-use crate::placed::Placed;
 use cq_base::Seq;
-use cq_mapping::Mapping;
-use cq_theory::{EntTerm, ObsEq, PathEq, Schema, TypeTerm};
+use cq_theory::{EntTerm, TypeTerm};
 use std::alloc::{AllocError, Global};
-use std::rc::Rc;
 
 /// The paths of one foreign key each, from one on.
+#[tactic(auto, using(crate::proofs::Ranges::map_range_more))]
 fn single_keys(alloc: Global, first: u32, count: u32) -> Result<Vec<Seq<u32>>, AllocError>
     requires { first + count < 2 ^ 32 }
     ensures { IfOk result (λ made. made.items ≡ map (λ k. k ∷ []) (range_with_len first count)) }
@@ -27,6 +23,7 @@ fn single_keys(alloc: Global, first: u32, count: u32) -> Result<Vec<Seq<u32>>, A
 }
 
 /// The attributes of the one variable, from one on.
+#[tactic(auto, using(crate::proofs::Ranges::map_range_more))]
 fn single_attributes(alloc: Global, first: u32, count: u32) -> Result<Vec<TypeTerm>, AllocError>
     requires { first + count < 2 ^ 32 }
     ensures { IfOk result (λ made. made.items ≡ map attribute_itself (range_with_len first count)) }
@@ -43,6 +40,7 @@ fn single_attributes(alloc: Global, first: u32, count: u32) -> Result<Vec<TypeTe
 }
 
 /// The classes of a part's entities.
+#[tactic(auto, using(crate::proofs::Ranges::classes_more))]
 fn class_numbers(
     alloc: Global,
     numbers: &[u32],
@@ -55,7 +53,7 @@ fn class_numbers(
 {
     let mut made = Vec::new(alloc);
     for entity in 0..count {
-        made.push(numbers[(first + entity) as usize])?;
+        made.push(numbers[first as usize + entity as usize])?;
     }
     Ok(made)
 }
