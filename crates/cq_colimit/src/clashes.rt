@@ -1,17 +1,19 @@
 //! Clashes of joined names.
-ghost use Rattle.std.specs.Prelude.{◌≡◌, IfOk, OnOk, Some, []};
+ghost use Rattle.std.specs.Prelude.{◌≡◌, ◌⊎◌, IfOk, IfErr, Some, None, [], min, max};
 ghost use Rattle.cq_theory.specs.Paths.{is_among};
 ghost use Rattle.cq_colimit.specs.Clashes.{lesser as lesser_of, lesser_pair as lesser_pair_of, ordered as in_order};
 ghost use Rattle.cq_colimit.specs.Clashes.{is_before as comes_before, least_giver, least_clash as clash_of};
 ghost use Rattle.cq_colimit.specs.Clashes.{with_owner};
-ghost use Rattle.cq_colimit.specs.Faults.{is_long};
+ghost use Rattle.cq_colimit.specs.Faults.{is_long, given_fault};
 ghost use Rattle.std.specs.Prelude.{if◌then◌else◌};
 ghost use Rattle.cq_base.specs.Names.{same_name};
 ghost use Rattle.cq_base.specs.declared.name.Name.{Name as AnyName};
 ghost use Rattle.indexmap.specs.IndexMap.{get};
 
+use crate::refusal::ColimitRefusal;
 use crate::text::Text;
 use crate::texts::Texts;
+use cq_theory::Typeside;
 use indexmap::IndexMap;
 use std::alloc::{AllocError, Global};
 
@@ -113,4 +115,32 @@ fn least_long(given: &[(Text, u32)], least: Option<u32>) -> Option<u32>
         }
     }
     least
+}
+
+/// Whether the names of joined entities, and of joined foreign keys and attributes, can stand beside one another and
+/// beside those of the typeside.
+pub(crate) fn check_given(
+    alloc: Global,
+    typeside: &Typeside,
+    entities: &[(Text, u32)],
+    arrows: &[(Text, u32)],
+) -> Result<(), ColimitRefusal>
+    ensures accepted { IfOk result (λ _. given_fault typeside.now entities.now arrows.now ≡ None) }
+    ensures refused { IfErr result (λ refusal. (refusal ≡ ColimitRefusal.Memory)
+        ⊎ (given_fault typeside.now entities.now arrows.now ≡ Some refusal)) }
+{
+    let clash = least_clash(alloc, entities, None)?;
+    let clash = least_clash(alloc, arrows, clash)?;
+    if let Some((left, right)) = clash {
+        return Err(ColimitRefusal::NameClash(left, right));
+    }
+    let types = Texts::of_names(alloc, typeside.types.as_slice())?;
+    let functions = Texts::of_functions(alloc, typeside.functions.as_slice())?;
+    if let Some(part) = least_among(&functions, arrows, least_among(&types, entities, None)) {
+        return Err(ColimitRefusal::NameClash(part, part));
+    }
+    match least_long(arrows, least_long(entities, None)) {
+        Some(part) => Err(ColimitRefusal::LongName(part)),
+        None => Ok(()),
+    }
 }

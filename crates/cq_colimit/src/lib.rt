@@ -6,6 +6,7 @@ pub(crate) mod clashes;
 pub(crate) mod classes;
 pub mod colimits;
 pub(crate) mod ends;
+pub(crate) mod frames;
 pub(crate) mod given;
 pub(crate) mod images;
 pub(crate) mod inclusions;

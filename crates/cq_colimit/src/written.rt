@@ -1,9 +1,10 @@
 //! The joined foreign keys and attributes, as parts of a schema.
-ghost use Rattle.std.specs.Prelude.{ℕ, List, ◌≡◌, ◌+◌, ◌<◌, [], IfOk, length, map, slice_index_or};
+ghost use Rattle.std.specs.Prelude.{ℕ, List, ◌≡◌, ◌+◌, ◌<◌, ◌≤◌, ◌++◌, All, [], IfOk, OnOk, length, map, slice_index_or};
 ghost use Rattle.cq_theory.specs.Canonical.{below};
 ghost use Rattle.cq_colimit.specs.Classes.{class_of};
 ghost use Rattle.cq_colimit.specs.Clashes.{joined_name};
 ghost use Rattle.cq_colimit.specs.Joined.{key_part as part_of_key, attribute_part as part_of_attribute};
+ghost use Rattle.cq_colimit.specs.Joined.{keys_of, attributes_of};
 
 use crate::placed::Placed;
 use crate::text::Text;
@@ -75,4 +76,79 @@ fn attribute_part(
     )?;
     let to = name_at(part.schema.typeside.types.as_slice(), edge.to)?;
     Ok((name, from, to))
+}
+
+/// Appends the joined foreign keys of a part.
+fn add_keys(
+    alloc: Global,
+    part: &Placed,
+    numbers: &[u32],
+    entities: &[Name],
+    made: &mut Vec<(Name, Name, Name)>,
+) -> Result<(), AllocError>
+    requires { part.now.start.entity + length part.now.schema.entities ≤ length numbers.now }
+    ensures { (links : List (ℕ × ℕ)) → numbers.now ≡ map (class_of links) (below (length numbers.now)) → OnOk result (
+        made.new.items ≡ made.old.items ++ map (part_of_key links entities.now part.now) part.now.schema.keys) }
+{
+    part.schema.is_well_sorted();
+    for edge in part.schema.keys.as_slice() {
+        made.push(key_part(alloc, part, numbers, entities, edge)?)?;
+    }
+    Ok(())
+}
+
+/// Appends the joined attributes of a part.
+fn add_attributes(
+    alloc: Global,
+    part: &Placed,
+    numbers: &[u32],
+    entities: &[Name],
+    made: &mut Vec<(Name, Name, Name)>,
+) -> Result<(), AllocError>
+    requires { part.now.start.entity + length part.now.schema.entities ≤ length numbers.now }
+    ensures { (links : List (ℕ × ℕ)) → numbers.now ≡ map (class_of links) (below (length numbers.now)) → OnOk result (
+        made.new.items ≡ made.old.items
+        ++ map (part_of_attribute links entities.now part.now) part.now.schema.attributes) }
+{
+    part.schema.is_well_sorted();
+    for edge in part.schema.attributes.as_slice() {
+        made.push(attribute_part(alloc, part, numbers, entities, edge)?)?;
+    }
+    Ok(())
+}
+
+/// The joined foreign keys.
+pub(crate) fn key_parts(
+    alloc: Global,
+    parts: &[Placed],
+    numbers: &[u32],
+    entities: &[Name],
+) -> Result<Vec<(Name, Name, Name)>, AllocError>
+    requires { All (λ part. part.start.entity + length part.schema.entities ≤ length numbers.now) parts.now }
+    ensures { (links : List (ℕ × ℕ)) → numbers.now ≡ map (class_of links) (below (length numbers.now)) → IfOk result (λ
+        made. made.items ≡ keys_of links entities.now parts.now) }
+{
+    let mut made = Vec::new(alloc);
+    for part in parts {
+        add_keys(alloc, part, numbers, entities, &mut made)?;
+    }
+    Ok(made)
+}
+
+/// The joined attributes.
+pub(crate) fn attribute_parts(
+    alloc: Global,
+    parts: &[Placed],
+    numbers: &[u32],
+    entities: &[Name],
+) -> Result<Vec<(Name, Name, Name)>, AllocError>
+    requires { All (λ part. part.start.entity + length part.schema.entities ≤ length numbers.now) parts.now }
+    ensures { (links : List (ℕ × ℕ)) → numbers.now ≡ map (class_of links) (below (length numbers.now)) → IfOk result (λ
+        made. made.items ≡ attributes_of links entities.now parts.now) }
+{
+    let mut made = Vec::new(alloc);
+    for part in parts {
+        add_attributes(alloc, part, numbers, entities, &mut made)?;
+    }
+    Ok(made)
 }
