@@ -5,3 +5,15 @@ pub mod Least
 pub mod Clashing
 pub mod Ranges
 pub mod Among
+pub mod Blocks
+pub mod Counting
+pub mod Clashed
+pub mod Distinct
+pub mod Included
+pub mod Singles
+pub mod Preserving
+pub mod Places
+pub mod Framing
+pub mod AllPreserving
+pub mod Renumbering
+pub mod Steps
