@@ -17,3 +17,6 @@ pub mod Framing
 pub mod AllPreserving
 pub mod Renumbering
 pub mod Steps
+pub mod Finishing
+pub mod Totals
+pub mod Ordered

@@ -1,5 +1,5 @@
 -- Refusals of the added equations by their numbers in the call.
-use Rattle.std.proofs.Common.{ℕ, List, [], ◌∷◌, Option, Some, None, ◌≡◌, ◌<◌, ◌≤◌, ◌+◌, ◌^◌, ◌⊎◌, inl, inr, length, refl, sym, ap, subst, ◌∙◌, arith}
+use Rattle.std.proofs.Common.{ℕ, suc, List, [], ◌∷◌, Option, Some, None, ◌≡◌, ◌<◌, ◌≤◌, ◌+◌, ◌^◌, ◌⊎◌, inl, inr, length, refl, sym, ap, subst, ◌∙◌, arith}
 use Rattle.std.specs.Prelude.{option_map}
 use Rattle.cq_base.specs.declared.name.Name.{Name}
 use Rattle.cq_theory.specs.declared.lookup.TermRefusal.{TermRefusal}
@@ -114,3 +114,16 @@ module _ (links : List (ℕ × ℕ)) (T : Typeside) (parts : List Placed) (first
         rest_refused (path_eqs_fault S A before joins.path_eqs) refl
         (sym (ap (λ o. or_else o (or_else (keys_fault T E (length E) K) rest)) has.entities ∙ ap (λ o. or_else o rest) has.keys
         ∙ ap (λ o. or_else (path_eqs_fault S A before joins.path_eqs) (or_else o last)) (has.attributes (before + length joins.path_eqs))) ∙ h)
+
+  -- the same, by numbers that are equal to these
+  pub told_refused : (has : HasSymbols links T parts) (told : ColimitRefusal) (refusal : TheoryRefusal) (ahead paths attributes : ℕ) → ahead ≡ before → paths ≡ length joins.path_eqs → attributes ≡ length A
+      → first + length joins.path_eqs + length joins.obs_eqs < 2 ^ 32
+      → ((k : ℕ) (r : TermRefusal) → refusal ≡ in_part (ahead + k) r → k < paths → first + k < 2 ^ 32 → told ≡ of_colimit (in_part (first + k) r))
+      → ((k : ℕ) (r : TermRefusal) → refusal ≡ in_part (ahead + paths + attributes + k) r → first + paths + k < 2 ^ 32 → told ≡ of_colimit (in_part (first + paths + k) r))
+      → (refusal ≡ theory.Memory) ⊎ (schema_fault T (plain links T parts joins.path_eqs joins.obs_eqs) ≡ Some refusal) → (told ≡ Memory) ⊎ (option_map of_colimit (added_fault S A first joins) ≡ Some told)
+  told_refused has told refusal ahead paths attributes a p t few of_paths of_observations (inl e) = inl (of_observations 0 rule.Memory e (omega (arith, p, few)))
+  told_refused has told refusal ahead paths attributes a p t few of_paths of_observations (inr h) =
+      inr (refused has told refusal few
+      (λ k r is below fits. of_paths k r (is ∙ ap (λ m. in_part (m + k) r) (sym a)) (subst (λ m. k < m) (sym p) below) fits)
+      (λ k r is fits. of_observations k r (is ∙ (λ i. in_part (sym a i + sym p i + sym t i + k) r)) (subst (λ m. first + m + k < 2 ^ 32) (sym p) fits) ∙ ap (λ m. of_colimit (in_part (first + m + k) r)) p)
+      h)

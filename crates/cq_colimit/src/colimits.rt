@@ -52,7 +52,10 @@ pub fn colimit(
         return Err(ColimitRefusal::TooMany);
     }
     let placed = place(alloc, parts)?;
-    join_placed(alloc, typeside, placed, &table, joins)
+    match join_placed(alloc, typeside, placed, &table, joins) {
+        Ok(colimit) => Ok(colimit),
+        Err(refusal) => Err(refusal),
+    }
 }
 
 /// How many entities the parts have.
@@ -105,5 +108,8 @@ fn join_placed(
     };
     let classes = Classes::new(alloc, entities, links.as_slice())?;
     let first = first + joins.pairs.len() as u32;
-    join(alloc, typeside, parts, classes, first, joins)
+    match join(alloc, typeside, parts, classes, first, joins) {
+        Ok(colimit) => Ok(colimit),
+        Err(refusal) => Err(refusal),
+    }
 }

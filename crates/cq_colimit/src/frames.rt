@@ -103,10 +103,19 @@ pub(crate) fn bare(
     let none = Seq::from_vec(Vec::new(alloc));
     let written = schema_parts(alloc, symbols, none, Seq::from_vec(Vec::new(alloc)))?;
     // The joined names have passed their tests, so what is left is want of memory.
-    let Ok(schema) = Schema::new(alloc, typeside, written) else {
+    let made = Schema::new(alloc, typeside, written);
+    let Ok(schema) = made else {
         return Err(AllocError);
     };
     schema.is_well_sorted();
+    let frame = shared(alloc, schema)?;
+    Ok(frame)
+}
+
+/// The schema behind a shared pointer.
+pub(crate) fn shared(alloc: Global, schema: Schema) -> Result<Rc<Schema>, AllocError>
+    ensures { IfOk result (λ made. made.value ≡ schema) }
+{
     match Rc::new(alloc, schema) {
         Ok(schema) => Ok(schema),
         Err(_) => Err(AllocError),
@@ -148,7 +157,8 @@ pub(crate) fn framed(
     let before = (written.entities.len() + written.keys.len()) as u32;
     let paths = written.path_eqs.len() as u32;
     let attributes = written.attributes.len() as u32;
-    match Schema::new(alloc, typeside, written) {
+    let made = Schema::new(alloc, typeside, written);
+    match made {
         Ok(schema) => Ok(schema),
         Err(refusal) => Err(of_added(refusal, first, before, paths, attributes)),
     }

@@ -6,8 +6,8 @@ use Rattle.cq_colimit.proofs.Places.{go_at}
 use Rattle.cq_colimit.proofs.Steps.{map_step}
 use Rattle.cq_colimit.proofs.inclusions.include_all.Goals as goal
 
-pub include-mapping-requires-clause-mapping : goal.include-mapping-requires-clause-mapping
-include-mapping-requires-clause-mapping c =
+pub include-requires-clause-mapping : goal.include-requires-clause-mapping
+include-requires-clause-mapping c =
     let given = c.requires.mappings in
     (given.0, given.1, go_at given.0 c.args.target.now.value _ c.args.parts.now c.loop-part.part-index c.part-item.result (search rules) c.loop-part-test.true c.part-item.is given.2)
 
