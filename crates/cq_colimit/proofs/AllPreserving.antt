@@ -32,17 +32,21 @@ module _ (links : List (ℕ × ℕ)) (parts : List Placed) (J : Schema) (images 
       → (m : ℕ) × (slice_get J.path_eqs m ≡ Some (path_eq_image (inclusion links J part) e))
   path_there k part h n e at =
       let image = get_mapped (path_eq_image (inclusion links J part)) part.schema.path_eqs n e at in
-      let found = in_flat (λ (p : Placed). path_eq_images (inclusion links J p)) parts k part h n (path_eq_image (inclusion links J part) e) image in
-      (found.0, ap (λ (l : List PathEq). slice_get l found.0) images.path_eqs
-          ∙ get_front (flat_map (λ (p : Placed). path_eq_images (inclusion links J p)) parts) images.own_path_eqs found.0 _ found.1)
+      let found = in_flat (λ (p : Placed). path_eq_images (inclusion links J p)) parts k part h n (path_eq_image (inclusion links J part) e) image in (
+        found.0,
+        ap (λ (l : List PathEq). slice_get l found.0) images.path_eqs
+            ∙ get_front (flat_map (λ (p : Placed). path_eq_images (inclusion links J p)) parts) images.own_path_eqs found.0 _ found.1,
+      )
 
   observation_there : (k : ℕ) (part : Placed) → slice_get parts k ≡ Some part → (n : ℕ) (e : ObsEq) → slice_get part.schema.obs_eqs n ≡ Some e
       → (m : ℕ) × (slice_get J.obs_eqs m ≡ Some (obs_eq_image (inclusion links J part) e))
   observation_there k part h n e at =
       let image = get_mapped (obs_eq_image (inclusion links J part)) part.schema.obs_eqs n e at in
-      let found = in_flat (λ (p : Placed). obs_eq_images (inclusion links J p)) parts k part h n (obs_eq_image (inclusion links J part) e) image in
-      (found.0, ap (λ (l : List ObsEq). slice_get l found.0) images.obs_eqs
-          ∙ get_front (flat_map (λ (p : Placed). obs_eq_images (inclusion links J p)) parts) images.own_obs_eqs found.0 _ found.1)
+      let found = in_flat (λ (p : Placed). obs_eq_images (inclusion links J p)) parts k part h n (obs_eq_image (inclusion links J part) e) image in (
+        found.0,
+        ap (λ (l : List ObsEq). slice_get l found.0) images.obs_eqs
+            ∙ get_front (flat_map (λ (p : Placed). obs_eq_images (inclusion links J p)) parts) images.own_obs_eqs found.0 _ found.1,
+      )
 
   pub all_preserve : (made : List Mapping) → made ≡ map (inclusion links J) parts → All IsMapping made → All Preserves made
   all_preserve made is all k d within =

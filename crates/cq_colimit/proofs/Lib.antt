@@ -20,3 +20,5 @@ pub mod Steps
 pub mod Finishing
 pub mod Totals
 pub mod Ordered
+pub mod Pulled
+pub mod ByParts

@@ -1,7 +1,6 @@
 -- The faults of a colimit in their order, from those of its steps.
 use Rattle.std.proofs.Common.{ℕ, suc, Bool, true, false, List, [], ◌∷◌, Option, Some, None, ◌≡◌, ◌<◌, ◌≤◌, ◌+◌, ◌⊎◌, inl, inr, length, map, cond, refl, sym, ap, subst, ◌∙◌, arith}
 use Rattle.std.specs.Prelude.{All, option_map, nat_lt}
-use Rattle.std.proofs.lemmas.Bool.Decides.{nat_tests}
 use Rattle.std.proofs.lemmas.List.{length-map}
 use Rattle.std.proofs.lemmas.List.Elements.{All-map}
 use Rattle.cq_base.specs.declared.name.Name.{Name}
@@ -11,6 +10,7 @@ use Rattle.cq_theory.specs.Canonical.{below}
 use Rattle.cq_theory.specs.Resolve.{or_else}
 use Rattle.cq_theory.specs.SchemaData.{SchemaData as Schema}
 use Rattle.cq_theory.specs.TypesideData.{TypesideData as Typeside}
+use Rattle.cq_theory.proofs.Faults.{at_most}
 use Rattle.cq_mapping.specs.MappingData.{MappingData as Mapping}
 use Rattle.cq_colimit.specs.declared.refusal.ColimitRefusal.{ColimitRefusal}
 use Rattle.cq_colimit.specs.declared.refusal.ColimitRefusal.TheVariants.{TooMany, Memory}
@@ -116,3 +116,25 @@ module _ (T : Typeside) (parts : List Part) (joins : ColimitParts) where
 pub sizes_same : {X : Type 0} (name : X → Name) (schema : X → Schema) (xs : List X) → map (λ (p : Part). p.1) (map (λ x. (name x, schema x)) xs) ≡ map schema xs
 sizes_same name schema [] = refl
 sizes_same name schema (x ∷ xs) = ap (λ (l : List Schema). schema x ∷ l) (sizes_same name schema xs)
+
+module _ {X : Type 0} (name : X → Name) (schema : X → Schema) (xs : List X) (joins : ColimitParts) (many : Bool) (paths observations : ℕ)
+    (is_paths : paths ≡ length joins.path_eqs) (is_observations : observations ≡ length joins.obs_eqs) (is : many ≡ nat_lt 1000000 (sizes_of (map schema xs) + paths + observations)) where
+  pub many_is : nat_lt 1000000 (joined_size (map (λ x. (name x, schema x)) xs) joins) ≡ many
+  many_is = (λ i. nat_lt 1000000 (sizes_of (sizes_same name schema xs i) + sym is_paths i + sym is_observations i)) ∙ sym is
+
+  pub few_are : many ≡ false → (sizes_of (map schema xs) ≤ 1000000) × (length joins.path_eqs + length joins.obs_eqs ≤ 1000000)
+  few_are none =
+      let le : sizes_of (map schema xs) + paths + observations ≤ 1000000 = at_most 1000000 (sizes_of (map schema xs) + paths + observations) (sym is ∙ none) in
+      (omega (arith, le), omega (arith, le, is_paths, is_observations))
+
+  -- the given parts in their places
+  pub are_placed : (T : Typeside) (P : List Placed) → many ≡ false → P ≡ placed (map (λ x. (name x, schema x)) xs) → All (λ x. (schema x).typeside ≡ T) xs
+      → ArePlaced T (map (λ x. (name x, schema x)) xs) P
+  are_placed T P none places over = record {
+    places = places;
+    small = subst (λ (l : List Schema). sizes_of l ≤ 1000000) (sym (sizes_same name schema xs)) (few_are none).0;
+    over = All-map (λ (part : Part). part.1.typeside ≡ T) (λ x. (name x, schema x)) xs over;
+  }
+
+  pub count_is : (P : List Placed) → P ≡ placed (map (λ x. (name x, schema x)) xs) → length P ≡ length xs
+  count_is P places = ap (λ (l : List Placed). length l) places ∙ placed_count (map (λ x. (name x, schema x)) xs) ∙ length-map xs (λ x. (name x, schema x))

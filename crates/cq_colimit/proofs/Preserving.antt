@@ -28,11 +28,11 @@ in_parts [] ys n x h = inr (n, h)
 in_parts (y ∷ xs) ys zero x h = inl (0, h)
 in_parts (y ∷ xs) ys (suc n) x h = elim (in_parts xs ys n x h) [ inl m ↦ inl (suc m.0, m.1) | inr m ↦ inr m ]
 
-no_type_variable : (e n type : ℕ) → type_at (slice_get (one_of e) n) ≡ Some type → ⊥
+pub no_type_variable : (e n type : ℕ) → type_at (slice_get (one_of e) n) ≡ Some type → ⊥
 no_type_variable e zero type h = cc
 no_type_variable e (suc n) type h = cc
 
-one_variable : (e n start : ℕ) → entity_at (slice_get (one_of e) n) ≡ Some start → 0 ≡ n
+pub one_variable : (e n start : ℕ) → entity_at (slice_get (one_of e) n) ≡ Some start → 0 ≡ n
 one_variable e zero start h = refl
 one_variable e (suc n) start h = cc
 

@@ -20,7 +20,7 @@ use Rattle.cq_colimit.proofs.Framing.{same_path_eqs, same_obs_eqs}
 pub flat_step : {X Y : Type 0} (f : X → List Y) (xs : List X) (i : ℕ) (x : X) (before after : List Y) → i < length xs → x ≡ get_or xs i x
     → before ≡ flat_map f (take i xs) → after ≡ before ++ f x → after ≡ flat_map f (take (i + 1) xs)
 flat_step f xs i x before after within is so_far now =
-    now ∙ (λ j. so_far j ++ f (is j)) 
+    now ∙ (λ j. so_far j ++ f (is j))
     ∙ sym (ap (flat_map f) (take_more xs i x within) ∙ flat_map-append f (take i xs) (get_or xs i x ∷ []) ∙ ap (λ l. flat_map f (take i xs) ++ l) (append-nil (f (get_or xs i x))))
 
 pub map_step : {X Y : Type 0} (f : X → Y) (xs : List X) (i : ℕ) (x : X) (y : Y) (before : List Y) → i < length xs → x ≡ get_or xs i x

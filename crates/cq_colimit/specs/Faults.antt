@@ -86,10 +86,11 @@ abbrev pub joining_fault : Typeside → List Placed → List (ℕ × ℕ) → �
 joining_fault T parts links n joins =
     or_else (option_map of_colimit (pairs_fault parts n joins.pairs))
     (or_else (given_fault T (given_entities links parts) (given_arrows parts))
-    (option_map of_colimit (added_fault (keyed links T parts) (attributes_of links (entities_of links parts) parts) (n + length joins.pairs) joins)))
+    (option_map of_colimit (added_fault (keyed links T parts) (attributes_of links (entities_of links parts) parts)
+    (n + length joins.pairs) joins)))
 
--- The first fault: equal names of parts, the sizes, the pairs, the joined names, and then the added equations. The parts of the call are the
--- names of parts, the pairs, the path equations and the observation equations.
+-- The first fault: equal names of parts, the sizes, the pairs, the joined names, and then the added equations. The parts of the call
+-- are the names of parts, the pairs, the path equations and the observation equations.
 unfoldable pub colimit_fault : Typeside → List Part → ColimitParts → Option ColimitRefusal
 colimit_fault T parts joins =
     or_else (option_map of_colimit (names_fault parts))

@@ -50,7 +50,8 @@ module _ (links : List (ℕ × ℕ)) where
   -- no joined symbol breaks a rule of schemas
   pub record HasSymbols (T : Typeside) (parts : List Placed) : Type 0 where
     pub entities : entities_fault T (entities_of links parts) ≡ None
-    pub keys : keys_fault T (entities_of links parts) (length (entities_of links parts)) (keys_of links (entities_of links parts) parts) ≡ None
+    pub keys : keys_fault T (entities_of links parts) (length (entities_of links parts)) (keys_of links (entities_of links parts) parts)
+        ≡ None
     pub attributes : (n : ℕ) → attributes_fault (keyed links T parts) n (attributes_of links (entities_of links parts) parts) ≡ None
 
   -- the least fault of the joined names and of the added equations, the first of which is part n

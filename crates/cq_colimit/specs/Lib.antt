@@ -9,3 +9,4 @@ pub mod Appended
 pub mod Frame
 pub mod Renumbered
 pub mod Faults
+pub mod Models

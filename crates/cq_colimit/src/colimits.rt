@@ -44,11 +44,13 @@ pub fn colimit(
     ensures refused { IfErr result (λ refusal. (refusal ≡ ColimitRefusal.Memory)
         ⊎ (colimit_fault typeside.value (map (λ part. (part.0, part.1.value)) parts.now) joins ≡ Some refusal)) }
 {
-    let table = match part_table(alloc, parts) {
+    let named = part_table(alloc, parts);
+    let table = match named {
         Ok(table) => table,
         Err(refusal) => return Err(of_colimit(refusal)),
     };
-    if is_too_many(parts, joins.path_eqs.len(), joins.obs_eqs.len()) {
+    let many = is_too_many(parts, joins.path_eqs.len(), joins.obs_eqs.len());
+    if many {
         return Err(ColimitRefusal::TooMany);
     }
     let placed = place(alloc, parts)?;
@@ -65,9 +67,17 @@ fn count_entities(parts: &[Placed]) -> u32
     ensures { (given : List Part) → parts.now ≡ placed_of given → result ≡ entities_in given }
 {
     match parts.last() {
-        Some(part) => part.start.entity + part.schema.entities.len() as u32,
+        Some(part) => entities_through(part),
         None => 0,
     }
+}
+
+/// How many entities the parts have up to the last of this part.
+fn entities_through(part: &Placed) -> u32
+    requires { part.now.start.entity + length part.now.schema.entities ≤ 1000000 }
+    ensures { result ≡ part.now.start.entity + length part.now.schema.entities }
+{
+    part.start.entity + part.schema.entities.len() as u32
 }
 
 /// The colimit of parts in their places, which have different names.
@@ -107,8 +117,8 @@ fn join_placed(
         Err(refusal) => return Err(of_colimit(refusal)),
     };
     let classes = Classes::new(alloc, entities, links.as_slice())?;
-    let first = first + joins.pairs.len() as u32;
-    match join(alloc, typeside, parts, classes, first, joins) {
+    let next = first + joins.pairs.len() as u32;
+    match join(alloc, typeside, parts, classes, next, joins) {
         Ok(colimit) => Ok(colimit),
         Err(refusal) => Err(refusal),
     }

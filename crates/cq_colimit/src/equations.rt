@@ -9,7 +9,11 @@ use std::alloc::{AllocError, Global};
 use std::mem::replace;
 
 /// The path equations, and then those of the schema.
-fn path_eqs_of(alloc: Global, first: Vec<PathEq>, rest: Seq<PathEq>) -> Result<Seq<PathEq>, AllocError>
+fn path_eqs_of(
+    alloc: Global,
+    first: Vec<PathEq>,
+    rest: Seq<PathEq>,
+) -> Result<Seq<PathEq>, AllocError>
     ensures { IfOk result (λ made. made ≡ first.items ++ rest) }
 {
     let mut made = first;

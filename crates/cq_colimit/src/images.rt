@@ -55,11 +55,7 @@ fn image_obs_eq(mapping: &Mapping, alloc: Global, equation: &ObsEq) -> Result<Ob
 }
 
 /// Appends the images of the path equations of a mapping's source.
-fn add_path_eqs(
-    mapping: &Mapping,
-    alloc: Global,
-    made: &mut Vec<PathEq>,
-) -> Result<(), AllocError>
+fn add_path_eqs(mapping: &Mapping, alloc: Global, made: &mut Vec<PathEq>) -> Result<(), AllocError>
     ensures { OnOk result (made.new.items ≡ made.old.items ++ path_eq_images mapping.now) }
 {
     for equation in mapping.source.path_eqs.as_slice() {
@@ -69,11 +65,7 @@ fn add_path_eqs(
 }
 
 /// Appends the images of the observation equations of a mapping's source.
-fn add_obs_eqs(
-    mapping: &Mapping,
-    alloc: Global,
-    made: &mut Vec<ObsEq>,
-) -> Result<(), AllocError>
+fn add_obs_eqs(mapping: &Mapping, alloc: Global, made: &mut Vec<ObsEq>) -> Result<(), AllocError>
     ensures { OnOk result (made.new.items ≡ made.old.items ++ obs_eq_images mapping.now) }
 {
     for equation in mapping.source.obs_eqs.as_slice() {

@@ -20,8 +20,16 @@ new-made-requires c =
     let given = c.requires.symbols in
     let few = symbols_few given.0 c.args.typeside.value given.1 c.args.symbols.now.parts.items c.args.symbols.now.numbers.items c.args.symbols.now.entities.items given.2 in
     let by = values_by_length (class_of given.0) (entities_in given.1) c.args.symbols.now.numbers.items given.2.classes in
-    omega (arith, few, c.requires.few, ap length c.in_ok-written.ensures.entities, ap length (c.in_ok-written.ensures.keys given.0 by), ap length (c.in_ok-written.ensures.attributes given.0 by),
-    ap length c.in_ok-written.ensures.path_eqs, ap length c.in_ok-written.ensures.obs_eqs)
+    omega (
+      arith,
+      few,
+      c.requires.few,
+      ap length c.in_ok-written.ensures.entities,
+      ap length (c.in_ok-written.ensures.keys given.0 by),
+      ap length (c.in_ok-written.ensures.attributes given.0 by),
+      ap length c.in_ok-written.ensures.path_eqs,
+      ap length c.in_ok-written.ensures.obs_eqs,
+    )
 
 pub returns-in-Ok-clause-accepted : goal.returns-in-Ok-clause-accepted
 returns-in-Ok-clause-accepted c = λ links given are.
@@ -53,5 +61,5 @@ returns-in-Err-clause-refused c = λ links given are has.
     (elim c.in-Err.ensures.refused [
       | inl e ↦ inl e
       | inr e ↦ inr (sym (written_fault links c.args.typeside.value c.args.symbols.now.parts.items c.in_ok-written.written c.args.symbols.now.entities.items c.args.joins.path_eqs c.args.joins.obs_eqs are.names_are
-      c.in_ok-written.ensures.entities (c.in_ok-written.ensures.keys links by) c.in_ok-written.ensures.path_eqs (c.in_ok-written.ensures.attributes links by) c.in_ok-written.ensures.obs_eqs) ∙ e)
+          c.in_ok-written.ensures.entities (c.in_ok-written.ensures.keys links by) c.in_ok-written.ensures.path_eqs (c.in_ok-written.ensures.attributes links by) c.in_ok-written.ensures.obs_eqs) ∙ e)
     ])

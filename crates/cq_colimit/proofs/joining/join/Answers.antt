@@ -33,10 +33,12 @@ images-requires-clause-mappings c =
     let symbols = symbols_are c.requires.classes.0 c.args.typeside.value c.requires.classes.1 c.args.parts.items c.args.classes.firsts.items c.args.classes.numbers.items c.requires.classes.2 c.as_slice.result.now c.as_slice.ensures.value c.in_ok-entities.entities.items
     (c.in_ok-entities.ensures.made c.requires.classes.0 (by_first c.requires.classes.0 c.args.typeside.value c.requires.classes.1 c.args.parts.items c.args.classes.firsts.items c.args.classes.numbers.items c.requires.classes.2 c.as_slice.result.now c.as_slice.ensures.value c.as_slice-2.result.now c.as_slice-2.ensures.value)) in
     let same : c.in_ok-clone.field-0.value ≡ c.args.typeside.value = search rules in
-    let copied = symbols_over c.requires.classes.0 c.args.typeside.value c.in_ok-clone.field-0.value c.requires.classes.1 c.args.parts.items c.args.classes.numbers.items c.in_ok-entities.entities.items same symbols in
-    (c.requires.classes.0, by_number c.requires.classes.0 c.args.typeside.value c.requires.classes.1 c.args.parts.items c.args.classes.firsts.items c.args.classes.numbers.items c.requires.classes.2 c.as_slice-3.result.now c.as_slice-3.ensures.value c.as_slice-4.result.now c.as_slice-4.ensures.value,
-    go_into c.requires.classes.0 c.args.typeside.value c.requires.classes.1 c.args.parts.items c.args.classes.firsts.items c.args.classes.numbers.items c.requires.classes.2 c.as_slice-3.result.now c.as_slice-3.ensures.value c.in_ok-clone.field-0.value c.in_ok-frame.frame.value same
-    (c.in_ok-frame.ensures.made c.requires.classes.0 c.requires.classes.1 copied) (c.in_ok-frame.ensures.frame c.requires.classes.0 c.requires.classes.1 copied))
+    let copied = symbols_over c.requires.classes.0 c.args.typeside.value c.in_ok-clone.field-0.value c.requires.classes.1 c.args.parts.items c.args.classes.numbers.items c.in_ok-entities.entities.items same symbols in (
+      c.requires.classes.0,
+      by_number c.requires.classes.0 c.args.typeside.value c.requires.classes.1 c.args.parts.items c.args.classes.firsts.items c.args.classes.numbers.items c.requires.classes.2 c.as_slice-3.result.now c.as_slice-3.ensures.value c.as_slice-4.result.now c.as_slice-4.ensures.value,
+      go_into c.requires.classes.0 c.args.typeside.value c.requires.classes.1 c.args.parts.items c.args.classes.firsts.items c.args.classes.numbers.items c.requires.classes.2 c.as_slice-3.result.now c.as_slice-3.ensures.value c.in_ok-clone.field-0.value c.in_ok-frame.frame.value same
+          (c.in_ok-frame.ensures.made c.requires.classes.0 c.requires.classes.1 copied) (c.in_ok-frame.ensures.frame c.requires.classes.0 c.requires.classes.1 copied),
+    )
 
 pub framed-requires-clause-symbols : goal.framed-requires-clause-symbols
 framed-requires-clause-symbols c =
@@ -75,11 +77,11 @@ finish-requires c =
       c.requires.classes.1,
       symbols_over c.requires.classes.0 c.args.typeside.value c.in_ok-schema.schema.typeside c.requires.classes.1 c.args.parts.items c.args.classes.numbers.items c.in_ok-entities.entities.items over symbols,
       schema_frame c.requires.classes.0 c.args.typeside.value c.in_ok-clone.field-0.value c.args.parts.items c.args.joins c.in_ok-frame.frame.value c.in_ok-base.base same (c.in_ok-frame.ensures.made c.requires.classes.0 c.requires.classes.1 copied) (c.in_ok-base.ensures.made c.requires.classes.0 c.requires.classes.1 symbols)
-    c.as_slice-3.result.now c.as_slice-3.ensures.value c.in_ok-equations.equations.path_eqs.items c.in_ok-equations.equations.obs_eqs.items
-    (c.in_ok-equations.ensures.path_eqs c.requires.classes.0 (by_number c.requires.classes.0 c.args.typeside.value c.requires.classes.1 c.args.parts.items c.args.classes.firsts.items c.args.classes.numbers.items c.requires.classes.2 c.as_slice-3.result.now c.as_slice-3.ensures.value c.as_slice-4.result.now c.as_slice-4.ensures.value)) (c.in_ok-equations.ensures.obs_eqs c.requires.classes.0 (by_number c.requires.classes.0 c.args.typeside.value c.requires.classes.1 c.args.parts.items c.args.classes.firsts.items c.args.classes.numbers.items c.requires.classes.2 c.as_slice-3.result.now c.as_slice-3.ensures.value c.as_slice-4.result.now c.as_slice-4.ensures.value)) c.in_ok-schema.schema c.in_ok-schema.ensures c.is_well_sorted.ensures,
+          c.as_slice-3.result.now c.as_slice-3.ensures.value c.in_ok-equations.equations.path_eqs.items c.in_ok-equations.equations.obs_eqs.items
+          (c.in_ok-equations.ensures.path_eqs c.requires.classes.0 (by_number c.requires.classes.0 c.args.typeside.value c.requires.classes.1 c.args.parts.items c.args.classes.firsts.items c.args.classes.numbers.items c.requires.classes.2 c.as_slice-3.result.now c.as_slice-3.ensures.value c.as_slice-4.result.now c.as_slice-4.ensures.value)) (c.in_ok-equations.ensures.obs_eqs c.requires.classes.0 (by_number c.requires.classes.0 c.args.typeside.value c.requires.classes.1 c.args.parts.items c.args.classes.firsts.items c.args.classes.numbers.items c.requires.classes.2 c.as_slice-3.result.now c.as_slice-3.ensures.value c.as_slice-4.result.now c.as_slice-4.ensures.value)) c.in_ok-schema.schema c.in_ok-schema.ensures c.is_well_sorted.ensures,
       schema_images c.requires.classes.0 c.args.typeside.value c.in_ok-clone.field-0.value c.args.parts.items c.args.joins c.in_ok-frame.frame.value c.in_ok-base.base same (c.in_ok-frame.ensures.made c.requires.classes.0 c.requires.classes.1 copied) (c.in_ok-base.ensures.made c.requires.classes.0 c.requires.classes.1 symbols)
-    c.as_slice-3.result.now c.as_slice-3.ensures.value c.in_ok-equations.equations.path_eqs.items c.in_ok-equations.equations.obs_eqs.items
-    (c.in_ok-equations.ensures.path_eqs c.requires.classes.0 (by_number c.requires.classes.0 c.args.typeside.value c.requires.classes.1 c.args.parts.items c.args.classes.firsts.items c.args.classes.numbers.items c.requires.classes.2 c.as_slice-3.result.now c.as_slice-3.ensures.value c.as_slice-4.result.now c.as_slice-4.ensures.value)) (c.in_ok-equations.ensures.obs_eqs c.requires.classes.0 (by_number c.requires.classes.0 c.args.typeside.value c.requires.classes.1 c.args.parts.items c.args.classes.firsts.items c.args.classes.numbers.items c.requires.classes.2 c.as_slice-3.result.now c.as_slice-3.ensures.value c.as_slice-4.result.now c.as_slice-4.ensures.value)) c.in_ok-schema.schema c.in_ok-schema.ensures,
+          c.as_slice-3.result.now c.as_slice-3.ensures.value c.in_ok-equations.equations.path_eqs.items c.in_ok-equations.equations.obs_eqs.items
+          (c.in_ok-equations.ensures.path_eqs c.requires.classes.0 (by_number c.requires.classes.0 c.args.typeside.value c.requires.classes.1 c.args.parts.items c.args.classes.firsts.items c.args.classes.numbers.items c.requires.classes.2 c.as_slice-3.result.now c.as_slice-3.ensures.value c.as_slice-4.result.now c.as_slice-4.ensures.value)) (c.in_ok-equations.ensures.obs_eqs c.requires.classes.0 (by_number c.requires.classes.0 c.args.typeside.value c.requires.classes.1 c.args.parts.items c.args.classes.firsts.items c.args.classes.numbers.items c.requires.classes.2 c.as_slice-3.result.now c.as_slice-3.ensures.value c.as_slice-4.result.now c.as_slice-4.ensures.value)) c.in_ok-schema.schema c.in_ok-schema.ensures,
     )
 
 pub returns-in_err-entities-clause-refused : goal.returns-in_err-entities-clause-refused
