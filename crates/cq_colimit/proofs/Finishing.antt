@@ -86,7 +86,7 @@ module _ (links : List (ℕ × ℕ)) (T Tc : Typeside) (P : List Placed) (joins 
     schema_frame = joined_is links T P joins schema schema_made
 
     pub schema_images : HasImages links P schema
-    schema_images = has_images links P (framed links T P joins) schema schema_made
+    schema_images = has_images links P (framed links T P joins) frame schema schema_made
 
 -- the faults in their order
 module _ (links : List (ℕ × ℕ)) (T Td : Typeside) (P slice : List Placed) (first : ℕ) (joins : ColimitParts) (same : slice ≡ P) (over : Td ≡ T) where

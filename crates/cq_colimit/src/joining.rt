@@ -114,9 +114,17 @@ pub(crate) fn join(
         symbols.numbers.as_slice(),
         &frame,
     )?;
-    let base = framed(alloc, typeside, &symbols, first, joins)?;
-    let schema = put_first(alloc, base, equations)?;
+    let base = match framed(alloc, typeside, &symbols, first, joins) {
+        Ok(base) => base,
+        Err(refusal) => return Err(refusal),
+    };
+    let schema = match put_first(alloc, base, equations) {
+        Ok(schema) => schema,
+        Err(_) => return Err(ColimitRefusal::Memory),
+    };
     schema.is_well_sorted();
-    let colimit = finish(alloc, &symbols, schema)?;
-    Ok(colimit)
+    match finish(alloc, &symbols, schema) {
+        Ok(colimit) => Ok(colimit),
+        Err(_) => Err(ColimitRefusal::Memory),
+    }
 }

@@ -18,7 +18,6 @@ pub mod laws;
 pub mod parts;
 pub(crate) mod placed;
 pub mod refusal;
-pub mod scratch;
 pub(crate) mod text;
 pub(crate) mod texts;
 pub(crate) mod written;

@@ -44,7 +44,7 @@ returns-in-Ok-join_placed-clause-inclusions c =
     c.in-Ok-join_placed.ensures.inclusions
     ∙ are_inclusions c.args.typeside.value (map (λ part. (part.0, part.1.value)) c.args.parts.now) c.args.joins c.in_ok-placed.placed.items c.in_ok-placed.ensures c.in-Ok-join_placed.colimit.schema.value c.in-Ok-join_placed.ensures.schema
 
-pub returns-in-Err-join_placed-clause-refused : goal.returns-in-Err-join_placed-clause-refused
-returns-in-Err-join_placed-clause-refused c =
+pub returns-clause-refused : goal.returns-clause-refused
+returns-clause-refused c =
     join_refused c.args.typeside.value (map (λ part. (part.0, part.1.value)) c.args.parts.now) c.args.joins c.in-Ok.ensures.accepted (many_is (λ part. part.0) (λ part. part.1.value) c.args.parts.now c.args.joins c.is_too_many-many.result c.len.result c.len-2.result c.len.ensures c.len-2.ensures c.is_too_many-many.ensures ∙ c.if-many.false) c.in_ok-placed.placed.items c.in_ok-placed.ensures
     c.in-Err-join_placed.refusal c.in-Err-join_placed.ensures.refused

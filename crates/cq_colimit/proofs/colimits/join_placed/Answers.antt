@@ -59,8 +59,8 @@ returns-in-Ok-join-clause-inclusions c =
     given.1 count c.as_slice-4.ensures.value (c.in-Ok.ensures.made ∙ links_same c.args.typeside.value c.args.parts.items c.as_slice-2.result.now c.args.joins c.len-first.result 0 c.as_slice-3.result.now c.as_slice-2.ensures.value here c.as_slice-3.ensures) c.in_ok-classes.ensures.firsts c.in_ok-classes.ensures.numbers in
     c.in-Ok-join.ensures.inclusions (links_of c.args.parts.items c.args.joins.pairs) given.0 are
 
-pub returns-in-Err-join-clause-refused : goal.returns-in-Err-join-clause-refused
-returns-in-Err-join-clause-refused c =
+pub returns-clause-refused : goal.returns-clause-refused
+returns-clause-refused c =
     let given = c.requires.placed in
     let here : c.len-first.result ≡ length c.args.parts.items = search rules in
     let count : c.count_entities-entities.result ≡ entities_in given.0 = c.count_entities-entities.ensures given.0 (c.as_slice.ensures.value ∙ given.1.places) in

@@ -47,8 +47,8 @@ returns-in-Ok-clause-made c = λ links given are.
     c.in_ok-written.ensures.entities (c.in_ok-written.ensures.keys links by) c.in_ok-written.ensures.path_eqs (c.in_ok-written.ensures.attributes links by) c.in_ok-written.ensures.obs_eqs
     ∙ framed_made links c.args.typeside.value c.args.symbols.now.parts.items c.args.joins
 
-pub returns-in-Err-clause-refused : goal.returns-in-Err-clause-refused
-returns-in-Err-clause-refused c = λ links given are has.
+pub returns-clause-refused : goal.returns-clause-refused
+returns-clause-refused c = λ links given are has.
     let by = values_by_length (class_of links) (entities_in given) c.args.symbols.now.numbers.items are.classes in
     let keys : length c.in_ok-written.written.keys ≡ length (keys_of links c.args.symbols.now.entities.items c.args.symbols.now.parts.items) = ap length (c.in_ok-written.ensures.keys links by) in
     let keys_are = ap (λ (l : List Name). length (keys_of links l c.args.symbols.now.parts.items)) are.names_are in
@@ -63,3 +63,44 @@ returns-in-Err-clause-refused c = λ links given are has.
       | inr e ↦ inr (sym (written_fault links c.args.typeside.value c.args.symbols.now.parts.items c.in_ok-written.written c.args.symbols.now.entities.items c.args.joins.path_eqs c.args.joins.obs_eqs are.names_are
           c.in_ok-written.ensures.entities (c.in_ok-written.ensures.keys links by) c.in_ok-written.ensures.path_eqs (c.in_ok-written.ensures.attributes links by) c.in_ok-written.ensures.obs_eqs) ∙ e)
     ])
+
+pub overflow_add-before : goal.overflow_add-before
+overflow_add-before c =
+    let given = c.requires.symbols in
+    let few = symbols_few given.0 c.args.typeside.value given.1 c.args.symbols.now.parts.items c.args.symbols.now.numbers.items c.args.symbols.now.entities.items given.2 in
+    let by = values_by_length (class_of given.0) (entities_in given.1) c.args.symbols.now.numbers.items given.2.classes in
+    let names = ap (λ (l : List Name). length l) c.in_ok-written.ensures.entities in
+    let keys : length c.in_ok-written.written.keys ≡ length (keys_of given.0 c.args.symbols.now.entities.items c.args.symbols.now.parts.items) = ap length (c.in_ok-written.ensures.keys given.0 by) in
+    let attributes : length c.in_ok-written.written.attributes ≡ length (attributes_of given.0 c.args.symbols.now.entities.items c.args.symbols.now.parts.items) = ap length (c.in_ok-written.ensures.attributes given.0 by) in
+    omega (arith, few, names, keys, attributes)
+
+pub overflow_cast-before : goal.overflow_cast-before
+overflow_cast-before c =
+    let given = c.requires.symbols in
+    let few = symbols_few given.0 c.args.typeside.value given.1 c.args.symbols.now.parts.items c.args.symbols.now.numbers.items c.args.symbols.now.entities.items given.2 in
+    let by = values_by_length (class_of given.0) (entities_in given.1) c.args.symbols.now.numbers.items given.2.classes in
+    let names = ap (λ (l : List Name). length l) c.in_ok-written.ensures.entities in
+    let keys : length c.in_ok-written.written.keys ≡ length (keys_of given.0 c.args.symbols.now.entities.items c.args.symbols.now.parts.items) = ap length (c.in_ok-written.ensures.keys given.0 by) in
+    let attributes : length c.in_ok-written.written.attributes ≡ length (attributes_of given.0 c.args.symbols.now.entities.items c.args.symbols.now.parts.items) = ap length (c.in_ok-written.ensures.attributes given.0 by) in
+    omega (arith, few, names, keys, attributes)
+
+pub overflow_cast-attributes : goal.overflow_cast-attributes
+overflow_cast-attributes c =
+    let given = c.requires.symbols in
+    let few = symbols_few given.0 c.args.typeside.value given.1 c.args.symbols.now.parts.items c.args.symbols.now.numbers.items c.args.symbols.now.entities.items given.2 in
+    let by = values_by_length (class_of given.0) (entities_in given.1) c.args.symbols.now.numbers.items given.2.classes in
+    let names = ap (λ (l : List Name). length l) c.in_ok-written.ensures.entities in
+    let keys : length c.in_ok-written.written.keys ≡ length (keys_of given.0 c.args.symbols.now.entities.items c.args.symbols.now.parts.items) = ap length (c.in_ok-written.ensures.keys given.0 by) in
+    let attributes : length c.in_ok-written.written.attributes ≡ length (attributes_of given.0 c.args.symbols.now.entities.items c.args.symbols.now.parts.items) = ap length (c.in_ok-written.ensures.attributes given.0 by) in
+    omega (arith, few, names, keys, attributes)
+
+pub of_added-requires : goal.of_added-requires
+of_added-requires c =
+    let given = c.requires.symbols in
+    let few = symbols_few given.0 c.args.typeside.value given.1 c.args.symbols.now.parts.items c.args.symbols.now.numbers.items c.args.symbols.now.entities.items given.2 in
+    let by = values_by_length (class_of given.0) (entities_in given.1) c.args.symbols.now.numbers.items given.2.classes in
+    let names = ap (λ (l : List Name). length l) c.in_ok-written.ensures.entities in
+    let keys : length c.in_ok-written.written.keys ≡ length (keys_of given.0 c.args.symbols.now.entities.items c.args.symbols.now.parts.items) = ap length (c.in_ok-written.ensures.keys given.0 by) in
+    let attributes : length c.in_ok-written.written.attributes ≡ length (attributes_of given.0 c.args.symbols.now.entities.items c.args.symbols.now.parts.items) = ap length (c.in_ok-written.ensures.attributes given.0 by) in
+    let paths = ap (λ (l : List (List Name × List Name)). length l) c.in_ok-written.ensures.path_eqs in
+    omega (arith, few, names, keys, attributes, paths, c.requires.few)

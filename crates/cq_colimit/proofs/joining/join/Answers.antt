@@ -54,7 +54,7 @@ put_first-requires-clause-path_eqs c =
     (c.in_ok-entities.ensures.made c.requires.classes.0 (by_first c.requires.classes.0 c.args.typeside.value c.requires.classes.1 c.args.parts.items c.args.classes.firsts.items c.args.classes.numbers.items c.requires.classes.2 c.as_slice.result.now c.as_slice.ensures.value c.as_slice-2.result.now c.as_slice-2.ensures.value)) in
     let same : c.in_ok-clone.field-0.value ≡ c.args.typeside.value = search rules in
     let copied = symbols_over c.requires.classes.0 c.args.typeside.value c.in_ok-clone.field-0.value c.requires.classes.1 c.args.parts.items c.args.classes.numbers.items c.in_ok-entities.entities.items same symbols in
-    base_path_eqs c.requires.classes.0 c.args.typeside.value c.in_ok-clone.field-0.value c.args.parts.items c.args.joins c.in_ok-frame.frame.value c.in_ok-base.base same (c.in_ok-frame.ensures.made c.requires.classes.0 c.requires.classes.1 copied) (c.in_ok-base.ensures.made c.requires.classes.0 c.requires.classes.1 symbols) c.in_ok-equations.equations.path_eqs.items c.in_ok-equations.ensures.are_path_eqs
+    base_path_eqs c.requires.classes.0 c.args.typeside.value c.in_ok-clone.field-0.value c.args.parts.items c.args.joins c.in_ok-frame.frame.value c.in-Ok.base same (c.in_ok-frame.ensures.made c.requires.classes.0 c.requires.classes.1 copied) (c.in-Ok.ensures.made c.requires.classes.0 c.requires.classes.1 symbols) c.in_ok-equations.equations.path_eqs.items c.in_ok-equations.ensures.are_path_eqs
 
 pub put_first-requires-clause-obs_eqs : goal.put_first-requires-clause-obs_eqs
 put_first-requires-clause-obs_eqs c =
@@ -62,7 +62,7 @@ put_first-requires-clause-obs_eqs c =
     (c.in_ok-entities.ensures.made c.requires.classes.0 (by_first c.requires.classes.0 c.args.typeside.value c.requires.classes.1 c.args.parts.items c.args.classes.firsts.items c.args.classes.numbers.items c.requires.classes.2 c.as_slice.result.now c.as_slice.ensures.value c.as_slice-2.result.now c.as_slice-2.ensures.value)) in
     let same : c.in_ok-clone.field-0.value ≡ c.args.typeside.value = search rules in
     let copied = symbols_over c.requires.classes.0 c.args.typeside.value c.in_ok-clone.field-0.value c.requires.classes.1 c.args.parts.items c.args.classes.numbers.items c.in_ok-entities.entities.items same symbols in
-    base_obs_eqs c.requires.classes.0 c.args.typeside.value c.in_ok-clone.field-0.value c.args.parts.items c.args.joins c.in_ok-frame.frame.value c.in_ok-base.base same (c.in_ok-frame.ensures.made c.requires.classes.0 c.requires.classes.1 copied) (c.in_ok-base.ensures.made c.requires.classes.0 c.requires.classes.1 symbols) c.in_ok-equations.equations.obs_eqs.items c.in_ok-equations.ensures.are_obs_eqs
+    base_obs_eqs c.requires.classes.0 c.args.typeside.value c.in_ok-clone.field-0.value c.args.parts.items c.args.joins c.in_ok-frame.frame.value c.in-Ok.base same (c.in_ok-frame.ensures.made c.requires.classes.0 c.requires.classes.1 copied) (c.in-Ok.ensures.made c.requires.classes.0 c.requires.classes.1 symbols) c.in_ok-equations.equations.obs_eqs.items c.in_ok-equations.ensures.are_obs_eqs
 
 pub finish-requires : goal.finish-requires
 finish-requires c =
@@ -70,60 +70,60 @@ finish-requires c =
     (c.in_ok-entities.ensures.made c.requires.classes.0 (by_first c.requires.classes.0 c.args.typeside.value c.requires.classes.1 c.args.parts.items c.args.classes.firsts.items c.args.classes.numbers.items c.requires.classes.2 c.as_slice.result.now c.as_slice.ensures.value c.as_slice-2.result.now c.as_slice-2.ensures.value)) in
     let same : c.in_ok-clone.field-0.value ≡ c.args.typeside.value = search rules in
     let copied = symbols_over c.requires.classes.0 c.args.typeside.value c.in_ok-clone.field-0.value c.requires.classes.1 c.args.parts.items c.args.classes.numbers.items c.in_ok-entities.entities.items same symbols in
-    let over : c.in_ok-schema.schema.typeside ≡ c.args.typeside.value = schema_over c.requires.classes.0 c.args.typeside.value c.in_ok-clone.field-0.value c.args.parts.items c.args.joins c.in_ok-frame.frame.value c.in_ok-base.base same (c.in_ok-frame.ensures.made c.requires.classes.0 c.requires.classes.1 copied) (c.in_ok-base.ensures.made c.requires.classes.0 c.requires.classes.1 symbols)
+    let over : c.in-Ok-put_first.schema.typeside ≡ c.args.typeside.value = schema_over c.requires.classes.0 c.args.typeside.value c.in_ok-clone.field-0.value c.args.parts.items c.args.joins c.in_ok-frame.frame.value c.in-Ok.base same (c.in_ok-frame.ensures.made c.requires.classes.0 c.requires.classes.1 copied) (c.in-Ok.ensures.made c.requires.classes.0 c.requires.classes.1 symbols)
     c.as_slice-3.result.now c.as_slice-3.ensures.value c.in_ok-equations.equations.path_eqs.items c.in_ok-equations.equations.obs_eqs.items
-    (c.in_ok-equations.ensures.path_eqs c.requires.classes.0 (by_number c.requires.classes.0 c.args.typeside.value c.requires.classes.1 c.args.parts.items c.args.classes.firsts.items c.args.classes.numbers.items c.requires.classes.2 c.as_slice-3.result.now c.as_slice-3.ensures.value c.as_slice-4.result.now c.as_slice-4.ensures.value)) (c.in_ok-equations.ensures.obs_eqs c.requires.classes.0 (by_number c.requires.classes.0 c.args.typeside.value c.requires.classes.1 c.args.parts.items c.args.classes.firsts.items c.args.classes.numbers.items c.requires.classes.2 c.as_slice-3.result.now c.as_slice-3.ensures.value c.as_slice-4.result.now c.as_slice-4.ensures.value)) c.in_ok-schema.schema c.in_ok-schema.ensures in (
+    (c.in_ok-equations.ensures.path_eqs c.requires.classes.0 (by_number c.requires.classes.0 c.args.typeside.value c.requires.classes.1 c.args.parts.items c.args.classes.firsts.items c.args.classes.numbers.items c.requires.classes.2 c.as_slice-3.result.now c.as_slice-3.ensures.value c.as_slice-4.result.now c.as_slice-4.ensures.value)) (c.in_ok-equations.ensures.obs_eqs c.requires.classes.0 (by_number c.requires.classes.0 c.args.typeside.value c.requires.classes.1 c.args.parts.items c.args.classes.firsts.items c.args.classes.numbers.items c.requires.classes.2 c.as_slice-3.result.now c.as_slice-3.ensures.value c.as_slice-4.result.now c.as_slice-4.ensures.value)) c.in-Ok-put_first.schema c.in-Ok-put_first.ensures in (
       c.requires.classes.0,
       c.requires.classes.1,
-      symbols_over c.requires.classes.0 c.args.typeside.value c.in_ok-schema.schema.typeside c.requires.classes.1 c.args.parts.items c.args.classes.numbers.items c.in_ok-entities.entities.items over symbols,
-      schema_frame c.requires.classes.0 c.args.typeside.value c.in_ok-clone.field-0.value c.args.parts.items c.args.joins c.in_ok-frame.frame.value c.in_ok-base.base same (c.in_ok-frame.ensures.made c.requires.classes.0 c.requires.classes.1 copied) (c.in_ok-base.ensures.made c.requires.classes.0 c.requires.classes.1 symbols)
+      symbols_over c.requires.classes.0 c.args.typeside.value c.in-Ok-put_first.schema.typeside c.requires.classes.1 c.args.parts.items c.args.classes.numbers.items c.in_ok-entities.entities.items over symbols,
+      schema_frame c.requires.classes.0 c.args.typeside.value c.in_ok-clone.field-0.value c.args.parts.items c.args.joins c.in_ok-frame.frame.value c.in-Ok.base same (c.in_ok-frame.ensures.made c.requires.classes.0 c.requires.classes.1 copied) (c.in-Ok.ensures.made c.requires.classes.0 c.requires.classes.1 symbols)
           c.as_slice-3.result.now c.as_slice-3.ensures.value c.in_ok-equations.equations.path_eqs.items c.in_ok-equations.equations.obs_eqs.items
-          (c.in_ok-equations.ensures.path_eqs c.requires.classes.0 (by_number c.requires.classes.0 c.args.typeside.value c.requires.classes.1 c.args.parts.items c.args.classes.firsts.items c.args.classes.numbers.items c.requires.classes.2 c.as_slice-3.result.now c.as_slice-3.ensures.value c.as_slice-4.result.now c.as_slice-4.ensures.value)) (c.in_ok-equations.ensures.obs_eqs c.requires.classes.0 (by_number c.requires.classes.0 c.args.typeside.value c.requires.classes.1 c.args.parts.items c.args.classes.firsts.items c.args.classes.numbers.items c.requires.classes.2 c.as_slice-3.result.now c.as_slice-3.ensures.value c.as_slice-4.result.now c.as_slice-4.ensures.value)) c.in_ok-schema.schema c.in_ok-schema.ensures c.is_well_sorted.ensures,
-      schema_images c.requires.classes.0 c.args.typeside.value c.in_ok-clone.field-0.value c.args.parts.items c.args.joins c.in_ok-frame.frame.value c.in_ok-base.base same (c.in_ok-frame.ensures.made c.requires.classes.0 c.requires.classes.1 copied) (c.in_ok-base.ensures.made c.requires.classes.0 c.requires.classes.1 symbols)
+          (c.in_ok-equations.ensures.path_eqs c.requires.classes.0 (by_number c.requires.classes.0 c.args.typeside.value c.requires.classes.1 c.args.parts.items c.args.classes.firsts.items c.args.classes.numbers.items c.requires.classes.2 c.as_slice-3.result.now c.as_slice-3.ensures.value c.as_slice-4.result.now c.as_slice-4.ensures.value)) (c.in_ok-equations.ensures.obs_eqs c.requires.classes.0 (by_number c.requires.classes.0 c.args.typeside.value c.requires.classes.1 c.args.parts.items c.args.classes.firsts.items c.args.classes.numbers.items c.requires.classes.2 c.as_slice-3.result.now c.as_slice-3.ensures.value c.as_slice-4.result.now c.as_slice-4.ensures.value)) c.in-Ok-put_first.schema c.in-Ok-put_first.ensures c.is_well_sorted.ensures,
+      schema_images c.requires.classes.0 c.args.typeside.value c.in_ok-clone.field-0.value c.args.parts.items c.args.joins c.in_ok-frame.frame.value c.in-Ok.base same (c.in_ok-frame.ensures.made c.requires.classes.0 c.requires.classes.1 copied) (c.in-Ok.ensures.made c.requires.classes.0 c.requires.classes.1 symbols)
           c.as_slice-3.result.now c.as_slice-3.ensures.value c.in_ok-equations.equations.path_eqs.items c.in_ok-equations.equations.obs_eqs.items
-          (c.in_ok-equations.ensures.path_eqs c.requires.classes.0 (by_number c.requires.classes.0 c.args.typeside.value c.requires.classes.1 c.args.parts.items c.args.classes.firsts.items c.args.classes.numbers.items c.requires.classes.2 c.as_slice-3.result.now c.as_slice-3.ensures.value c.as_slice-4.result.now c.as_slice-4.ensures.value)) (c.in_ok-equations.ensures.obs_eqs c.requires.classes.0 (by_number c.requires.classes.0 c.args.typeside.value c.requires.classes.1 c.args.parts.items c.args.classes.firsts.items c.args.classes.numbers.items c.requires.classes.2 c.as_slice-3.result.now c.as_slice-3.ensures.value c.as_slice-4.result.now c.as_slice-4.ensures.value)) c.in_ok-schema.schema c.in_ok-schema.ensures,
+          (c.in_ok-equations.ensures.path_eqs c.requires.classes.0 (by_number c.requires.classes.0 c.args.typeside.value c.requires.classes.1 c.args.parts.items c.args.classes.firsts.items c.args.classes.numbers.items c.requires.classes.2 c.as_slice-3.result.now c.as_slice-3.ensures.value c.as_slice-4.result.now c.as_slice-4.ensures.value)) (c.in_ok-equations.ensures.obs_eqs c.requires.classes.0 (by_number c.requires.classes.0 c.args.typeside.value c.requires.classes.1 c.args.parts.items c.args.classes.firsts.items c.args.classes.numbers.items c.requires.classes.2 c.as_slice-3.result.now c.as_slice-3.ensures.value c.as_slice-4.result.now c.as_slice-4.ensures.value)) c.in-Ok-put_first.schema c.in-Ok-put_first.ensures,
     )
 
 pub returns-in_err-entities-clause-refused : goal.returns-in_err-entities-clause-refused
 returns-in_err-entities-clause-refused c = λ links given are.
     let refused = given_refused links c.args.typeside.value c.deref.result.now c.args.parts.items c.as_slice.result.now c.args.first c.args.joins c.as_slice.ensures.value c.deref.ensures c.in_err-entities.field-0.0 (c.in_err-entities.ensures.refused links (by_first links c.args.typeside.value given c.args.parts.items c.args.classes.firsts.items c.args.classes.numbers.items are c.as_slice.result.now c.as_slice.ensures.value c.as_slice-2.result.now c.as_slice-2.ensures.value)) in first_of (search rules, grind (arith, common_steps))
 
-pub returns-in_err-base-clause-refused : goal.returns-in_err-base-clause-refused
-returns-in_err-base-clause-refused c = λ links given are.
+pub returns-in-Err-clause-refused : goal.returns-in-Err-clause-refused
+returns-in-Err-clause-refused c = λ links given are.
     let symbols = symbols_are links c.args.typeside.value given c.args.parts.items c.args.classes.firsts.items c.args.classes.numbers.items are c.as_slice.result.now c.as_slice.ensures.value c.in_ok-entities.entities.items
     (c.in_ok-entities.ensures.made links (by_first links c.args.typeside.value given c.args.parts.items c.args.classes.firsts.items c.args.classes.numbers.items are c.as_slice.result.now c.as_slice.ensures.value c.as_slice-2.result.now c.as_slice-2.ensures.value)) in
     let same : c.in_ok-clone.field-0.value ≡ c.args.typeside.value = search rules in
     let copied = symbols_over links c.args.typeside.value c.in_ok-clone.field-0.value given c.args.parts.items c.args.classes.numbers.items c.in_ok-entities.entities.items same symbols in
-    let refused = added_refused links c.args.typeside.value c.deref.result.now c.args.parts.items c.as_slice.result.now c.args.first c.args.joins c.as_slice.ensures.value c.deref.ensures c.in_err-base.field-0.0 (c.in_ok-entities.ensures.accepted links (by_first links c.args.typeside.value given c.args.parts.items c.args.classes.firsts.items c.args.classes.numbers.items are c.as_slice.result.now c.as_slice.ensures.value c.as_slice-2.result.now c.as_slice-2.ensures.value))
-    (c.in_err-base.ensures.refused links given symbols (subst (λ (X : Typeside). HasSymbols links X c.args.parts.items) same (c.in_ok-frame.ensures.right links given copied))) in first_of (search rules, grind (arith, common_steps))
+    added_refused links c.args.typeside.value c.deref.result.now c.args.parts.items c.as_slice.result.now c.args.first c.args.joins c.as_slice.ensures.value c.deref.ensures c.in-Err.refusal (c.in_ok-entities.ensures.accepted links (by_first links c.args.typeside.value given c.args.parts.items c.args.classes.firsts.items c.args.classes.numbers.items are c.as_slice.result.now c.as_slice.ensures.value c.as_slice-2.result.now c.as_slice-2.ensures.value))
+    (c.in-Err.ensures.refused links given symbols (subst (λ (X : Typeside). HasSymbols links X c.args.parts.items) same (c.in_ok-frame.ensures.right links given copied)))
 
-pub returns-clause-accepted : goal.returns-clause-accepted
-returns-clause-accepted c = λ links given are.
+pub returns-in-Ok-finish-clause-accepted : goal.returns-in-Ok-finish-clause-accepted
+returns-in-Ok-finish-clause-accepted c = λ links given are.
     let symbols = symbols_are links c.args.typeside.value given c.args.parts.items c.args.classes.firsts.items c.args.classes.numbers.items are c.as_slice.result.now c.as_slice.ensures.value c.in_ok-entities.entities.items
     (c.in_ok-entities.ensures.made links (by_first links c.args.typeside.value given c.args.parts.items c.args.classes.firsts.items c.args.classes.numbers.items are c.as_slice.result.now c.as_slice.ensures.value c.as_slice-2.result.now c.as_slice-2.ensures.value)) in
     let same : c.in_ok-clone.field-0.value ≡ c.args.typeside.value = search rules in
     let copied = symbols_over links c.args.typeside.value c.in_ok-clone.field-0.value given c.args.parts.items c.args.classes.numbers.items c.in_ok-entities.entities.items same symbols in
-    none_added links c.args.typeside.value c.deref.result.now c.args.parts.items c.as_slice.result.now c.args.first c.args.joins c.as_slice.ensures.value c.deref.ensures (c.in_ok-entities.ensures.accepted links (by_first links c.args.typeside.value given c.args.parts.items c.args.classes.firsts.items c.args.classes.numbers.items are c.as_slice.result.now c.as_slice.ensures.value c.as_slice-2.result.now c.as_slice-2.ensures.value)) (c.in_ok-base.ensures.accepted links given symbols)
+    none_added links c.args.typeside.value c.deref.result.now c.args.parts.items c.as_slice.result.now c.args.first c.args.joins c.as_slice.ensures.value c.deref.ensures (c.in_ok-entities.ensures.accepted links (by_first links c.args.typeside.value given c.args.parts.items c.args.classes.firsts.items c.args.classes.numbers.items are c.as_slice.result.now c.as_slice.ensures.value c.as_slice-2.result.now c.as_slice-2.ensures.value)) (c.in-Ok.ensures.accepted links given symbols)
 
-pub returns-clause-schema : goal.returns-clause-schema
-returns-clause-schema c = λ links given are.
+pub returns-in-Ok-finish-clause-schema : goal.returns-in-Ok-finish-clause-schema
+returns-in-Ok-finish-clause-schema c = λ links given are.
     let symbols = symbols_are links c.args.typeside.value given c.args.parts.items c.args.classes.firsts.items c.args.classes.numbers.items are c.as_slice.result.now c.as_slice.ensures.value c.in_ok-entities.entities.items
     (c.in_ok-entities.ensures.made links (by_first links c.args.typeside.value given c.args.parts.items c.args.classes.firsts.items c.args.classes.numbers.items are c.as_slice.result.now c.as_slice.ensures.value c.as_slice-2.result.now c.as_slice-2.ensures.value)) in
     let same : c.in_ok-clone.field-0.value ≡ c.args.typeside.value = search rules in
     let copied = symbols_over links c.args.typeside.value c.in_ok-clone.field-0.value given c.args.parts.items c.args.classes.numbers.items c.in_ok-entities.entities.items same symbols in
-    c.in_ok-colimit.ensures.schema ∙ schema_made links c.args.typeside.value c.in_ok-clone.field-0.value c.args.parts.items c.args.joins c.in_ok-frame.frame.value c.in_ok-base.base same (c.in_ok-frame.ensures.made links given copied) (c.in_ok-base.ensures.made links given symbols)
+    c.in-Ok-finish.ensures.schema ∙ schema_made links c.args.typeside.value c.in_ok-clone.field-0.value c.args.parts.items c.args.joins c.in_ok-frame.frame.value c.in-Ok.base same (c.in_ok-frame.ensures.made links given copied) (c.in-Ok.ensures.made links given symbols)
     c.as_slice-3.result.now c.as_slice-3.ensures.value c.in_ok-equations.equations.path_eqs.items c.in_ok-equations.equations.obs_eqs.items
-    (c.in_ok-equations.ensures.path_eqs links (by_number links c.args.typeside.value given c.args.parts.items c.args.classes.firsts.items c.args.classes.numbers.items are c.as_slice-3.result.now c.as_slice-3.ensures.value c.as_slice-4.result.now c.as_slice-4.ensures.value)) (c.in_ok-equations.ensures.obs_eqs links (by_number links c.args.typeside.value given c.args.parts.items c.args.classes.firsts.items c.args.classes.numbers.items are c.as_slice-3.result.now c.as_slice-3.ensures.value c.as_slice-4.result.now c.as_slice-4.ensures.value)) c.in_ok-schema.schema c.in_ok-schema.ensures
+    (c.in_ok-equations.ensures.path_eqs links (by_number links c.args.typeside.value given c.args.parts.items c.args.classes.firsts.items c.args.classes.numbers.items are c.as_slice-3.result.now c.as_slice-3.ensures.value c.as_slice-4.result.now c.as_slice-4.ensures.value)) (c.in_ok-equations.ensures.obs_eqs links (by_number links c.args.typeside.value given c.args.parts.items c.args.classes.firsts.items c.args.classes.numbers.items are c.as_slice-3.result.now c.as_slice-3.ensures.value c.as_slice-4.result.now c.as_slice-4.ensures.value)) c.in-Ok-put_first.schema c.in-Ok-put_first.ensures
 
-pub returns-clause-inclusions : goal.returns-clause-inclusions
-returns-clause-inclusions c = λ links given are.
+pub returns-in-Ok-finish-clause-inclusions : goal.returns-in-Ok-finish-clause-inclusions
+returns-in-Ok-finish-clause-inclusions c = λ links given are.
     let symbols = symbols_are links c.args.typeside.value given c.args.parts.items c.args.classes.firsts.items c.args.classes.numbers.items are c.as_slice.result.now c.as_slice.ensures.value c.in_ok-entities.entities.items
     (c.in_ok-entities.ensures.made links (by_first links c.args.typeside.value given c.args.parts.items c.args.classes.firsts.items c.args.classes.numbers.items are c.as_slice.result.now c.as_slice.ensures.value c.as_slice-2.result.now c.as_slice-2.ensures.value)) in
     let same : c.in_ok-clone.field-0.value ≡ c.args.typeside.value = search rules in
     let copied = symbols_over links c.args.typeside.value c.in_ok-clone.field-0.value given c.args.parts.items c.args.classes.numbers.items c.in_ok-entities.entities.items same symbols in
-    let over : c.in_ok-schema.schema.typeside ≡ c.args.typeside.value = schema_over links c.args.typeside.value c.in_ok-clone.field-0.value c.args.parts.items c.args.joins c.in_ok-frame.frame.value c.in_ok-base.base same (c.in_ok-frame.ensures.made links given copied) (c.in_ok-base.ensures.made links given symbols)
+    let over : c.in-Ok-put_first.schema.typeside ≡ c.args.typeside.value = schema_over links c.args.typeside.value c.in_ok-clone.field-0.value c.args.parts.items c.args.joins c.in_ok-frame.frame.value c.in-Ok.base same (c.in_ok-frame.ensures.made links given copied) (c.in-Ok.ensures.made links given symbols)
     c.as_slice-3.result.now c.as_slice-3.ensures.value c.in_ok-equations.equations.path_eqs.items c.in_ok-equations.equations.obs_eqs.items
-    (c.in_ok-equations.ensures.path_eqs links (by_number links c.args.typeside.value given c.args.parts.items c.args.classes.firsts.items c.args.classes.numbers.items are c.as_slice-3.result.now c.as_slice-3.ensures.value c.as_slice-4.result.now c.as_slice-4.ensures.value)) (c.in_ok-equations.ensures.obs_eqs links (by_number links c.args.typeside.value given c.args.parts.items c.args.classes.firsts.items c.args.classes.numbers.items are c.as_slice-3.result.now c.as_slice-3.ensures.value c.as_slice-4.result.now c.as_slice-4.ensures.value)) c.in_ok-schema.schema c.in_ok-schema.ensures in
-    c.in_ok-colimit.ensures.inclusions links given
-    (symbols_over links c.args.typeside.value c.in_ok-schema.schema.typeside given c.args.parts.items c.args.classes.numbers.items c.in_ok-entities.entities.items over symbols)
-    ∙ ap (λ (J : Schema). map (inclusion links J) c.args.parts.items) (sym c.in_ok-colimit.ensures.schema)
+    (c.in_ok-equations.ensures.path_eqs links (by_number links c.args.typeside.value given c.args.parts.items c.args.classes.firsts.items c.args.classes.numbers.items are c.as_slice-3.result.now c.as_slice-3.ensures.value c.as_slice-4.result.now c.as_slice-4.ensures.value)) (c.in_ok-equations.ensures.obs_eqs links (by_number links c.args.typeside.value given c.args.parts.items c.args.classes.firsts.items c.args.classes.numbers.items are c.as_slice-3.result.now c.as_slice-3.ensures.value c.as_slice-4.result.now c.as_slice-4.ensures.value)) c.in-Ok-put_first.schema c.in-Ok-put_first.ensures in
+    c.in-Ok-finish.ensures.inclusions links given
+    (symbols_over links c.args.typeside.value c.in-Ok-put_first.schema.typeside given c.args.parts.items c.args.classes.numbers.items c.in_ok-entities.entities.items over symbols)
+    ∙ ap (λ (J : Schema). map (inclusion links J) c.args.parts.items) (sym c.in-Ok-finish.ensures.schema)
