@@ -1,12 +1,11 @@
 -- Texts that are put into a table.
 use Rattle.std.proofs.Common.{ℕ, Bool, true, false, List, [], ◌∷◌, ◌++◌, ◌≡◌, ◌||◌, ◌<◌, ◌+◌, map, take, length, get_or, refl, sym, ap, ◌∙◌, cond}
 use Rattle.std.proofs.lemmas.List.{take_more, map-append}
-use Rattle.std.specs.Prelude.{is_some}
 use Rattle.std.specs.List.{list_any}
 use Rattle.std.specs.Cmp.Lexicographic.{pointwise_decides}
 use Rattle.std.proofs.lemmas.Bool.Decides.{Decides-eqb}
 use Rattle.cq_base.specs.declared.name.Name.{Name}
-use Rattle.cq_base.specs.Names.{same_name, number_of}
+use Rattle.cq_base.specs.Names.{same_name}
 use Rattle.cq_base.proofs.Numbers.{position-any, number_of_more}
 use Rattle.cq_theory.specs.Paths.{is_among}
 use Rattle.indexmap.specs.IndexSet.{insert_key}

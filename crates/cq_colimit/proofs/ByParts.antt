@@ -1,21 +1,19 @@
 -- Tables satisfy the joined schema exactly if they satisfy each part and hold the added equations.
-use Rattle.std.proofs.Common.{ℕ, zero, suc, List, [], ◌∷◌, ◌++◌, Some, ◌≡◌, ◌<◌, ◌+◌, ◌⊎◌, ◌↔◌, inl, inr, map, length, get_or, refl, sym, ap, subst, ◌∙◌}
+use Rattle.std.proofs.Common.{ℕ, suc, List, [], ◌∷◌, Some, ◌≡◌, ◌<◌, ◌+◌, ◌↔◌, inl, inr, map, length, get_or, refl, sym, subst, ◌∙◌}
 use Rattle.std.specs.Prelude.{slice_get, slice_index, All}
 use Rattle.std.specs.List.{flat_map}
 use Rattle.std.proofs.lemmas.Option.{slice_get-get_or}
 use Rattle.cq_theory.specs.declared.schema.PathEq.{PathEq}
 use Rattle.cq_theory.specs.declared.schema.ObsEq.{ObsEq}
 use Rattle.cq_theory.specs.SchemaData.{SchemaData as Schema}
-use Rattle.cq_theory.specs.TypesideData.{TypesideData as Typeside}
 use Rattle.cq_theory.specs.Tables.{Tables, AtRow, count_of, row_from, value_of, IsWellFormed, Satisfies}
 use Rattle.cq_theory.proofs.Faults.{made_of}
 use Rattle.cq_mapping.specs.MappingData.{MappingData as Mapping}
 use Rattle.cq_mapping.specs.Mapping.{IsMapping}
 use Rattle.cq_mapping.specs.Moved.{delta_tables}
 use Rattle.cq_mapping.proofs.Named.{get_front, get_back, get_mapped}
-use Rattle.cq_colimit.specs.declared.parts.ColimitParts.{ColimitParts}
 use Rattle.cq_colimit.specs.PlacedData.{PlacedData as Placed}
-use Rattle.cq_colimit.specs.Placing.{Part, placed}
+use Rattle.cq_colimit.specs.Placing.{placed}
 use Rattle.cq_colimit.specs.Joined.{links_in, framed, inclusion, path_eq_image, obs_eq_image, path_eq_images, obs_eq_images, with_images, joined, inclusions}
 use Rattle.cq_colimit.specs.Models.{SatisfiesPart, SatisfiesByParts}
 use Rattle.cq_colimit.proofs.Preserving.{in_parts}

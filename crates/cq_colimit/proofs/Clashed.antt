@@ -1,5 +1,5 @@
 -- The fault of joined names, from what the tests of them found.
-use Rattle.std.proofs.Common.{ℕ, Bool, List, [], Option, Some, None, ◌≡◌, sym, ap, ◌∙◌}
+use Rattle.std.proofs.Common.{ℕ, List, [], Option, Some, None, ◌≡◌, sym, ap, ◌∙◌}
 use Rattle.std.specs.Prelude.{option_map}
 use Rattle.cq_base.specs.declared.name.Name.{Name}
 use Rattle.cq_theory.specs.TypesideData.{TypesideData as Typeside}

@@ -1,5 +1,5 @@
 -- The steps of a join, over plain variables.
-use Rattle.std.proofs.Common.{ℕ, List, ◌∷◌, ◌++◌, Option, Some, None, ◌≡◌, ◌≤◌, ◌+◌, ◌⊎◌, inl, inr, length, map, refl, sym, ap, subst, ◌∙◌}
+use Rattle.std.proofs.Common.{ℕ, List, Some, None, ◌≡◌, ◌≤◌, ◌+◌, ◌⊎◌, inl, inr, length, map, sym, ap, subst, ◌∙◌}
 use Rattle.std.specs.Prelude.{All, option_map}
 use Rattle.std.specs.List.{flat_map}
 use Rattle.cq_base.specs.declared.name.Name.{Name}

@@ -1,6 +1,6 @@
 -- Forests: one step of halving a way, and one more pair.
-use Rattle.std.proofs.Common.{ℕ, Bool, List, [], ◌∷◌, ◌≡◌, ◌≢◌, ◌<◌, ◌≤◌, ◌+◌, length, get_or, refl, sym, ap, subst, ◌∙◌, arith, inl, inr, cond}
-use Rattle.std.specs.Prelude.{min, max, nat_eq, nat_lt}
+use Rattle.std.proofs.Common.{ℕ, List, ◌≡◌, ◌≢◌, ◌<◌, ◌≤◌, ◌+◌, length, get_or, refl, sym, ap, subst, ◌∙◌, arith, inl, inr, cond}
+use Rattle.std.specs.Prelude.{min, max, nat_eq}
 use Rattle.std.proofs.Math.ListN.{set}
 use Rattle.std.proofs.lemmas.Bool.{cases_eq, cases_lt}
 use Rattle.std.proofs.lemmas.Bool.Decides.{nat_tests}

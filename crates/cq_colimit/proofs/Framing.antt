@@ -1,10 +1,8 @@
 -- The schemas of joined symbols.
-use Rattle.std.proofs.Common.{ℕ, Bool, true, false, List, [], ◌∷◌, ◌++◌, Option, Some, None, ◌≡◌, ◌+◌, ◌<◌, length, map, cond, refl, sym, ap, subst, ◌∙◌, arith}
-use Rattle.std.specs.Prelude.{is_some, slice_get, option_map, option_and_then}
+use Rattle.std.proofs.Common.{ℕ, Bool, true, false, List, [], ◌∷◌, ◌++◌, Option, Some, None, ◌≡◌, ◌+◌, ◌<◌, length, cond, refl, sym, ap, subst, ◌∙◌}
+use Rattle.std.specs.Prelude.{is_some, slice_get, option_and_then}
 use Rattle.std.specs.List.{flat_map}
 use Rattle.cq_base.specs.declared.name.Name.{Name}
-use Rattle.cq_base.specs.Names.{number_of}
-use Rattle.cq_theory.specs.declared.lookup.TheoryRefusal.{TheoryRefusal}
 use Rattle.cq_theory.specs.declared.lookup.TheoryRefusal.TheVariants.{Duplicate, Unknown, WrongSort}
 use Rattle.cq_theory.specs.declared.parts.ObsPart.{ObsPart}
 use Rattle.cq_theory.specs.declared.parts.SchemaParts.{SchemaParts}
@@ -17,16 +15,15 @@ use Rattle.cq_theory.specs.declared.term.TypeTerm.TheFolds.{fold-TypeTerm}
 use Rattle.cq_theory.specs.SchemaData.{SchemaData as Schema}
 use Rattle.cq_theory.specs.TypesideData.{TypesideData as Typeside}
 use Rattle.cq_theory.specs.Typeside.{function_names, constant_type}
-use Rattle.cq_theory.specs.Schema.{IsSchema, IsPathEq, IsObsEq, edge_names, one_of}
-use Rattle.cq_theory.specs.Sorts.{Generators, followed, target_of, entity_at, type_at, applied_type, type_of, type_step}
+use Rattle.cq_theory.specs.Schema.{IsSchema, edge_names, one_of}
+use Rattle.cq_theory.specs.Sorts.{Generators, followed, target_of, entity_at, applied_type, type_of, type_step}
 use Rattle.cq_theory.specs.Resolve.{or_else}
 use Rattle.cq_theory.specs.Declaring.{first_part_fault}
-use Rattle.cq_theory.specs.SchemaParts.{attribute_fault, attribute_ends_fault, entities_fault, keys_fault, path_eqs_fault, attributes_fault, observations_fault, with_path_eqs, extended, rest_fault, schema_fault, schema_made}
+use Rattle.cq_theory.specs.SchemaParts.{attribute_fault, attribute_ends_fault, entities_fault, keys_fault, path_eqs_fault, attributes_fault, schema_fault, schema_made}
 use Rattle.cq_theory.proofs.DeclaredParts.{or_else_none, new_name}
 use Rattle.cq_colimit.specs.declared.parts.ColimitParts.{ColimitParts}
 use Rattle.cq_colimit.specs.PlacedData.{PlacedData as Placed}
 use Rattle.cq_colimit.specs.Appended.{ArePathEqs, AreObsEqs, with_first}
-use Rattle.cq_colimit.specs.Faults.{added_fault}
 use Rattle.cq_colimit.specs.Joined.{entities_of, keys_of, attributes_of, keyed, framed, inclusion, path_eq_images, obs_eq_images, with_images}
 use Rattle.cq_colimit.specs.Frame.{IsFrame, HasSymbols, HasImages, bare}
 

@@ -1,7 +1,7 @@
 -- The inclusion of a part is a mapping.
-use Rattle.std.proofs.Common.{ℕ, Bool, List, [], ◌∷◌, Option, Some, None, ◌≡◌, ◌<◌, ◌≤◌, ◌+◌, if◌then◌else◌, map, length, get_or, refl, sym, ap, subst, ◌∙◌, arith}
+use Rattle.std.proofs.Common.{ℕ, Bool, List, [], ◌∷◌, Option, Some, None, ◌≡◌, ◌<◌, ◌≤◌, ◌+◌, if◌then◌else◌, map, length, refl, sym, ap, subst, ◌∙◌, arith}
 use Rattle.std.specs.Prelude.{slice_get, slice_index_or, option_and_then, All}
-use Rattle.std.specs.List.{flat_map, range_with_len}
+use Rattle.std.specs.List.{range_with_len}
 use Rattle.std.proofs.lemmas.Bool.{eq-eqb}
 use Rattle.std.proofs.lemmas.List.{length-map}
 use Rattle.std.proofs.lemmas.List.FromFn.{length-map-range_with_len, get_or-map-range_with_len}
@@ -28,7 +28,7 @@ use Rattle.cq_colimit.specs.PlacedData.{PlacedData as Placed}
 use Rattle.cq_colimit.specs.Placing.{Part, placed, entities_in}
 use Rattle.cq_colimit.specs.Classes.{class_of}
 use Rattle.cq_colimit.specs.Clashes.{joined_name}
-use Rattle.cq_colimit.specs.Joined.{entities_of, class_name, key_part, attribute_part, keys_of, attributes_of, inclusion}
+use Rattle.cq_colimit.specs.Joined.{class_name, key_part, attribute_part, keys_of, attributes_of, inclusion}
 use Rattle.cq_colimit.specs.Frame.{IsFrame}
 use Rattle.cq_colimit.proofs.Blocks.{stands, fits}
 use Rattle.cq_colimit.proofs.Counting.{class_within}

@@ -1,7 +1,7 @@
 -- The classes of a forest, numbered in the order of their first members.
 use Rattle.std.proofs.Common.{ℕ, Bool, true, false, List, [], ◌∷◌, ◌++◌, ◌≡◌, ◌≢◌, ◌<◌, ◌≤◌, ◌+◌, length, map, get_or, refl, sym, ap, subst, ◌∙◌, arith, inl, inr, cond, length-append}
-use Rattle.std.specs.Prelude.{min, max, nat_eq, nat_lt, filter}
-use Rattle.std.proofs.lemmas.Bool.{cases_eq, cases_lt}
+use Rattle.std.specs.Prelude.{min, max, nat_eq, filter}
+use Rattle.std.proofs.lemmas.Bool.{cases_eq}
 use Rattle.std.proofs.lemmas.Bool.Decides.{nat_tests}
 use Rattle.std.proofs.lemmas.List.FromFn.{get_or-map-range_with_len}
 use Rattle.cq_theory.specs.Canonical.{below}

@@ -1,5 +1,5 @@
 -- The faults of a colimit in their order, from those of its steps.
-use Rattle.std.proofs.Common.{ℕ, suc, Bool, true, false, List, [], ◌∷◌, Option, Some, None, ◌≡◌, ◌<◌, ◌≤◌, ◌+◌, ◌⊎◌, inl, inr, length, map, cond, refl, sym, ap, subst, ◌∙◌, arith}
+use Rattle.std.proofs.Common.{ℕ, suc, Bool, true, false, List, [], ◌∷◌, Some, None, ◌≡◌, ◌≤◌, ◌+◌, ◌⊎◌, inl, inr, length, map, cond, refl, sym, ap, subst, ◌∙◌, arith}
 use Rattle.std.specs.Prelude.{All, option_map, nat_lt}
 use Rattle.std.proofs.lemmas.List.{length-map}
 use Rattle.std.proofs.lemmas.List.Elements.{All-map}
@@ -11,7 +11,6 @@ use Rattle.cq_theory.specs.Resolve.{or_else}
 use Rattle.cq_theory.specs.SchemaData.{SchemaData as Schema}
 use Rattle.cq_theory.specs.TypesideData.{TypesideData as Typeside}
 use Rattle.cq_theory.proofs.Faults.{at_most}
-use Rattle.cq_mapping.specs.MappingData.{MappingData as Mapping}
 use Rattle.cq_colimit.specs.declared.refusal.ColimitRefusal.{ColimitRefusal}
 use Rattle.cq_colimit.specs.declared.refusal.ColimitRefusal.TheVariants.{TooMany, Memory}
 use Rattle.cq_colimit.specs.declared.parts.ColimitParts.{ColimitParts}

@@ -1,7 +1,6 @@
 -- What is known of parts in their places.
-use Rattle.std.proofs.Common.{ℕ, zero, suc, Bool, true, false, List, [], ◌∷◌, ◌++◌, Option, Some, None, ◌≡◌, ◌<◌, ◌≤◌, ◌+◌, ◌^◌, length, map, get_or, cond, refl, sym, ap, subst, ◌∙◌, arith, length-append}
+use Rattle.std.proofs.Common.{ℕ, zero, suc, Bool, true, false, List, [], ◌∷◌, Some, ◌≡◌, ◌<◌, ◌≤◌, ◌+◌, length, map, get_or, cond, sym, ap, subst, ◌∙◌, arith, length-append}
 use Rattle.std.specs.Prelude.{slice_get, All}
-use Rattle.std.specs.List.{flat_map}
 use Rattle.std.proofs.lemmas.List.{length-map}
 use Rattle.std.proofs.lemmas.List.Elements.{All-head, All-tail}
 use Rattle.std.proofs.lemmas.List.FromFn.{length-map-range_with_len}
@@ -13,10 +12,10 @@ use Rattle.cq_theory.specs.TypesideData.{TypesideData as Typeside}
 use Rattle.cq_colimit.specs.declared.placed.Start.{Start}
 use Rattle.cq_colimit.specs.PlacedData.{PlacedData as Placed}
 use Rattle.cq_colimit.specs.Placing.{Part, past, placed_from, placed, entities_in}
-use Rattle.cq_colimit.specs.Classes.{class_of, is_first}
+use Rattle.cq_colimit.specs.Classes.{is_first}
 use Rattle.cq_colimit.specs.Clashes.{given_by, names_where, first_entities, given_entities}
-use Rattle.cq_colimit.specs.Faults.{size_of, sizes_of}
-use Rattle.cq_colimit.specs.Joined.{entities_of, key_part, attribute_part, keys_of, attributes_of, inclusion}
+use Rattle.cq_colimit.specs.Faults.{sizes_of}
+use Rattle.cq_colimit.specs.Joined.{key_part, attribute_part, keys_of, attributes_of}
 use Rattle.cq_colimit.specs.Frame.{HasShortNumbers, GoesInto, IsFrame, ArePlaced, AreSymbols}
 use Rattle.cq_colimit.proofs.Blocks.{fits, sizes_of-cons}
 use Rattle.cq_colimit.proofs.Included.{inclusion_is}

@@ -1,25 +1,25 @@
 -- A mapping into a schema that has the images of the source's equations preserves equality.
-use Rattle.std.proofs.Common.{ℕ, zero, suc, Bool, true, List, [], ◌∷◌, ◌++◌, Option, Some, None, ◌≡◌, ◌⊎◌, inl, inr, map, refl, sym, ap, subst, ◌∙◌}
-use Rattle.std.specs.Prelude.{slice_get, option_and_then}
+use Rattle.std.proofs.Common.{ℕ, zero, suc, true, List, [], ◌∷◌, ◌++◌, Option, Some, ◌≡◌, ◌⊎◌, inl, inr, map, refl, sym, ap, subst, ◌∙◌}
+use Rattle.std.specs.Prelude.{slice_get}
 use Rattle.std.proofs.lemmas.Option.{option_and_then_some}
 use Rattle.cq_theory.specs.declared.schema.PathEq.{PathEq}
 use Rattle.cq_theory.specs.declared.schema.ObsEq.{ObsEq}
 use Rattle.cq_theory.specs.SchemaData.{SchemaData as Schema}
 use Rattle.cq_theory.specs.declared.term.EntTerm.{EntTerm}
 use Rattle.cq_theory.specs.declared.term.TypeTerm.{TypeTerm}
-use Rattle.cq_theory.specs.declared.term.TypeTerm.TheVariants.{Gen, Const, Att, Fun}
-use Rattle.cq_theory.specs.declared.term.Term.TheVariants.{Ent, Typ}
+use Rattle.cq_theory.specs.declared.term.TypeTerm.TheVariants.{Att, Fun}
+use Rattle.cq_theory.specs.declared.term.Term.TheVariants.{Typ}
 use Rattle.cq_theory.specs.TypeTerm.{substituted, substituted_step}
 use Rattle.cq_theory.specs.Sorts.{followed, target_of, type_at, entity_at, entity_of, is_type, have_types, type_of, type_step}
 use Rattle.cq_theory.specs.Schema.{IsObsEq, one_of}
-use Rattle.cq_theory.specs.Derivation.{path_equation, observation, Derives}
+use Rattle.cq_theory.specs.Derivation.{path_equation, observation}
 use Rattle.cq_theory.proofs.TypeTerms.{fold-Gen, fold-Const, fold-Att, fold-Fun, Each, on_terms}
 use Rattle.cq_theory.proofs.Sound.{is_type_some, applied_type_some, both}
 use Rattle.cq_theory.proofs.Faults.{made_of}
 use Rattle.cq_mapping.specs.MappingData.{MappingData as Mapping}
-use Rattle.cq_mapping.specs.Images.{entity_image, path_image, type_image}
+use Rattle.cq_mapping.specs.Images.{entity_image, type_image}
 use Rattle.cq_mapping.specs.Mapping.{IsMapping}
-use Rattle.cq_mapping.specs.Duties.{one_generator, path_duty, observation_duty, IsDerivable, Preserves}
+use Rattle.cq_mapping.specs.Duties.{path_duty, observation_duty, IsDerivable, Preserves}
 use Rattle.cq_mapping.proofs.Imaged.{type_of-image}
 use Rattle.cq_colimit.specs.Joined.{path_eq_image, obs_eq_image}
 

@@ -1,6 +1,6 @@
 -- Tables that are pulled back along a mapping that sends each symbol to a symbol.
-use Rattle.std.proofs.Common.{ℕ, zero, suc, true, List, [], ◌∷◌, ◌++◌, Option, Some, ◌≡◌, ◌<◌, ◌+◌, map, length, refl, sym, ap, subst, ◌∙◌, arith}
-use Rattle.std.specs.Prelude.{slice_get, slice_index, slice_index_or, option_and_then}
+use Rattle.std.proofs.Common.{ℕ, zero, suc, true, List, [], ◌∷◌, Option, Some, ◌≡◌, ◌<◌, ◌+◌, map, length, refl, sym, ap, subst, ◌∙◌, arith}
+use Rattle.std.specs.Prelude.{slice_get, slice_index, slice_index_or}
 use Rattle.std.specs.List.{enumerate_from}
 use Rattle.std.proofs.lemmas.List.{get_or-map, append-nil}
 use Rattle.std.proofs.lemmas.List.FromFn.{get_or-map-range_with_len}
@@ -13,10 +13,9 @@ use Rattle.cq_theory.specs.declared.term.TypeTerm.TheVariants as term
 use Rattle.cq_theory.specs.declared.value.Value.{Value}
 use Rattle.cq_theory.specs.declared.constant.Con.TheVariants.{Named}
 use Rattle.cq_theory.specs.declared.value.Value.TheVariants.{Const}
-use Rattle.cq_theory.specs.Canonical.{below}
 use Rattle.cq_theory.specs.Schema.{one_of}
 use Rattle.cq_theory.specs.TypeTerm.{substituted, substituted_step}
-use Rattle.cq_theory.specs.Sorts.{followed, target_of, entity_at, type_at, entity_of, is_type, have_types, type_of, type_step}
+use Rattle.cq_theory.specs.Sorts.{followed, target_of, entity_at, entity_of, is_type, have_types, type_of, type_step}
 use Rattle.cq_theory.specs.Tables.{Tables, AtRow, Assignment, row_in, count_of, key_at, cell_at, row_from, row_of, value_of, value_step, applied, IsWellFormed}
 use Rattle.cq_theory.proofs.TypeTerms.{fold-Gen, fold-Const, fold-Att, fold-Fun, Each, on_terms}
 use Rattle.cq_theory.proofs.Sound.{followed_some, is_type_some, applied_type_some, both, row_from-append}

@@ -1,23 +1,22 @@
 -- Refusals of the added equations by their numbers in the call.
-use Rattle.std.proofs.Common.{ℕ, suc, List, [], ◌∷◌, Option, Some, None, ◌≡◌, ◌<◌, ◌≤◌, ◌+◌, ◌^◌, ◌⊎◌, inl, inr, length, refl, sym, ap, subst, ◌∙◌, arith}
+use Rattle.std.proofs.Common.{ℕ, suc, List, [], ◌∷◌, Option, Some, None, ◌≡◌, ◌<◌, ◌+◌, ◌^◌, ◌⊎◌, inl, inr, length, refl, sym, ap, subst, ◌∙◌, arith}
 use Rattle.std.specs.Prelude.{option_map}
 use Rattle.cq_base.specs.declared.name.Name.{Name}
 use Rattle.cq_theory.specs.declared.lookup.TermRefusal.{TermRefusal}
 use Rattle.cq_theory.specs.declared.lookup.TermRefusal.TheVariants as rule
 use Rattle.cq_theory.specs.declared.lookup.TheoryRefusal.{TheoryRefusal}
 use Rattle.cq_theory.specs.declared.lookup.TheoryRefusal.TheVariants as theory
-use Rattle.cq_theory.specs.declared.parts.ObsPart.{ObsPart}
 use Rattle.cq_theory.specs.SchemaData.{SchemaData as Schema}
 use Rattle.cq_theory.specs.TypesideData.{TypesideData as Typeside}
 use Rattle.cq_theory.specs.Resolve.{or_else, in_part, first_fault}
-use Rattle.cq_theory.specs.SchemaParts.{entities_fault, keys_fault, path_eqs_fault, attributes_fault, observations_fault, with_path_eqs, extended, rest_fault, schema_fault}
+use Rattle.cq_theory.specs.SchemaParts.{entities_fault, keys_fault, path_eqs_fault, attributes_fault, observations_fault, with_path_eqs, extended, schema_fault}
 use Rattle.cq_theory.proofs.DeclaredParts.{or_else_none}
 use Rattle.cq_colimit.specs.declared.refusal.ColimitRefusal.{ColimitRefusal}
 use Rattle.cq_colimit.specs.declared.refusal.ColimitRefusal.TheVariants.{Memory}
 use Rattle.cq_colimit.specs.declared.parts.ColimitParts.{ColimitParts}
 use Rattle.cq_colimit.specs.PlacedData.{PlacedData as Placed}
 use Rattle.cq_colimit.specs.Faults.{of_colimit, added_fault}
-use Rattle.cq_colimit.specs.Joined.{entities_of, keys_of, attributes_of, keyed, framed}
+use Rattle.cq_colimit.specs.Joined.{entities_of, keys_of, attributes_of, keyed}
 use Rattle.cq_colimit.specs.Frame.{HasSymbols}
 use Rattle.cq_colimit.specs.Renumbered.{number_in, with_part}
 use Rattle.cq_colimit.proofs.Framing.{plain}

@@ -1,6 +1,6 @@
 -- Images under a mapping that sends each symbol to a symbol.
-use Rattle.std.proofs.Common.{ℕ, suc, Bool, true, List, [], ◌∷◌, ◌++◌, Option, Some, None, ◌≡◌, ◌<◌, ◌≤◌, ◌+◌, map, sum, length, refl, sym, ap, subst, ◌∙◌, arith, length-append}
-use Rattle.std.specs.Prelude.{slice_get, option_and_then}
+use Rattle.std.proofs.Common.{ℕ, suc, true, List, [], ◌∷◌, Option, Some, ◌≡◌, ◌<◌, ◌≤◌, ◌+◌, map, sum, length, refl, sym, ap, subst, ◌∙◌, arith, length-append}
+use Rattle.std.specs.Prelude.{slice_get}
 use Rattle.std.proofs.lemmas.List.{append-nil}
 use Rattle.std.proofs.lemmas.List.FromFn.{get_or-map-range_with_len}
 use Rattle.std.proofs.lemmas.Option.{option_and_then_some, slice_get_within}
@@ -10,7 +10,7 @@ use Rattle.cq_theory.specs.declared.schema.ObsEq.{ObsEq}
 use Rattle.cq_theory.specs.SchemaData.{SchemaData as Schema}
 use Rattle.cq_theory.specs.declared.term.EntTerm.{EntTerm}
 use Rattle.cq_theory.specs.declared.term.TypeTerm.{TypeTerm}
-use Rattle.cq_theory.specs.declared.term.TypeTerm.TheVariants.{Gen, Const, Att, Fun}
+use Rattle.cq_theory.specs.declared.term.TypeTerm.TheVariants.{Const, Att}
 use Rattle.cq_theory.specs.TypeTerm.{symbols_of, symbols_step, substituted, substituted_step}
 use Rattle.cq_theory.specs.Sorts.{Generators, followed, target_of, entity_at, entity_of, is_type, have_types, type_of, type_step}
 use Rattle.cq_theory.specs.Schema.{IsPathEq, IsObsEq, one_of}

@@ -1,12 +1,11 @@
 -- The last of the parts in their places.
-use Rattle.std.proofs.Common.{ℕ, zero, suc, List, [], ◌∷◌, Option, Some, None, ◌≡◌, ◌<◌, ◌≤◌, ◌+◌, ◌-◌, length, map, get_or, refl, sym, ap, subst, ◌∙◌, arith}
+use Rattle.std.proofs.Common.{ℕ, zero, suc, List, [], ◌∷◌, Some, None, ◌≡◌, ◌<◌, ◌≤◌, ◌+◌, ◌-◌, length, map, get_or, refl, sym, ap, ◌∙◌, arith}
 use Rattle.std.specs.Prelude.{slice_get}
 use Rattle.std.proofs.lemmas.Option.{same_Some, slice_get-get_or, none-some, slice_get_within}
-use Rattle.cq_theory.specs.SchemaData.{SchemaData as Schema}
 use Rattle.cq_colimit.specs.declared.placed.Start.{Start}
 use Rattle.cq_colimit.specs.PlacedData.{PlacedData as Placed}
 use Rattle.cq_colimit.specs.Placing.{Part, past, placed_from, placed, entities_in}
-use Rattle.cq_colimit.specs.Faults.{size_of, sizes_of}
+use Rattle.cq_colimit.specs.Faults.{sizes_of}
 use Rattle.cq_colimit.proofs.Blocks.{fits, entities_in-cons}
 
 last_from : (start : Start) (parts : List Part) (n : ℕ) (part : Placed) → slice_get (placed_from start parts) n ≡ Some part → n + 1 ≡ length (placed_from start parts)

@@ -1,5 +1,5 @@
 -- Tables over a joined schema.
-use Rattle.std.specs.Prelude.{ℕ, List, ◌↔◌, All}
+use Rattle.std.specs.Prelude.{List, ◌↔◌, All}
 use Rattle.cq_theory.specs.TypesideData.{TypesideData as Typeside}
 use Rattle.cq_theory.specs.Tables.{Tables, IsWellFormed, Satisfies}
 use Rattle.cq_mapping.specs.MappingData.{MappingData as Mapping}

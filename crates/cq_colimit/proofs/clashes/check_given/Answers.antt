@@ -1,5 +1,4 @@
-use Rattle.std.proofs.Common.{List, ◌≡◌, Option, None, Some, ap, ◌∙◌, map, inr, rules}
-use Rattle.cq_base.specs.declared.name.Name.{Name}
+use Rattle.std.proofs.Common.{List, ◌≡◌, None, ap, ◌∙◌, map, inr, rules}
 use Rattle.cq_theory.specs.declared.typeside.Fun.{Fun}
 use Rattle.cq_theory.specs.Paths.{is_among}
 use Rattle.cq_colimit.proofs.Clashed.{clash_found, name_found, long_found, none_found}

@@ -1,4 +1,4 @@
-use Rattle.std.proofs.Common.{List, Option, None, ◌≡◌, ◌∷◌, [], ◌++◌, ◌+◌, ℕ, drop, take, ap, sym, subst, ◌∙◌}
+use Rattle.std.proofs.Common.{List, None, ◌≡◌, ◌∷◌, [], ◌++◌, ◌+◌, ℕ, drop, take, ap, sym, subst, ◌∙◌}
 use Rattle.std.proofs.lemmas.List.{take_more}
 use Rattle.cq_base.specs.declared.name.Name.{Name}
 use Rattle.cq_base.specs.Names.{same_name}

@@ -1,4 +1,4 @@
-use Rattle.std.proofs.Common.{ℕ, Option, None, [], ◌≡◌, drop, take}
+use Rattle.std.proofs.Common.{None, [], ◌≡◌, drop, take}
 use Rattle.cq_base.specs.declared.name.Name.{Name}
 use Rattle.cq_base.specs.Names.{same_name}
 use Rattle.indexmap.specs.IndexMap.{get}

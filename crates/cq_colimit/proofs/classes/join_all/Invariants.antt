@@ -1,4 +1,4 @@
-use Rattle.std.proofs.Common.{ℕ, ◌≡◌, ◌<◌, length, drop}
+use Rattle.std.proofs.Common.{ℕ, ◌≡◌, length, drop}
 use Rattle.cq_colimit.specs.Classes.{with_links, first_of}
 use Rattle.cq_colimit.specs.Forest.{IsDown, IsForest}
 use Rattle.cq_colimit.proofs.classes.join_all.Given as goal

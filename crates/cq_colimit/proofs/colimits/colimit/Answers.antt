@@ -1,5 +1,4 @@
-use Rattle.std.proofs.Common.{ℕ, List, ◌≡◌, ◌+◌, ◌≤◌, ◌∙◌, inr, length, map, ap, sym, subst, arith, rules}
-use Rattle.cq_base.specs.declared.name.Name.{Name}
+use Rattle.std.proofs.Common.{List, ◌∙◌, inr, map, ap, sym, arith}
 use Rattle.cq_colimit.specs.PlacedData.{PlacedData as Placed}
 use Rattle.cq_colimit.proofs.Ordered.{name_refused, size_refused, after_size, join_refused, is_joined, are_inclusions, placed_names, many_is, few_are, are_placed, count_is}
 use Rattle.cq_colimit.proofs.colimits.colimit.Goals as goal

@@ -1,4 +1,4 @@
-use Rattle.std.proofs.Common.{◌≡◌, ◌-◌, ◌∙◌, length, sym}
+use Rattle.std.proofs.Common.{◌-◌, ◌∙◌, length, sym}
 use Rattle.cq_colimit.proofs.Totals.{last_fits, last_is, none_is}
 use Rattle.cq_colimit.proofs.colimits.count_entities.Goals as goal
 

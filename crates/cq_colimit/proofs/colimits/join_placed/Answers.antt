@@ -1,5 +1,4 @@
-use Rattle.std.proofs.Common.{ℕ, List, ◌≡◌, ◌+◌, ◌∙◌, length, map, ap, sym, subst, arith, rules}
-use Rattle.cq_colimit.specs.PlacedData.{PlacedData as Placed}
+use Rattle.std.proofs.Common.{◌≡◌, ◌∙◌, length, sym, subst, rules}
 use Rattle.cq_colimit.specs.Placing.{entities_in}
 use Rattle.cq_colimit.specs.Ends.{links_of}
 use Rattle.cq_colimit.specs.Frame.{ArePlaced, AreJoined}

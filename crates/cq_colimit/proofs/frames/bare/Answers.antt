@@ -1,10 +1,9 @@
-use Rattle.std.proofs.Common.{ℕ, List, [], ◌≡◌, ◌<◌, ◌∙◌, length, ap, sym, subst, arith, rules}
+use Rattle.std.proofs.Common.{List, [], ◌≡◌, ◌∙◌, length, ap, sym, subst, arith, rules}
 use Rattle.cq_base.specs.declared.name.Name.{Name}
 use Rattle.cq_theory.specs.SchemaData.{SchemaData as Schema}
-use Rattle.cq_theory.specs.SchemaParts.{schema_fault, schema_made}
-use Rattle.cq_colimit.specs.Placing.{Part, entities_in}
+use Rattle.cq_colimit.specs.Placing.{entities_in}
 use Rattle.cq_colimit.specs.Classes.{class_of}
-use Rattle.cq_colimit.specs.Frame.{AreSymbols, IsFrame, bare}
+use Rattle.cq_colimit.specs.Frame.{IsFrame, bare}
 use Rattle.cq_colimit.proofs.Places.{entities_fit, count_values, values_by_length, symbols_few}
 use Rattle.cq_colimit.proofs.Framing.{written_fault, written_made, bare_symbols, bare_made, bare_is}
 use Rattle.cq_colimit.proofs.frames.bare.Goals as goal

@@ -1,11 +1,10 @@
-use Rattle.std.proofs.Common.{ℕ, List, [], ◌≡◌, ◌<◌, ◌⊎◌, ◌∙◌, inl, inr, Some, length, ap, sym, subst, arith, rules}
+use Rattle.std.proofs.Common.{List, ◌≡◌, ◌∙◌, inl, inr, length, ap, sym, arith}
 use Rattle.cq_base.specs.declared.name.Name.{Name}
-use Rattle.cq_theory.specs.SchemaParts.{schema_fault}
-use Rattle.cq_colimit.specs.Placing.{Part, entities_in}
+use Rattle.cq_colimit.specs.Placing.{entities_in}
 use Rattle.cq_colimit.specs.Classes.{class_of}
 use Rattle.cq_colimit.specs.Joined.{keys_of, attributes_of}
 use Rattle.cq_colimit.proofs.Places.{entities_fit, count_values, values_by_length, symbols_few}
-use Rattle.cq_colimit.proofs.Framing.{plain, written_fault, written_made, framed_made}
+use Rattle.cq_colimit.proofs.Framing.{written_fault, written_made, framed_made}
 use Rattle.cq_colimit.proofs.Renumbering.{accepted, told_refused}
 use Rattle.cq_colimit.proofs.frames.framed.Goals as goal
 

@@ -1,4 +1,4 @@
-use Rattle.std.proofs.Common.{List, ◌≡◌, subst, sym, rules}
+use Rattle.std.proofs.Common.{◌≡◌, subst, rules}
 use Rattle.cq_theory.specs.SchemaData.{SchemaData as Schema}
 use Rattle.cq_colimit.specs.Appended.{ArePathEqs, AreObsEqs}
 use Rattle.cq_colimit.specs.Joined.{inclusion, path_eq_images, obs_eq_images}

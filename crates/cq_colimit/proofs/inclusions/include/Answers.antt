@@ -1,4 +1,4 @@
-use Rattle.std.proofs.Common.{List, ◌≡◌, ◌∷◌, [], map, length, subst, rules}
+use Rattle.std.proofs.Common.{◌≡◌, map, length, subst, rules}
 use Rattle.std.specs.List.{range_with_len}
 use Rattle.cq_theory.specs.Schema.{IsSchema}
 use Rattle.cq_colimit.specs.Classes.{class_of}

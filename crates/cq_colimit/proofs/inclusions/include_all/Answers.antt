@@ -1,4 +1,4 @@
-use Rattle.std.proofs.Common.{ℕ, List, ◌≡◌, ◌∷◌, ◌++◌, [], ◌∙◌, rules}
+use Rattle.std.proofs.Common.{◌≡◌, ◌∷◌, ◌++◌, [], ◌∙◌, rules}
 use Rattle.std.proofs.lemmas.List.Elements.{All-same, All-push}
 use Rattle.cq_mapping.specs.Mapping.{IsMapping}
 use Rattle.cq_colimit.specs.Joined.{inclusion}

@@ -1,4 +1,4 @@
-use Rattle.std.proofs.Common.{ℕ, List, ◌≡◌, ◌∙◌, length, map, ap, sym, subst, rules}
+use Rattle.std.proofs.Common.{List, ◌∙◌, length, map, ap, sym, subst}
 use Rattle.std.specs.Prelude.{All}
 use Rattle.cq_theory.specs.SchemaData.{SchemaData as Schema}
 use Rattle.cq_mapping.specs.Duties.{Preserves}

@@ -1,10 +1,9 @@
-use Rattle.std.proofs.Common.{ℕ, List, ◌≡◌, ◌∙◌, length, map, ap, sym, subst, arith, rules}
+use Rattle.std.proofs.Common.{◌≡◌, ◌∙◌, map, ap, sym, subst, arith, rules}
 use Rattle.std.proofs.lemmas.Grind.{common_steps}
 use Rattle.cq_theory.specs.TypesideData.{TypesideData as Typeside}
 use Rattle.cq_theory.specs.SchemaData.{SchemaData as Schema}
-use Rattle.cq_colimit.specs.PlacedData.{PlacedData as Placed}
 use Rattle.cq_colimit.specs.Joined.{inclusion}
-use Rattle.cq_colimit.specs.Frame.{AreSymbols, HasSymbols}
+use Rattle.cq_colimit.specs.Frame.{HasSymbols}
 use Rattle.cq_colimit.proofs.Finishing.{firsts_fit, numbers_fit, shorts, by_first, by_number, symbols_are, go_into, symbols_over, base_path_eqs, base_obs_eqs, schema_made, schema_over, schema_frame, schema_images, given_refused, added_refused, none_added}
 use Rattle.cq_colimit.proofs.joining.join.Goals as goal
 
