@@ -1,5 +1,6 @@
 //! The classes of entities, of which some pairs are one.
-ghost use Rattle.std.specs.Prelude.{ℕ, List, ◌≡◌, ◌<◌, ◌^◌, ◌≤◌, ◌+◌, ◌-◌, ◌++◌, ◌∷◌, ◌==◌, [], if◌then◌else◌, All, length, map, IfOk, OnOk};
+ghost use Rattle.std.specs.Prelude.{ℕ, List, ◌≡◌, ◌<◌, ◌^◌, ◌≤◌, ◌+◌, ◌-◌, ◌++◌, ◌∷◌, ◌==◌, [], if◌then◌else◌, All};
+ghost use Rattle.std.specs.Prelude.{length, map, IfOk, OnOk};
 ghost use Rattle.std.specs.Prelude.{slice_index};
 ghost use Rattle.cq_theory.specs.Canonical.{below};
 ghost use Rattle.cq_colimit.specs.Classes.{with_link, first_of, class_of};

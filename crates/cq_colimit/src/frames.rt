@@ -1,5 +1,6 @@
 //! The schemas of joined symbols: without equations, and with the added ones.
-ghost use Rattle.std.specs.Prelude.{ℕ, List, ◌≡◌, ◌+◌, ◌<◌, ◌≤◌, ◌^◌, ◌⊎◌, All, IfOk, IfErr, None, Some, length, map, option_map};
+ghost use Rattle.std.specs.Prelude.{ℕ, List, ◌≡◌, ◌+◌, ◌<◌, ◌≤◌, ◌^◌, ◌⊎◌, All, IfOk, IfErr, None, Some, length, map};
+ghost use Rattle.std.specs.Prelude.{option_map};
 ghost use Rattle.cq_theory.specs.Canonical.{below};
 ghost use Rattle.cq_colimit.specs.Placing.{Part};
 ghost use Rattle.cq_colimit.specs.Classes.{class_of};

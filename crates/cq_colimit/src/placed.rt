@@ -1,5 +1,6 @@
 //! The parts of a colimit in their places.
-ghost use Rattle.std.specs.Prelude.{◌≡◌, ◌≤◌, ◌<◌, ◌^◌, ◌⊎◌, IfOk, IfErr, Some, None, length, map, nat_lt, ◌+◌, MatchOption};
+ghost use Rattle.std.specs.Prelude.{◌≡◌, ◌≤◌, ◌<◌, ◌^◌, ◌⊎◌, IfOk, IfErr, Some, None, length, map, nat_lt, ◌+◌};
+ghost use Rattle.std.specs.Prelude.{MatchOption};
 ghost use Rattle.cq_colimit.specs.Placing.{placed, part_names, past};
 ghost use Rattle.cq_colimit.specs.Faults.{names_fault, size_of, sizes_of};
 

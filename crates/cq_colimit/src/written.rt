@@ -1,5 +1,6 @@
 //! The joined foreign keys and attributes, as parts of a schema.
-ghost use Rattle.std.specs.Prelude.{ℕ, List, ◌≡◌, ◌+◌, ◌<◌, ◌≤◌, ◌++◌, All, [], IfOk, OnOk, length, map, slice_index_or};
+ghost use Rattle.std.specs.Prelude.{ℕ, List, ◌≡◌, ◌+◌, ◌<◌, ◌≤◌, ◌++◌, All, [], IfOk, OnOk, length, map};
+ghost use Rattle.std.specs.Prelude.{slice_index_or};
 ghost use Rattle.cq_theory.specs.Canonical.{below};
 ghost use Rattle.cq_colimit.specs.Classes.{class_of};
 ghost use Rattle.cq_colimit.specs.Clashes.{joined_name};

@@ -24,9 +24,12 @@ pub join-requires-clause-classes : goal.join-requires-clause-classes
 join-requires-clause-classes c =
     let given = c.requires.placed in
     let here : c.len-first.result ≡ length c.args.parts.items = search rules in
-    let count : c.count_entities-entities.result ≡ entities_in given.0 = c.count_entities-entities.ensures given.0 (c.as_slice.ensures.value ∙ given.1.places) in
-    ((links_of c.args.parts.items c.args.joins.pairs), given.0, joined_from c.args.typeside.value given.0 c.args.parts.items (links_of c.args.parts.items c.args.joins.pairs) c.in-Ok.links.items c.as_slice-4.result.now c.count_entities-entities.result c.in_ok-classes.classes.firsts.items c.in_ok-classes.classes.numbers.items
-    given.1 count c.as_slice-4.ensures.value (c.in-Ok.ensures.made ∙ links_same c.args.typeside.value c.args.parts.items c.as_slice-2.result.now c.args.joins c.len-first.result 0 c.as_slice-3.result.now c.as_slice-2.ensures.value here c.as_slice-3.ensures) c.in_ok-classes.ensures.firsts c.in_ok-classes.ensures.numbers)
+    let count : c.count_entities-entities.result ≡ entities_in given.0 = c.count_entities-entities.ensures given.0 (c.as_slice.ensures.value ∙ given.1.places) in (
+      (links_of c.args.parts.items c.args.joins.pairs),
+      given.0,
+      joined_from c.args.typeside.value given.0 c.args.parts.items (links_of c.args.parts.items c.args.joins.pairs) c.in-Ok.links.items c.as_slice-4.result.now c.count_entities-entities.result c.in_ok-classes.classes.firsts.items c.in_ok-classes.classes.numbers.items
+          given.1 count c.as_slice-4.ensures.value (c.in-Ok.ensures.made ∙ links_same c.args.typeside.value c.args.parts.items c.as_slice-2.result.now c.args.joins c.len-first.result 0 c.as_slice-3.result.now c.as_slice-2.ensures.value here c.as_slice-3.ensures) c.in_ok-classes.ensures.firsts c.in_ok-classes.ensures.numbers,
+    )
 
 pub returns-in-Ok-join-clause-accepted : goal.returns-in-Ok-join-clause-accepted
 returns-in-Ok-join-clause-accepted c =
