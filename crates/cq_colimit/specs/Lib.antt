@@ -1,0 +1,12 @@
+pub mod Classes
+pub mod Forest
+pub mod PlacedData
+pub mod Placing
+pub mod Ends
+pub mod Clashes
+pub mod Joined
+pub mod Appended
+pub mod Frame
+pub mod Renumbered
+pub mod Faults
+pub mod Models

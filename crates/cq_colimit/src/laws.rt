@@ -1,0 +1,21 @@
+//! Laws of the classes and of the joined schema. Each is the contract of a function that does nothing.
+ghost use Rattle.std.specs.Prelude.{ℕ, List, ◌≡◌, ◌≤◌, ◌↔◌};
+ghost use Rattle.cq_colimit.specs.Classes.{AreOne, first_of};
+ghost use Rattle.cq_colimit.specs.Models.{SatisfiesByParts};
+
+/// Two entities have one first member exactly if the least equivalence that contains the listed pairs holds of them.
+pub fn classes_are_least()
+    ensures { (links : List (ℕ × ℕ)) (a b : ℕ) → AreOne links a b ↔ (first_of links a ≡ first_of links b) }
+{}
+
+/// The first member of an entity's class is of this class, and no member stands before it.
+pub fn first_members()
+    ensures member { (links : List (ℕ × ℕ)) (x : ℕ) → AreOne links x (first_of links x) }
+    ensures first { (links : List (ℕ × ℕ)) (x y : ℕ) → AreOne links x y → first_of links x ≤ y }
+{}
+
+/// Well-formed tables satisfy the joined schema exactly if what they are along each inclusion satisfies that part and
+/// the added equations hold at their rows.
+pub fn models_of_joined()
+    ensures { SatisfiesByParts }
+{}
