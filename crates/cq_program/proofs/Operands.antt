@@ -11,7 +11,8 @@ use Rattle.cq_theory.specs.SchemaData.{SchemaData}
 use Rattle.cq_program.specs.declared.reason.ProgramRefusal.{ProgramRefusal}
 use Rattle.cq_push.specs.Gluing.{coproduct_of}
 use Rattle.cq_program.specs.declared.reason.Reason.TheVariants.{WrongSchema}
-use Rattle.cq_program.specs.Checks.{Checked, Environment, InstanceMeant, Posed, SchemaMeant, a_made, and_then, broken_or, coproduct_over, coproduct_posed, first_misfit, instance_used, operands_used, presentations_of, schema_used}
+use Rattle.cq_program.specs.Meanings.{Checked, Environment, InstanceMeant, SchemaMeant, and_then, instance_used, schema_used}
+use Rattle.cq_program.specs.Checks.{Posed, a_made, broken_or, coproduct_over, coproduct_posed, first_misfit, operands_used, presentations_of}
 use Rattle.cq_program.specs.declared.gluing.Operand.{Operand}
 use Rattle.cq_program.specs.Environment.{AreSettled, IsPrinted, Refuses, operand_meant, operands_meant}
 use Rattle.cq_program.proofs.Given.{refused_after, refused_then}

@@ -5,7 +5,8 @@ use Rattle.cq_base.specs.declared.place.Place.{Place}
 use Rattle.cq_program.specs.declared.reason.Reason.{Reason}
 use Rattle.cq_syntax.specs.declared.program.Decl.{Decl}
 use Rattle.cq_program.specs.declared.reason.Reason.TheVariants.{NameTaken, NotBuilt}
-use Rattle.cq_program.specs.Checks.{Environment, Checked, Stated, meant_by, is_built, body_stated, stated_by}
+use Rattle.cq_program.specs.Meanings.{Environment, Checked, meant_by}
+use Rattle.cq_program.specs.Checks.{Stated, is_built, body_stated, stated_by}
 
 -- a name that is found is declared
 found : {X Y : Type 0} (f : X → Y) (o : Option X) → is_some (option_map f o) ≡ is_some o

@@ -288,6 +288,7 @@ fn push_instance(named: &mut Vec<Named>, entry: Entry) -> Result<(), AllocError>
         }
         Meaning::Typeside(_) => Ok(()),
         Meaning::Schema(_) => Ok(()),
+        Meaning::Colimit(_) => Ok(()),
         Meaning::Mapping(_, _, _) => Ok(()),
         Meaning::Query(_, _, _) => Ok(()),
         Meaning::Transform(_) => Ok(()),

@@ -11,7 +11,8 @@ ghost use Rattle.cq_program.specs.Checks.{schema_given, schema_posed, typeside_g
 ghost use Rattle.cq_program.specs.Environment.{schema_meant, Answers, AreSettled, Tells, environment_of};
 ghost use Rattle.cq_program.specs.Posing.{IsGrounded, IsPosed, posed_as};
 
-use crate::environment::{Environment, NamedEnds, NamedSchema, NamedTransform};
+use crate::colimits::{pose_colimit, pose_inclusion, pose_joined_schema};
+use crate::environment::{Environment, NamedColimit, NamedEnds, NamedSchema, NamedTransform};
 use crate::gluing::{pose_coproduct, pose_pushout};
 use crate::moves::{pose_delta, pose_sigma};
 use crate::parts::{instance_parts, mapping_parts, schema_parts, typeside_parts};
@@ -42,6 +43,8 @@ pub(crate) enum Statement {
     Schema(NamedSchema),
     Mapping(Name, Name, Mapping),
     Identity(Name, Rc<Schema>),
+    Colimit(NamedColimit),
+    Inclusion(Name, Name, Rc<Mapping>),
     Query(Name, Name, Query),
     Presentation(Name, Rc<Schema>, Presentation),
     Delta(Name, Rc<Mapping>, Rc<Instance>),
@@ -61,12 +64,12 @@ pub fn is_built(body: &Body) -> bool
     match body {
         Body::Typeside(_) => true,
         Body::Schema(SchemaExp::Literal(_)) => true,
-        Body::Schema(SchemaExp::GetSchema(_)) => false,
+        Body::Schema(SchemaExp::GetSchema(_)) => true,
         Body::Instance(expression) => is_built_instance(expression),
-        Body::Colimit(_) => false,
+        Body::Colimit(_) => true,
         Body::Mapping(MappingExp::Literal(_)) => true,
         Body::Mapping(MappingExp::Identity(_)) => true,
-        Body::Mapping(MappingExp::GetMapping(_, _)) => false,
+        Body::Mapping(MappingExp::GetMapping(_, _)) => true,
         Body::Query(_) => true,
         Body::Transform(TransformExp::Literal(_)) => true,
         Body::Transform(TransformExp::Identity(_)) => true,
@@ -116,13 +119,9 @@ pub fn pose_body(
             pose_transform(alloc, env, place, literal)
         }
         Body::Transform(TransformExp::Identity(used)) => pose_identical(alloc, env, used),
-        Body::Schema(SchemaExp::GetSchema(_)) => {
-            Err(ProgramRefusal::Broken(place, Reason::NotBuilt))
-        }
-        Body::Mapping(MappingExp::GetMapping(_, _)) => {
-            Err(ProgramRefusal::Broken(place, Reason::NotBuilt))
-        }
-        Body::Colimit(_) => Err(ProgramRefusal::Broken(place, Reason::NotBuilt)),
+        Body::Schema(SchemaExp::GetSchema(used)) => pose_joined_schema(env, used),
+        Body::Mapping(MappingExp::GetMapping(along, used)) => pose_inclusion(env, along, used),
+        Body::Colimit(literal) => pose_colimit(alloc, env, place, name, literal),
     }
 }
 

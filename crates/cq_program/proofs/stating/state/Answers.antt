@@ -1,5 +1,6 @@
 use Rattle.std.proofs.Common.{true, false, sym, ◌∙◌, subst}
-use Rattle.cq_program.specs.Checks.{Checked, Stated}
+use Rattle.cq_program.specs.Meanings.{Checked}
+use Rattle.cq_program.specs.Checks.{Stated}
 use Rattle.cq_program.specs.Environment.{Answers, environment_of}
 use Rattle.cq_program.specs.Posing.{stated_as}
 use Rattle.cq_program.proofs.Poses.{is_declared, not_built, name_taken, stated_on}
