@@ -208,18 +208,26 @@ instance_posed env place lit =
     and_then (presentation_given place over.schema lit) (λ P.
     Ok (a_presentation over.name over.schema P)))
 
+-- what used names stand for, in order, each with what is kept of the name
+abbrev pub all_used : {K A : Type 0} → (Spot → K) → (Spot → Checked A) → List Spot → Checked (List (K × A))
+all_used key find [] = Ok []
+all_used key find (spot ∷ spots) =
+    and_then (find spot) (λ a.
+    and_then (all_used key find spots) (λ rest.
+    Ok ((key spot, a) ∷ rest)))
+
+-- the place of the first of them that is over something of another name
+abbrev pub first_other : {K A : Type 0} → (K → Place) → (A → Name) → Name → List (K × A) → Option Place
+first_other at over n [] = None
+first_other at over n (one ∷ rest) = if same_name n (over one.1) then first_other at over n rest else Some (at one.0)
+
 -- the schemas that are joined, in order, each with the name under which it stands
 abbrev pub parts_used : Environment → List Spot → Checked (List (Spot × SchemaMeant))
-parts_used env [] = Ok []
-parts_used env (spot ∷ spots) =
-    and_then (schema_used env spot) (λ S.
-    and_then (parts_used env spots) (λ rest.
-    Ok ((spot, S) ∷ rest)))
+parts_used env spots = all_used (λ spot. spot) (schema_used env) spots
 
 -- the place of the first of them that isn't over the typeside declaration of a name
 abbrev pub first_apart : Name → List (Spot × SchemaMeant) → Option Place
-first_apart n [] = None
-first_apart n (part ∷ rest) = if same_name n part.1.typeside then first_apart n rest else Some part.0.place
+first_apart n parts = first_other (λ spot. spot.place) (λ S. S.typeside) n parts
 
 abbrev pub colimit_of : ColimitLit → Name → TypesideData → List (Spot × SchemaMeant) → ColimitMeant
 colimit_of lit name T parts = record {
@@ -297,16 +305,11 @@ coeval_posed env along spot = and_then (query_used env along) (λ Q. and_then (i
 
 -- the operands of a coproduct, in order, each with its place
 abbrev pub operands_used : Environment → List Spot → Checked (List (Place × InstanceMeant))
-operands_used env [] = Ok []
-operands_used env (spot ∷ spots) =
-    and_then (instance_used env spot) (λ i.
-    and_then (operands_used env spots) (λ rest.
-    Ok ((spot.place, i) ∷ rest)))
+operands_used env spots = all_used (λ spot. spot.place) (instance_used env) spots
 
 -- the place of the first operand that isn't over the schema of a printed name
 abbrev pub first_misfit : Name → List (Place × InstanceMeant) → Option Place
-first_misfit n [] = None
-first_misfit n (operand ∷ rest) = if same_name n operand.1.schema then first_misfit n rest else Some operand.0
+first_misfit n operands = first_other (λ place. place) (λ i. i.schema) n operands
 
 abbrev pub presentations_of : List (Place × InstanceMeant) → List Presentation
 presentations_of operands = map (λ operand. operand.1.instance.presentation) operands
