@@ -59,6 +59,6 @@ settled_from env links J start (part ∷ parts) printed preserves =
 pub parts_settled : (env : Environment) (T : TypesideData) (lit : ColimitLit) (parts : List (Spot × SchemaMeant)) → All (IsPartPrinted env) parts
     → All Preserves (inclusions T (named_schemas parts) (colimit_parts lit))
     → All (IsPartSettled env (joined T (named_schemas parts) (colimit_parts lit))) (included parts (inclusions T (named_schemas parts) (colimit_parts lit)))
-unfolding inclusions, placed
+unfolding inclusions placed
 parts_settled env T lit parts printed preserves =
     settled_from env (links_in (named_schemas parts) (colimit_parts lit)) (joined T (named_schemas parts) (colimit_parts lit)) (record { part = 0; entity = 0; key = 0; attribute = 0 }) parts printed preserves

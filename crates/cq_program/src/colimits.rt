@@ -147,10 +147,7 @@ fn colimit_in(
 }
 
 /// The schemas under the names under which they stand.
-fn named_schemas(
-    alloc: Global,
-    parts: &[UsedSchema],
-) -> Result<Vec<(Name, Rc<Schema>)>, AllocError>
+fn named_schemas(alloc: Global, parts: &[UsedSchema]) -> Result<Vec<(Name, Rc<Schema>)>, AllocError>
     ensures { IfOk result (λ named. map (λ part. (part.0, part.1.value)) named.items
         ≡ named_schemas (useds_meant parts.now)) }
 {

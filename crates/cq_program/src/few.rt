@@ -8,9 +8,9 @@ ghost use Rattle.cq_program.specs.Parts.{name_of, clause_count, instance_count, 
 ghost use Rattle.cq_program.specs.Parts.{colimit_count, schema_count, transform_count, typeside_count, variable_count};
 
 use cq_syntax::{
-    Body, ColimitLit, Decl, EdgeSyn, FunSyn, GroupSyn, InstanceExp, InstanceLit, MapBlock, MappingExp,
-    MappingLit, Program, QueryBlock, QueryKey, QueryLit, SchemaExp, SchemaLit, Spot, TransformExp,
-    TypesideLit,
+    Body, ColimitLit, Decl, EdgeSyn, FunSyn, GroupSyn, InstanceExp, InstanceLit, MapBlock,
+    MappingExp, MappingLit, Program, QueryBlock, QueryKey, QueryLit, SchemaExp, SchemaLit, Spot,
+    TransformExp, TypesideLit,
 };
 
 /// Whether a program has fewer than 2^32 - 1 declarations, and each of them fewer than 2^32 parts, as every program in

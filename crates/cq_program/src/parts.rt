@@ -10,8 +10,8 @@ use crate::raw::copy_raw;
 use cq_base::{Name, Raw, Seq};
 use cq_colimit::ColimitParts;
 use cq_syntax::{
-    AttImage, AttSyn, Bind, ColimitLit, EdgeSyn, EqSyn, FunSyn, GroupSyn, InstanceLit, KeyImage, MapBlock,
-    MappingLit, ObsSyn, PairSyn, PathEqSyn, SchemaLit, Spot, TransformLit, TypesideLit,
+    AttImage, AttSyn, Bind, ColimitLit, EdgeSyn, EqSyn, FunSyn, GroupSyn, InstanceLit, KeyImage,
+    MapBlock, MappingLit, ObsSyn, PairSyn, PathEqSyn, SchemaLit, Spot, TransformLit, TypesideLit,
 };
 use cq_theory::{
     ArrowImage, ArrowPart, MappingParts, ObsPart, PresentationParts, SchemaParts, TypesideParts,

@@ -7,8 +7,8 @@ ghost use Rattle.cq_program.specs.Parts.{colimit_places, mapping_places, transfo
 
 use cq_base::Place;
 use cq_syntax::{
-    AttImage, Bind, ColimitLit, EdgeSyn, EqSyn, FunSyn, GroupSyn, InstanceLit, KeyImage, MapBlock, MappingLit,
-    ObsSyn, PairSyn, PathEqSyn, SchemaLit, Spot, TransformLit, TypesideLit,
+    AttImage, Bind, ColimitLit, EdgeSyn, EqSyn, FunSyn, GroupSyn, InstanceLit, KeyImage, MapBlock,
+    MappingLit, ObsSyn, PairSyn, PathEqSyn, SchemaLit, Spot, TransformLit, TypesideLit,
 };
 use std::alloc::{AllocError, Global};
 

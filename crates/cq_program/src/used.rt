@@ -5,7 +5,8 @@ ghost use Rattle.cq_program.specs.Environment.{Answers, colimit_meant, ends_mean
 ghost use Rattle.cq_program.specs.Environment.{query_meant, transform_meant};
 
 use crate::environment::{
-    Environment, Meaning, NamedColimit, NamedEnds, NamedInstance, NamedTransform, unknown, wrong_kind,
+    Environment, Meaning, NamedColimit, NamedEnds, NamedInstance, NamedTransform, unknown,
+    wrong_kind,
 };
 use crate::reason::ProgramRefusal;
 use cq_base::Name;
