@@ -1,5 +1,5 @@
 -- Forests: one step of halving a way, and one more pair.
-use Rattle.std.proofs.Common.{ℕ, Bool, List, [], ◌∷◌, ◌≡◌, ◌≢◌, ◌<◌, ◌≤◌, length, get_or, refl, sym, ap, subst, ◌∙◌, arith, inl, inr, absurd, cond}
+use Rattle.std.proofs.Common.{ℕ, Bool, List, [], ◌∷◌, ◌≡◌, ◌≢◌, ◌<◌, ◌≤◌, ◌+◌, length, get_or, refl, sym, ap, subst, ◌∙◌, arith, inl, inr, cond}
 use Rattle.std.specs.Prelude.{min, max, nat_eq, nat_lt}
 use Rattle.std.proofs.Math.ListN.{set}
 use Rattle.std.proofs.lemmas.Bool.{cases_eq, cases_lt}
@@ -10,10 +10,10 @@ use Rattle.cq_theory.specs.Canonical.{below}
 use Rattle.cq_colimit.specs.Classes.{with_link}
 use Rattle.cq_colimit.specs.Forest.{IsDown, IsForest}
 
-chosen : (x m y : ℕ) → x ≡ m → cond (nat_eq x m) y x ≡ y
+pub chosen : (x m y : ℕ) → x ≡ m → cond (nat_eq x m) y x ≡ y
 chosen x m y e = grind (arith, nat_tests)
 
-passed : (x m y : ℕ) → x ≢ m → cond (nat_eq x m) y x ≡ x
+pub passed : (x m y : ℕ) → x ≢ m → cond (nat_eq x m) y x ≡ x
 passed x m y e = grind (arith, nat_tests)
 
 module _ (parents : List ℕ) (i v : ℕ) (within : i < length parents) where
@@ -42,10 +42,10 @@ module _ (parents : List ℕ) (i v : ℕ) (within : i < length parents) where
 
 -- a number is led to its parent's parent
 module _ (parents : List ℕ) (here : ℕ) (down : IsDown parents) (within : here < length parents) (other : get_or parents here 0 ≢ here) where
-  parent : ℕ
+  abbrev parent : ℕ
   parent = get_or parents here 0
 
-  above : ℕ
+  abbrev above : ℕ
   above = get_or parents parent 0
 
   parent_less : parent < here
@@ -68,11 +68,10 @@ module _ (parents : List ℕ) (here : ℕ) (down : IsDown parents) (within : her
       (forest-set parents here above within first forest same (λ e. absurd (omega (arith, e, less))), same)
 
 -- of two first members the later one is led to the earlier one
-module _ (first : ℕ → ℕ) (parents : List ℕ) (left right earlier later : ℕ) where
-  pub linked : IsForest first parents → earlier ≡ min (first left) (first right) → later ≡ max (first left) (first right)
-      → first earlier ≡ earlier → first later ≡ later → later < length parents
-      → IsForest (with_link first (left, right)) (set parents later earlier)
-  linked forest is_earlier is_later fe fl within = record {
+module _ (first : ℕ → ℕ) (parents : List ℕ) (left right a b earlier later : ℕ) where
+  pub linked : IsForest first parents → a ≡ first left → first a ≡ a → b ≡ first right → first b ≡ b → earlier ≡ min a b → later ≡ max a b
+      → a < length parents → b < length parents → IsForest (with_link first (left, right)) (set parents later earlier)
+  linked forest fa own_a fb own_b is_earlier is_later in_a in_b = record {
     leads = λ x l. elim (cases_eq x later) as (λ _. joined (get_or (set parents later earlier) x 0) ≡ joined x) [
       | inl e ↦ rw (e, get_or-set_same parents later earlier 0 within) (at_earlier ∙ sym at_later)
       | inr m ↦ rw (get_or-set_other parents later x earlier 0 m) (ap choice (forest.leads x (inside parents later earlier within x l)))
@@ -83,7 +82,7 @@ module _ (first : ℕ → ℕ) (parents : List ℕ) (left right earlier later : 
           ap joined q ∙ at_later ∙ at ∙ sym q
       | inr m ↦
           let own : first x ≡ x = forest.roots x (inside parents later earlier within x l) (sym (get_or-set_other parents later x earlier 0 m) ∙ e) in
-          passed (first x) most least (λ h. m (sym own ∙ h ∙ sym is_later)) ∙ own
+          passed (first x) most least (λ h. m (sym own ∙ h ∙ sym later_most)) ∙ own
     ];
   }
     where
@@ -93,6 +92,27 @@ module _ (first : ℕ → ℕ) (parents : List ℕ) (left right earlier later : 
       least : ℕ
       least = min (first left) (first right)
 
+      later_most : later ≡ most
+      later_most = is_later ∙ (λ i. max (fa i) (fb i))
+
+      earlier_least : earlier ≡ least
+      earlier_least = is_earlier ∙ (λ i. min (fa i) (fb i))
+
+      within : later < length parents
+      within = omega (arith, is_later, in_a, in_b)
+
+      own_later : first later ≡ later
+      own_later = elim (cases_lt a b) as (λ _. first later ≡ later) [
+        | inl l ↦ let q : later ≡ b = omega (arith, l, is_later) in ap first q ∙ own_b ∙ sym q
+        | inr g ↦ let q : later ≡ a = omega (arith, g, is_later) in ap first q ∙ own_a ∙ sym q
+      ]
+
+      own_earlier : first earlier ≡ earlier
+      own_earlier = elim (cases_lt a b) as (λ _. first earlier ≡ earlier) [
+        | inl l ↦ let q : earlier ≡ a = omega (arith, l, is_earlier) in ap first q ∙ own_a ∙ sym q
+        | inr g ↦ let q : earlier ≡ b = omega (arith, g, is_earlier) in ap first q ∙ own_b ∙ sym q
+      ]
+
       choice : ℕ → ℕ
       choice z = cond (nat_eq z most) least z
 
@@ -100,12 +120,12 @@ module _ (first : ℕ → ℕ) (parents : List ℕ) (left right earlier later : 
       joined x = choice (first x)
 
       at_later : joined later ≡ earlier
-      at_later = chosen (first later) most least (fl ∙ is_later) ∙ sym is_earlier
+      at_later = chosen (first later) most least (own_later ∙ later_most) ∙ sym earlier_least
 
       at_earlier : joined earlier ≡ earlier
       at_earlier = elim (cases_eq earlier later) as (λ _. joined earlier ≡ earlier) [
         | inl e ↦ ap joined e ∙ at_later
-        | inr m ↦ passed (first earlier) most least (λ h. m (sym fe ∙ h ∙ sym is_later)) ∙ fe
+        | inr m ↦ passed (first earlier) most least (λ h. m (sym own_earlier ∙ h ∙ sym later_most)) ∙ own_earlier
       ]
 
 -- each number alone
@@ -117,6 +137,22 @@ alone_down n = λ x l. let inside : x < n = subst (λ m. x < m) (length-range_wi
 pub alone_forest : (n : ℕ) → IsForest (λ x. x) (below n)
 alone_forest n = record {
   leads = λ x l. let inside : x < n = subst (λ m. x < m) (length-range_with_len 0 n) l in
-      get_or-range_with_len 0 n x 0 inside;
+      let zero_more : 0 + x ≡ x = omega arith in get_or-range_with_len 0 n x 0 inside ∙ zero_more;
   roots = λ x l e. refl;
 }
+
+-- one step on the way from an entity
+pub find_step : (before parents : List ℕ) (entity here : ℕ) → length parents ≡ length before → here < length parents → IsDown parents
+    → ((first : ℕ → ℕ) → IsForest first before → IsForest first parents × (first here ≡ first entity)) → get_or parents here 0 ≢ here
+    → let above : ℕ = get_or parents (get_or parents here 0) 0 in
+    (length (set parents here above) ≡ length before) × (above < length (set parents here above)) × IsDown (set parents here above)
+    × ((first : ℕ → ℕ) → IsForest first before → IsForest first (set parents here above) × (first above ≡ first entity))
+find_step before parents entity here count within down found other =
+    let above : ℕ = get_or parents (get_or parents here 0) 0 in
+    let less : above < here = above_less parents here down within other in
+    let same : length (set parents here above) ≡ length parents = length-set parents here above in (
+      same ∙ count,
+      omega (arith, less, within, same),
+      halved_down parents here down within other,
+      λ first forest. let old = found first forest in let new = halved parents here down within other first old.0 in (new.0, new.1 ∙ old.1),
+    )

@@ -55,6 +55,11 @@ lesser_pair (Some q) p = if is_before p q then p else q
 abbrev pub ordered : ℕ → ℕ → ℕ × ℕ
 ordered a b = (min a b, max a b)
 
+-- the least of a pair so far and of that of this part with the least one that gave the same name, if there is one
+abbrev pub with_owner : Option (ℕ × ℕ) → ℕ → Option ℕ → Option (ℕ × ℕ)
+with_owner least part None = least
+with_owner least part (Some owner) = Some (lesser_pair least (ordered owner part))
+
 -- the least of a pair so far and of those of this part with an earlier one that gave the same name
 abbrev pub least_with : Option (ℕ × ℕ) → Name × ℕ → List (Name × ℕ) → Option (ℕ × ℕ)
 least_with least given [] = least

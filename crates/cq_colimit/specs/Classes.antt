@@ -27,5 +27,5 @@ abbrev pub is_first : List (ℕ × ℕ) → ℕ → Bool
 is_first links x = first_of links x == x
 
 -- the number of a class: how many classes begin before it
-unfoldable pub class_of : List (ℕ × ℕ) → ℕ → ℕ
+abbrev pub class_of : List (ℕ × ℕ) → ℕ → ℕ
 class_of links x = length (filter (is_first links) (below (first_of links x)))

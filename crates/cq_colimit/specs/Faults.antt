@@ -41,25 +41,28 @@ names_fault parts = first_part_fault (λ part. part.0) name_fault [] 0 parts
 abbrev pub size_of : Schema → ℕ
 size_of S = length S.entities + length S.keys + length S.attributes + length S.path_eqs + length S.obs_eqs
 
+abbrev pub sizes_of : List Schema → ℕ
+sizes_of schemas = sum (map size_of schemas)
+
 -- those of the parts, and the added equations
 abbrev pub joined_size : List Part → ColimitParts → ℕ
-joined_size parts joins = sum (map (λ part. size_of part.1) parts) + length joins.path_eqs + length joins.obs_eqs
+joined_size parts joins = sizes_of (map (λ part. part.1) parts) + length joins.path_eqs + length joins.obs_eqs
 
 abbrev pub size_fault : List Part → ColimitParts → Option ColimitRefusal
 size_fault parts joins = if nat_lt 1000000 (joined_size parts joins) then Some TooMany else None
 
-module _ (T : Typeside) (entities arrows : List (Name × ℕ)) where
-  -- two joined names of one table are equal
-  abbrev pub double_name : Option (ℕ × ℕ)
-  double_name = least_clash (least_clash None [] entities) [] arrows
+-- two joined names of one table are equal
+abbrev pub double_name : List (Name × ℕ) → List (Name × ℕ) → Option (ℕ × ℕ)
+double_name entities arrows = least_clash (least_clash None [] entities) [] arrows
 
-  -- a joined name stands in its own table as a name of the typeside
-  abbrev pub typeside_name : Option ℕ
-  typeside_name = least_giver (λ given. is_among (function_names T) given.0)
-      (least_giver (λ given. is_among T.types given.0) None entities) arrows
+-- a joined name stands in its own table as a name of the typeside
+abbrev pub typeside_name : Typeside → List (Name × ℕ) → List (Name × ℕ) → Option ℕ
+typeside_name T entities arrows = least_giver (λ given. is_among (function_names T) given.0)
+    (least_giver (λ given. is_among T.types given.0) None entities) arrows
 
-  abbrev pub clash_fault : Option ColimitRefusal
-  clash_fault = or_else (option_map (λ p. NameClash p.0 p.1) double_name) (option_map (λ p. NameClash p p) typeside_name)
+abbrev pub clash_fault : Typeside → List (Name × ℕ) → List (Name × ℕ) → Option ColimitRefusal
+clash_fault T entities arrows = or_else (option_map (λ p. NameClash p.0 p.1) (double_name entities arrows))
+    (option_map (λ p. NameClash p p) (typeside_name T entities arrows))
 
 -- a joined name has over 255 bytes
 abbrev pub is_long : Name × ℕ → Bool

@@ -26,7 +26,7 @@ placed_from start [] = []
 placed_from start (part ∷ parts) = record { name = part.0; schema = part.1; start = start } ∷ placed_from (past start part.1) parts
 
 -- the parts, each with the numbers of the parts, entities, foreign keys and attributes before it
-unfoldable pub placed : List Part → List Placed
+abbrev pub placed : List Part → List Placed
 placed parts = placed_from (record { part = 0; entity = 0; key = 0; attribute = 0 }) parts
 
 -- how many entities the parts have

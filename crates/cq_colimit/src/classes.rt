@@ -1,5 +1,6 @@
 //! The classes of entities, of which some pairs are one.
-ghost use Rattle.std.specs.Prelude.{ℕ, List, ◌≡◌, ◌<◌, ◌^◌, All, length, map, IfOk};
+ghost use Rattle.std.specs.Prelude.{ℕ, List, ◌≡◌, ◌<◌, ◌^◌, ◌≤◌, ◌+◌, ◌-◌, ◌++◌, ◌∷◌, ◌==◌, [], if◌then◌else◌, All, length, map, IfOk, OnOk};
+ghost use Rattle.std.specs.Prelude.{slice_index};
 ghost use Rattle.cq_theory.specs.Canonical.{below};
 ghost use Rattle.cq_colimit.specs.Classes.{with_link, first_of, class_of};
 ghost use Rattle.cq_colimit.specs.Forest.{IsDown, IsForest};
@@ -24,8 +25,7 @@ impl Classes {
         ensures firsts { IfOk result (λ made. made.firsts.items ≡ map (first_of links.now) (below entities)) }
         ensures numbers { IfOk result (λ made. made.numbers.items ≡ map (class_of links.now) (below entities)) }
     {
-        let mut parents = alone(alloc, entities)?;
-        join_all(parents.as_mut_slice(), links);
+        let parents = forest(alloc, entities, links)?;
         number(alloc, parents.as_slice())
     }
 }
@@ -40,6 +40,18 @@ fn alone(alloc: Global, entities: u32) -> Result<Vec<u32>, AllocError>
         made.push(entity)?;
     }
     Ok(made)
+}
+
+/// The forest of the classes.
+fn forest(alloc: Global, entities: u32, links: &[(u32, u32)]) -> Result<Vec<u32>, AllocError>
+    requires { All (λ link. (link.0 < entities) × (link.1 < entities)) links.now }
+    ensures length { IfOk result (λ made. length made.items ≡ entities) }
+    ensures down { IfOk result (λ made. IsDown made.items) }
+    ensures joined { IfOk result (λ made. IsForest (first_of links.now) made.items) }
+{
+    let mut parents = alone(alloc, entities)?;
+    join_all(parents.as_mut_slice(), links);
+    Ok(parents)
 }
 
 /// The first member of an entity's class. On the way each entity is led to its parent's parent, so that long ways
@@ -90,27 +102,49 @@ fn join_all(parents: &mut [u32], links: &[(u32, u32)])
     }
 }
 
+/// Adds the next entity, which leads to `parent`, with its class. The answer is how many classes begin so far.
+fn add_entity(
+    firsts: &mut Vec<u32>,
+    numbers: &mut Vec<u32>,
+    next: u32,
+    parent: u32,
+) -> Result<u32, AllocError>
+    requires count { length firsts.old.items < 2 ^ 32 - 1 }
+    requires numbers { length numbers.old.items ≡ length firsts.old.items }
+    requires parent { parent ≤ length firsts.old.items }
+    requires next { next ≤ length firsts.old.items }
+    ensures firsts { OnOk result (firsts.new.items ≡ firsts.old.items ++ (if parent == length firsts.old.items
+        then parent else slice_index firsts.old.items parent) ∷ []) }
+    ensures numbers { OnOk result (numbers.new.items ≡ numbers.old.items ++ (if parent == length firsts.old.items
+        then next else slice_index numbers.old.items parent) ∷ []) }
+    ensures next { IfOk result (λ after. after ≡ (if parent == length firsts.old.items then next + 1 else next)) }
+{
+    if parent as usize == firsts.len() {
+        firsts.push(parent)?;
+        numbers.push(next)?;
+        return Ok(next + 1);
+    }
+    let first = firsts[parent as usize];
+    let number = numbers[parent as usize];
+    firsts.push(first)?;
+    numbers.push(number)?;
+    Ok(next)
+}
+
 /// The classes of a forest, numbered in the order of their first members.
 fn number(alloc: Global, parents: &[u32]) -> Result<Classes, AllocError>
     requires count { length parents.now < 2 ^ 32 }
     requires down { IsDown parents.now }
-    ensures numbered { (links : List (ℕ × ℕ)) → IsForest (first_of links) parents.now → IfOk result (λ made.
-        (made.firsts.items ≡ map (first_of links) (below (length parents.now)))
-        × (made.numbers.items ≡ map (class_of links) (below (length parents.now)))) }
+    ensures firsts { (links : List (ℕ × ℕ)) → IsForest (first_of links) parents.now → IfOk result (λ made.
+        made.firsts.items ≡ map (first_of links) (below (length parents.now))) }
+    ensures numbers { (links : List (ℕ × ℕ)) → IsForest (first_of links) parents.now → IfOk result (λ made.
+        made.numbers.items ≡ map (class_of links) (below (length parents.now))) }
 {
     let mut firsts = Vec::new(alloc);
     let mut numbers = Vec::new(alloc);
     let mut next = 0;
-    for (entity, parent) in parents.iter().enumerate() {
-        let parent = *parent as usize;
-        if parent == entity {
-            firsts.push(entity as u32)?;
-            numbers.push(next)?;
-            next += 1;
-        } else {
-            firsts.push(firsts[parent])?;
-            numbers.push(numbers[parent])?;
-        }
+    for parent in parents {
+        next = add_entity(&mut firsts, &mut numbers, next, *parent)?;
     }
     Ok(Classes { firsts, numbers })
 }

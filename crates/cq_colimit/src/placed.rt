@@ -1,9 +1,8 @@
 //! The parts of a colimit in their places.
-ghost use Rattle.std.specs.Prelude.{◌≡◌, ◌≤◌, ◌<◌, ◌^◌, ◌⊎◌, IfOk, IfErr, Some, None, length, map, nat_lt, sum, ◌+◌};
+ghost use Rattle.std.specs.Prelude.{◌≡◌, ◌≤◌, ◌<◌, ◌^◌, ◌⊎◌, IfOk, IfErr, Some, None, length, map, nat_lt, ◌+◌, MatchOption};
 ghost use Rattle.cq_colimit.specs.Placing.{placed, part_names, past};
-ghost use Rattle.cq_colimit.specs.Faults.{names_fault, size_of, joined_size};
+ghost use Rattle.cq_colimit.specs.Faults.{names_fault, size_of, sizes_of};
 
-use crate::parts::ColimitParts;
 use cq_base::{Name, Names};
 use cq_theory::lookup::declare;
 use cq_theory::{Schema, TheoryRefusal};
@@ -63,31 +62,40 @@ pub(crate) fn part_table(
     Ok(table)
 }
 
-/// How many entities, foreign keys, attributes and equations a schema has.
-fn size(schema: &Schema) -> u64
-    ensures { result ≡ size_of schema.now }
+/// The room that is left after the entities, foreign keys, attributes and equations of a schema, if there is room for
+/// them.
+fn room_after(room: u64, schema: &Schema) -> Option<u64>
+    ensures { MatchOption result (room < size_of schema.now) (λ left. left + size_of schema.now ≡ room) }
 {
-    schema.is_well_sorted();
-    schema.entities.len() as u64
-        + schema.keys.len() as u64
-        + schema.attributes.len() as u64
-        + schema.path_eqs.len() as u64
-        + schema.obs_eqs.len() as u64
+    room.checked_sub(schema.entities.len() as u64)?
+        .checked_sub(schema.keys.len() as u64)?
+        .checked_sub(schema.attributes.len() as u64)?
+        .checked_sub(schema.path_eqs.len() as u64)?
+        .checked_sub(schema.obs_eqs.len() as u64)
 }
 
-/// Whether those of the parts and the added equations are over 1,000,000.
-pub(crate) fn is_too_many(parts: &[(Name, Rc<Schema>)], joins: &ColimitParts) -> bool
-    ensures { result ≡ nat_lt MOST (joined_size (map (λ part. (part.0, part.1.value)) parts.now) joins.now) }
+/// The room that is left after those of the parts, if there is room for them.
+fn room_after_parts(parts: &[(Name, Rc<Schema>)]) -> Option<u64>
+    ensures { MatchOption result (MOST < sizes_of (map (λ part. part.1.value) parts.now)) (λ left.
+        left + sizes_of (map (λ part. part.1.value) parts.now) ≡ MOST) }
 {
-    let mut left = MOST;
+    let mut room = MOST;
     for part in parts {
-        match left.checked_sub(size(&part.1)) {
-            Some(rest) => left = rest,
-            None => return true,
-        }
+        room = room_after(room, &part.1)?;
     }
-    match left.checked_sub(joins.path_eqs.len() as u64) {
-        Some(rest) => rest < joins.obs_eqs.len() as u64,
+    Some(room)
+}
+
+/// Whether the entities, foreign keys, attributes and equations of the parts and the added equations are over
+/// 1,000,000.
+pub(crate) fn is_too_many(parts: &[(Name, Rc<Schema>)], path_eqs: usize, obs_eqs: usize) -> bool
+    ensures { result ≡ nat_lt MOST (sizes_of (map (λ part. part.1.value) parts.now) + path_eqs + obs_eqs) }
+{
+    match room_after_parts(parts) {
+        Some(room) => match room.checked_sub(path_eqs as u64) {
+            Some(room) => room < obs_eqs as u64,
+            None => true,
+        },
         None => true,
     }
 }
@@ -95,7 +103,7 @@ pub(crate) fn is_too_many(parts: &[(Name, Rc<Schema>)], joins: &ColimitParts) ->
 /// The parts with what stands before each.
 pub(crate) fn place(alloc: Global, parts: &[(Name, Rc<Schema>)]) -> Result<Vec<Placed>, AllocError>
     requires parts { length parts.now < 2 ^ 32 }
-    requires sizes { sum (map size_of (map (λ part. part.1.value) parts.now)) ≤ MOST }
+    requires sizes { sizes_of (map (λ part. part.1.value) parts.now) ≤ MOST }
     ensures { IfOk result (λ made. made.items ≡ placed (map (λ part. (part.0, part.1.value)) parts.now)) }
 {
     let mut made = Vec::new(alloc);

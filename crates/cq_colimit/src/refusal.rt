@@ -1,4 +1,9 @@
 //! Why schemas could not be joined.
+ghost use Rattle.std.specs.Prelude.{◌≡◌};
+ghost use Rattle.cq_colimit.specs.Faults.{of_colimit as refusal_of_colimit};
+
+use cq_theory::TheoryRefusal;
+use std::alloc::AllocError;
 
 /// Why parts make no colimit. The first six are those of `TheoryRefusal`, with the number of the first wrong part.
 #[derive(Clone, Copy, Debug, PartialEq, Eq)]
@@ -17,4 +22,30 @@ pub enum ColimitRefusal {
     /// The entities, foreign keys, attributes and equations of the parts and the added equations are over 1,000,000.
     TooMany,
     Memory,
+}
+
+impl From<AllocError> for ColimitRefusal {
+    ghost use Rattle.std.specs.Prelude.{◌≡◌};
+    ghost use Rattle.cq_colimit.specs.declared.refusal.ColimitRefusal.TheVariants.{Memory};
+
+    ghost from_gives = { λ _ e. e ≡ Memory };
+
+    fn from(_error: AllocError) -> ColimitRefusal {
+        ColimitRefusal::Memory
+    }
+}
+
+/// The same refusal, of a colimit.
+pub(crate) fn of_colimit(refusal: TheoryRefusal) -> ColimitRefusal
+    ensures { result ≡ refusal_of_colimit refusal }
+{
+    match refusal {
+        TheoryRefusal::Duplicate(part) => ColimitRefusal::Duplicate(part),
+        TheoryRefusal::Unknown(part) => ColimitRefusal::Unknown(part),
+        TheoryRefusal::WrongCount(part) => ColimitRefusal::WrongCount(part),
+        TheoryRefusal::WrongSort(part) => ColimitRefusal::WrongSort(part),
+        TheoryRefusal::Reserved(part) => ColimitRefusal::Reserved(part),
+        TheoryRefusal::TooLarge(part) => ColimitRefusal::TooLarge(part),
+        TheoryRefusal::Memory => ColimitRefusal::Memory,
+    }
 }

@@ -10,6 +10,8 @@ mod glued;
 #[cfg(test)]
 mod imports;
 #[cfg(test)]
+mod joined;
+#[cfg(test)]
 mod limits;
 #[cfg(test)]
 mod mappings;
