@@ -9,6 +9,7 @@ pub mod Settled
 pub mod Uses
 pub mod Operands
 pub mod ColimitsPosed
+pub mod ToldParts
 pub mod ImagesPosed
 pub mod Readings
 pub mod Following

@@ -8,6 +8,7 @@ use Rattle.cq_base.specs.declared.place.Place.{Place}
 use Rattle.cq_base.specs.Names.{same_name}
 use Rattle.cq_syntax.specs.declared.part.Spot.{Spot}
 use Rattle.cq_theory.specs.SchemaData.{SchemaData}
+use Rattle.cq_theory.specs.TypesideData.{TypesideData}
 use Rattle.cq_program.specs.Meanings.{Meant, PartMeant, ColimitMeant, colimit, colimit_used, as_colimit, schema_by, schema_named, typeside, schema, mapping, query, instance, transform, Ends, SchemaMeant, MappingMeant, QueryMeant, InstanceMeant, TransformMeant, Environment, Checked, meant_by, as_schema, as_mapping, as_query, as_instance, as_transform, schema_used, mapping_used, query_used, instance_used, transform_used}
 use Rattle.cq_program.specs.Checks.{Posed, a_typeside, a_schema, a_mapping, an_identity, a_colimit, an_inclusion, a_query, a_presentation, a_made, a_delta, an_eval, a_transform, Stated, at_once, a_folder}
 use Rattle.cq_program.specs.Environment.{IsPartSettled, AreEnds, IsModelled, IsPrinted, IsTermModel, IsSettled, AreSettled, WillSettle}
@@ -244,6 +245,13 @@ passes false h = absurd (cc h)
 pub one_typeside : (env : Environment) (S T : SchemaMeant) → IsSettled env (schema S) → IsSettled env (schema T) → false ≡ not (same_name S.typeside T.typeside) → S.schema.typeside ≡ T.schema.typeside
 one_typeside env S T settled settled' same =
     let found : Some (typeside S.schema.typeside) ≡ Some (typeside T.schema.typeside) = sym settled.0 ∙ ap (meant_by env) (same_text S.typeside T.typeside (passes (same_name S.typeside T.typeside) same)) ∙ settled'.0 in
+    cc
+
+-- a schema over the typeside of a declared name is over what the name stands for
+pub over_typeside : (env : Environment) (n : Name) (T : TypesideData) (S : SchemaMeant) → meant_by env n ≡ Some (typeside T) → IsSettled env (schema S) → false ≡ not (same_name n S.typeside)
+    → S.schema.typeside ≡ T
+over_typeside env n T S is settled same =
+    let found : Some (typeside S.schema.typeside) ≡ Some (typeside T) = sym settled.0 ∙ ap (meant_by env) (sym (same_text n S.typeside (passes (same_name n S.typeside) same))) ∙ is in
     cc
 
 -- one printed name stands for one schema

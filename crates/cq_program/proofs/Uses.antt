@@ -66,6 +66,13 @@ module _ {K A : Type 0} (key : Spot → K) (find : Spot → Checked A) where
       let one : take (i + 1) spots ≡ take i spots ++ spot ∷ [] = take_more spots i spot inside ∙ ap (λ (x : Spot). take i spots ++ x ∷ []) (sym is) in
       ap (all_used key find) one ∙ used_more (take i spots) spot found a are used ∙ ap (λ (l : List (K × A)). Ok l) (sym longer)
 
+  -- as many are found as names are used
+  pub used_count : (spots : List Spot) (found : List (K × A)) → all_used key find spots ≡ Ok found → length found ≡ length spots
+  used_count [] found are = let none : [] ≡ found = cc in ap length (sym none)
+  used_count (x ∷ spots) found are =
+      let t = two (key x) (find x) (all_used key find spots) found are in
+      ap length (sym t.together) ∙ ap (λ (n : ℕ). suc n) (used_count spots t.rest t.others_are)
+
   -- what holds of each that is used
   pub used_hold : (P : K × A → Type 0) → ((spot : Spot) (a : A) → find spot ≡ Ok a → P (key spot, a)) → (spots : List Spot) (found : List (K × A)) → all_used key find spots ≡ Ok found → All P found
   used_hold P holds [] found are = let none : [] ≡ found = cc in subst (All P) none (All-nil P)

@@ -49,8 +49,8 @@ use Rattle.cq_colimit.specs.Joined.{joined, inclusions}
 use Rattle.cq_colimit.specs.Placing.{Part}
 use Rattle.cq_program.specs.declared.reason.Reason.{Reason}
 use Rattle.cq_program.specs.declared.reason.Reason.TheVariants.{NameTaken, WrongSchema, Duplicate, Unknown}
-use Rattle.cq_program.specs.declared.reason.Reason.TheVariants.{WrongCount, WrongSort, Reserved, TooLarge, Missing, NotASpan, NotBuilt}
-use Rattle.cq_program.specs.declared.reason.Reason.TheVariants.{Oversized, NameClash, LongName}
+use Rattle.cq_program.specs.declared.reason.Reason.TheVariants.{WrongCount, WrongSort, Reserved, TooLarge, Missing, NotASpan}
+use Rattle.cq_program.specs.declared.reason.Reason.TheVariants.{Oversized, NameClash, LongName, WrongKind}
 use Rattle.cq_program.specs.Images.{broken_by_images}
 use Rattle.cq_program.specs.declared.stating.Format.{Format}
 use Rattle.cq_program.specs.declared.stating.Format.TheVariants.{First, Second}
@@ -239,12 +239,14 @@ unfoldable pub colimit_given : Place → ColimitLit → Name → TypesideData �
 colimit_given place lit name T parts = of_parts (colimit_breach place (colimit_places lit)) (colimit_fault T (named_schemas parts) (colimit_parts lit))
     (colimit_of lit name T parts)
 
+abbrev pub posed_colimit : Checked ColimitMeant → Checked Posed
+posed_colimit check = and_then check (λ c. Ok (a_colimit c))
+
 -- Each part is over the stated typeside, and then the parts are joined.
 abbrev pub colimit_over : Place → ColimitLit → Name → List (Spot × SchemaMeant) → TypesideData → Checked Posed
 colimit_over place lit name parts T =
-    and_then (broken_or parts (option_map (λ at. (at, WrongSchema)) (first_apart lit.typeside.name parts))) (λ over.
-    and_then (colimit_given place lit name T over) (λ c.
-    Ok (a_colimit c)))
+    and_then (broken_or parts (option_map (λ at. (at, WrongSchema)) (first_apart lit.typeside.name parts)))
+    (λ over. posed_colimit (colimit_given place lit name T over))
 
 abbrev pub colimit_posed : Environment → Place → Name → ColimitLit → Checked Posed
 colimit_posed env place name lit =
@@ -365,10 +367,7 @@ transform_posed env place lit =
     and_then (instance_used env lit.target) (λ j.
     transform_between place lit i j))
 
--- the forms that are built
-abbrev pub is_built : Body → Bool
-is_built _ = true
-
+-- What a body poses that reads no files. A folder of files poses what these give, and nothing by itself.
 abbrev pub body_posed : Environment → Place → Name → Body → Checked Posed
 body_posed env place name (Typeside lit) = typeside_posed place lit
 body_posed env place name (Schema (schema_exp.Literal lit)) = schema_posed env place name lit
@@ -387,7 +386,7 @@ body_posed env place name (Instance (instance_exp.Coproduct spots spot)) = copro
 body_posed env place name (Instance (instance_exp.Pushout first second)) = pushout_posed env first second
 body_posed env place name (Transformed (transform_exp.Literal lit)) = transform_posed env place lit
 body_posed env place name (Transformed (transform_exp.Identity spot)) = identical_posed env spot
-body_posed env place name _ = Err (place, NotBuilt)
+body_posed env place name _ = Err (place, WrongKind)
 
 -- What a declaration states whose names and parts break no rule: what it poses at once, or a folder of files, by its format, over the
 -- schema of a printed name, whose files are to be read.
@@ -418,9 +417,7 @@ stated_from env (Some folder) check = folder_stated env folder
 abbrev pub body_stated : Environment → Place → Name → Body → Checked Stated
 body_stated env place name body = stated_from env (folder_of body) (body_posed env place name body)
 
--- The checks of names and parts of a declaration, in their order: its form is built, its name is new, and then those of its body.
+-- The checks of names and parts of a declaration, in their order: its name is new, and then those of its body.
 unfoldable pub stated_by : Environment → Decl → Checked Stated
 stated_by env d =
-    if is_built d.body then (if is_some (meant_by env d.name) then Err (d.name_place, NameTaken)
-    else body_stated env d.place d.name d.body)
-    else Err (d.place, NotBuilt)
+    if is_some (meant_by env d.name) then Err (d.name_place, NameTaken) else body_stated env d.place d.name d.body

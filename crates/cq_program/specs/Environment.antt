@@ -108,6 +108,10 @@ AreEnds env e =
 abbrev pub IsPartSettled : Environment → SchemaData → PartMeant → Type 0
 IsPartSettled env J part = Preserves part.inclusion × IsPrinted env part.source part.inclusion.source × (part.inclusion.target ≡ J)
 
+-- the schema of a part stands for its printed name
+abbrev pub IsPartPrinted : Environment → Spot × SchemaMeant → Type 0
+IsPartPrinted env part = IsPrinted env part.1.name part.1.schema
+
 -- What holds of each meaning: the name of a schema's typeside stands for that typeside, and its printed name for the schema; a colimit's
 -- schema is so too, and each of its inclusions preserves equality and goes from the schema of its part; each duty of a mapping or a query is derivable, and the printed names of its two schemas stand for them; that of an instance's schema stands for the
 -- schema, and the instance is the term model of its presentation; the names of a transform's ends stand for these, and the transform goes

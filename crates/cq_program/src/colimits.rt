@@ -1,6 +1,6 @@
 //! Colimits of schemas, their schemas and the inclusions of their parts: what is posed of them.
-ghost use Rattle.std.specs.Prelude.{ℕ, ◌≡◌, ◌<◌, ◌-◌, ◌^◌, ◌++◌, ◌∷◌, [], All, Some, None, IfOk, IfErr, OnOk};
-ghost use Rattle.std.specs.Prelude.{map, option_map};
+ghost use Rattle.std.specs.Prelude.{ℕ, ◌≡◌, ◌<◌, ◌+◌, ◌-◌, ◌^◌, ◌++◌, ◌∷◌, [], All, Some, None, IfOk, IfErr, OnOk};
+ghost use Rattle.std.specs.Prelude.{length, map, option_map};
 ghost use Rattle.cq_base.specs.declared.name.Name.{Name as TheName};
 ghost use Rattle.cq_colimit.specs.declared.refusal.ColimitRefusal.TheVariants as joining;
 ghost use Rattle.cq_colimit.specs.Faults.{colimit_fault};
@@ -8,9 +8,11 @@ ghost use Rattle.cq_colimit.specs.Joined.{inclusions as all_inclusions, joined a
 ghost use Rattle.cq_mapping.specs.Duties.{Preserves};
 ghost use Rattle.cq_program.specs.Checks.{colimit_breach, colimit_given, colimit_posed, first_apart, get_mapping_posed};
 ghost use Rattle.cq_program.specs.Checks.{an_inclusion, get_schema_posed, included, named_schemas, part_named, parts_used};
+ghost use Rattle.cq_program.specs.Checks.{posed_colimit};
 ghost use Rattle.cq_program.specs.Environment.{Answers, AreSettled, Refuses, Tells, colimit_meant, environment_of};
-ghost use Rattle.cq_program.specs.Environment.{part_meant, schema_meant, used_meant, useds_meant};
-ghost use Rattle.cq_program.specs.Meanings.{SchemaMeant, schema_used};
+ghost use Rattle.cq_program.specs.Environment.{IsPartPrinted, part_meant, useds_meant};
+ghost use Rattle.cq_program.specs.Meanings.{Environment as Meanings, SchemaMeant, meant_by, schema_used};
+ghost use Rattle.cq_program.specs.Meanings.{typeside as typeside_meant};
 ghost use Rattle.cq_program.specs.Parts.{colimit_count, colimit_parts as literal_parts, colimit_places as literal_places};
 ghost use Rattle.cq_program.specs.Posing.{IsGrounded, IsPosed, posed_as};
 
@@ -57,11 +59,33 @@ pub fn pose_colimit(
     if let Some(at) = first_apart(&literal.typeside.name, parts.as_slice()) {
         return Err(ProgramRefusal::Broken(at, Reason::WrongSchema));
     }
-    match colimit_in(alloc, place, typeside, parts.as_slice(), literal) {
-        Ok(made) => match named_colimit(alloc, name, literal, parts, made) {
-            Ok(named) => Ok(Statement::Colimit(named)),
-            Err(_) => Err(ProgramRefusal::Memory),
-        },
+    join_schemas(alloc, place, name, typeside, parts.as_slice(), literal)
+}
+
+/// The colimit of schemas over one typeside under its name, or the first part that breaks a rule.
+fn join_schemas(
+    alloc: Global,
+    place: Place,
+    name: &Name,
+    typeside: Rc<Typeside>,
+    parts: &[UsedSchema],
+    literal: &ColimitLit,
+) -> Result<Statement, ProgramRefusal>
+    requires few { length parts.now + length literal.now.pairs + length literal.now.path_eqs + length literal.now.obs_eqs
+        < 2 ^ 32 }
+    requires over { All (λ part. part.part.schema.value.typeside ≡ typeside.value) parts.now }
+    ensures posed { Answers posed_as result
+        (posed_colimit (colimit_given place literal.now name.now typeside.value (useds_meant parts.now))) }
+    ensures well_sorted { IfOk result IsPosed }
+    ensures grounded { (env : Meanings) → meant_by env literal.now.typeside.name ≡ Some (typeside_meant typeside.value)
+        → All (IsPartPrinted env) (useds_meant parts.now)
+        → IfOk result (λ statement. IsGrounded env name.now (posed_as statement)) }
+{
+    match colimit_in(alloc, place, typeside, parts, literal) {
+        Ok(made) => {
+            let over = &literal.typeside.name;
+            Ok(Statement::Colimit(named_colimit(alloc, name, over, parts, made)?))
+        }
         Err(refusal) => Err(refusal),
     }
 }
@@ -123,7 +147,8 @@ fn colimit_in(
     parts: &[UsedSchema],
     literal: &ColimitLit,
 ) -> Result<Colimit, ProgramRefusal>
-    requires few { colimit_count literal.now < 2 ^ 32 }
+    requires few { length parts.now + length literal.now.pairs + length literal.now.path_eqs + length literal.now.obs_eqs
+        < 2 ^ 32 }
     requires over { All (λ part. part.part.schema.value.typeside ≡ typeside.value) parts.now }
     ensures accepted { IfOk result (λ _. colimit_fault typeside.value (named_schemas (useds_meant parts.now))
         (literal_parts literal.now) ≡ None) }
@@ -203,47 +228,63 @@ fn colimit_refusal(place: Place, places: &[Place], refusal: ColimitRefusal) -> P
 fn named_colimit(
     alloc: Global,
     name: &Name,
-    literal: &ColimitLit,
-    parts: Vec<UsedSchema>,
+    typeside: &Name,
+    parts: &[UsedSchema],
     made: Colimit,
 ) -> Result<NamedColimit, AllocError>
     ensures { IfOk result (λ named. colimit_meant named ≡ record {
-      schema = record { name = name.now; typeside = literal.now.typeside.name; schema = made.schema.value };
-      parts = included (useds_meant parts.items) made.inclusions;
+      schema = record { name = name.now; typeside = typeside.now; schema = made.schema.value };
+      parts = included (useds_meant parts.now) made.inclusions;
     }) }
 {
     let Colimit { schema, inclusions } = made;
     let schema = NamedSchema {
         name: name.clone()?,
-        typeside: literal.typeside.name.clone()?,
+        typeside: typeside.clone()?,
         schema,
     };
-    let parts = named_parts(alloc, parts, inclusions.into_vec())?;
+    let inclusions = shared(alloc, inclusions.into_vec())?;
+    let parts = named_parts(alloc, parts, inclusions.as_slice())?;
     Ok(NamedColimit { schema, parts })
+}
+
+/// Mappings that are kept where they are used once more.
+fn shared(alloc: Global, mappings: Vec<Mapping>) -> Result<Vec<Rc<Mapping>>, AllocError>
+    ensures { IfOk result (λ shared. map (λ mapping. mapping.value) shared.items ≡ mappings.items) }
+{
+    let mut shared = Vec::new(alloc);
+    for mapping in mappings {
+        shared.push(Rc::new(alloc, mapping)?)?;
+    }
+    Ok(shared)
 }
 
 /// The inclusions under the names under which their schemas stand.
 fn named_parts(
     alloc: Global,
-    parts: Vec<UsedSchema>,
-    inclusions: Vec<Mapping>,
+    parts: &[UsedSchema],
+    inclusions: &[Rc<Mapping>],
 ) -> Result<Seq<NamedPart>, AllocError>
-    ensures { IfOk result (λ named. map part_meant named ≡ included (useds_meant parts.items) inclusions.items) }
+    ensures { IfOk result (λ named. map part_meant named
+        ≡ included (useds_meant parts.now) (map (λ inclusion. inclusion.value) inclusions.now)) }
 {
     let mut named = Vec::new(alloc);
-    for (part, inclusion) in parts.into_iter().zip(inclusions) {
-        let UsedSchema {
-            place: _,
-            name,
-            part,
-        } = part;
-        named.push(NamedPart {
-            name,
-            source: part.name,
-            inclusion: Rc::new(alloc, inclusion)?,
-        })?;
+    for (part, inclusion) in parts.iter().zip(inclusions.iter()) {
+        named.push(named_part(part, inclusion)?)?;
     }
     Ok(Seq::from_vec(named))
+}
+
+/// An inclusion under the name under which its schema stands.
+fn named_part(part: &UsedSchema, inclusion: &Rc<Mapping>) -> Result<NamedPart, AllocError>
+    ensures { IfOk result (λ named. part_meant named
+        ≡ record { name = part.now.name; source = part.now.part.name; inclusion = inclusion.now.value }) }
+{
+    Ok(NamedPart {
+        name: part.name.clone()?,
+        source: part.part.name.clone()?,
+        inclusion: inclusion.clone()?,
+    })
 }
 
 /// The schema of a colimit.
@@ -277,7 +318,7 @@ pub fn pose_inclusion(
         Ok(found) => found,
         Err(refusal) => return Err(refusal),
     };
-    let _part = env.schema(used)?;
+    let _over = env.schema(used)?;
     match part_named(found.parts.as_slice(), &used.name) {
         Some(part) => Ok(inclusion_of(part, &found.schema.name)?),
         None => Err(ProgramRefusal::Broken(used.place, Reason::WrongSchema)),
@@ -288,7 +329,12 @@ pub fn pose_inclusion(
 fn part_named<'a>(parts: &'a [NamedPart], name: &Name) -> Option<&'a NamedPart>
     ensures { option_map (λ part. part_meant part.now) result ≡ part_named (map part_meant parts.now) name.now }
 {
-    parts.iter().find(|part| part.name == *name)
+    for part in parts {
+        if *name == part.name {
+            return Some(part);
+        }
+    }
+    None
 }
 
 /// The inclusion of a part into the schema of a printed name.

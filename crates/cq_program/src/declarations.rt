@@ -28,7 +28,7 @@ pub struct Named {
 
 /// The instances of a program in order, or the first rule that a declaration breaks, at its place.
 ///
-/// The declarations are taken in order. Each is checked in this order: its form is built (`NotBuilt`), its name is
+/// The declarations are taken in order. Each is checked in this order: its name is
 /// new (`NameTaken`), each name that it uses is declared (`NameUnknown`) and of the right kind (`WrongKind`), name by
 /// name; what the names stand for fits (`WrongSchema`): the two schemas of a mapping or a query are over one typeside
 /// declaration, the two instances of a transform over one schema, and instances over the schemas that the form wants,

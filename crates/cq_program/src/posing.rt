@@ -5,7 +5,7 @@ ghost use Rattle.cq_syntax.specs.declared.program.Body.TheVariants.{Instance as 
 ghost use Rattle.cq_theory.specs.Presentation.{IsPresentation};
 ghost use Rattle.cq_program.specs.Program.{part_count};
 ghost use Rattle.cq_program.specs.Parts.{typeside_count, schema_count, mapping_count, instance_count};
-ghost use Rattle.cq_program.specs.Checks.{arrow_breach, body_posed, identity_posed, instance_posed, is_built};
+ghost use Rattle.cq_program.specs.Checks.{arrow_breach, body_posed, folder_of, identity_posed, instance_posed};
 ghost use Rattle.cq_program.specs.Checks.{mapping_given, mapping_posed, part_breach, place_of, presentation_given};
 ghost use Rattle.cq_program.specs.Checks.{schema_given, schema_posed, typeside_given, typeside_posed};
 ghost use Rattle.cq_program.specs.Environment.{schema_meant, Answers, AreSettled, Tells, environment_of};
@@ -57,41 +57,6 @@ pub(crate) enum Statement {
     Broken(BrokenImages),
 }
 
-/// Whether declarations of this form are built.
-pub fn is_built(body: &Body) -> bool
-    ensures { result ≡ is_built body.now }
-{
-    match body {
-        Body::Typeside(_) => true,
-        Body::Schema(SchemaExp::Literal(_)) => true,
-        Body::Schema(SchemaExp::GetSchema(_)) => true,
-        Body::Instance(expression) => is_built_instance(expression),
-        Body::Colimit(_) => true,
-        Body::Mapping(MappingExp::Literal(_)) => true,
-        Body::Mapping(MappingExp::Identity(_)) => true,
-        Body::Mapping(MappingExp::GetMapping(_, _)) => true,
-        Body::Query(_) => true,
-        Body::Transform(TransformExp::Literal(_)) => true,
-        Body::Transform(TransformExp::Identity(_)) => true,
-    }
-}
-
-fn is_built_instance(expression: &InstanceExp) -> bool
-    ensures { result ≡ is_built (Instanced expression.now) }
-{
-    match expression {
-        InstanceExp::Literal(_) => true,
-        InstanceExp::Delta(_, _) => true,
-        InstanceExp::Sigma(_, _) => true,
-        InstanceExp::Eval(_, _) => true,
-        InstanceExp::Coeval(_, _) => true,
-        InstanceExp::Coproduct(_, _) => true,
-        InstanceExp::Pushout(_, _) => true,
-        InstanceExp::ImportCsv(_, _, _) => true,
-        InstanceExp::ImportCsv2(_, _, _) => true,
-    }
-}
-
 /// What the body of a declaration poses that reads no files, or the first rule of names and parts that it breaks.
 pub fn pose_body(
     alloc: Global,
@@ -100,6 +65,7 @@ pub fn pose_body(
     name: &Name,
     body: &Body,
 ) -> Result<Statement, ProgramRefusal>
+    requires no_files { folder_of body.now ≡ None }
     requires few { part_count body.now < 2 ^ 32 }
     requires settled { AreSettled (environment_of env.now.entries.items) }
     ensures posed { Answers posed_as result (body_posed (environment_of env.now.entries.items) place
@@ -131,6 +97,7 @@ fn pose_instance(
     place: Place,
     expression: &InstanceExp,
 ) -> Result<Statement, ProgramRefusal>
+    requires no_files { folder_of (Instanced expression.now) ≡ None }
     requires few { part_count (Instanced expression.now) < 2 ^ 32 }
     requires settled { AreSettled (environment_of env.now.entries.items) }
     ensures posed { (name : TheName) → Answers posed_as result
@@ -152,8 +119,8 @@ fn pose_instance(
             used,
         ),
         InstanceExp::Pushout(first, second) => pose_pushout(env, first, second),
-        InstanceExp::ImportCsv(_, _, _) => Err(ProgramRefusal::Broken(place, Reason::NotBuilt)),
-        InstanceExp::ImportCsv2(_, _, _) => Err(ProgramRefusal::Broken(place, Reason::NotBuilt)),
+        InstanceExp::ImportCsv(_, _, _) => unreachable!(),
+        InstanceExp::ImportCsv2(_, _, _) => unreachable!(),
     }
 }
 
