@@ -5,4 +5,7 @@ pub mod Placing
 pub mod Ends
 pub mod Clashes
 pub mod Joined
+pub mod Appended
+pub mod Frame
+pub mod Renumbered
 pub mod Faults

@@ -1,5 +1,5 @@
 //! Clashes of joined names.
-ghost use Rattle.std.specs.Prelude.{◌≡◌, ◌⊎◌, IfOk, IfErr, Some, None, [], min, max};
+ghost use Rattle.std.specs.Prelude.{◌≡◌, ◌⊎◌, IfOk, OnOk, IfErr, Some, None, [], min, max};
 ghost use Rattle.cq_theory.specs.Paths.{is_among};
 ghost use Rattle.cq_colimit.specs.Clashes.{lesser as lesser_of, lesser_pair as lesser_pair_of, ordered as in_order};
 ghost use Rattle.cq_colimit.specs.Clashes.{is_before as comes_before, least_giver, least_clash as clash_of};

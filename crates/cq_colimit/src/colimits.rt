@@ -1,20 +1,20 @@
 //! Colimits.
-ghost use Rattle.std.specs.Prelude.{◌≡◌, ◌+◌, ◌<◌, ◌^◌, ◌⊎◌, All, length, map, IfOk, IfErr, Some, None};
+ghost use Rattle.std.specs.Prelude.{List, ◌≡◌, ◌+◌, ◌<◌, ◌≤◌, ◌^◌, ◌⊎◌, All, length, map, IfOk, IfErr, Some, None};
 ghost use Rattle.cq_mapping.specs.Duties.{Preserves};
-ghost use Rattle.cq_colimit.specs.Joined.{joined, inclusions};
-ghost use Rattle.cq_colimit.specs.Faults.{colimit_fault};
+ghost use Rattle.cq_colimit.specs.Placing.{Part, placed as placed_of, entities_in};
+ghost use Rattle.cq_colimit.specs.Ends.{links_of};
+ghost use Rattle.cq_colimit.specs.Joined.{joined, inclusions, inclusion, framed, with_images};
+ghost use Rattle.cq_colimit.specs.Faults.{colimit_fault, joining_fault, sizes_of};
+ghost use Rattle.cq_colimit.specs.Frame.{ArePlaced};
 
-use crate::clashes::check_given;
 use crate::classes::Classes;
 use crate::ends::find_links;
-use crate::frames::{Added, Symbols, framed, images, names_of, put_first, shared};
-use crate::given::{given_arrows, given_entities};
-use crate::inclusions::include_all;
 use crate::joined::Colimit;
+use crate::joining::join;
 use crate::parts::ColimitParts;
 use crate::placed::{Placed, is_too_many, part_table, place};
 use crate::refusal::{ColimitRefusal, of_colimit};
-use cq_base::{Name, Seq};
+use cq_base::{Name, Names};
 use cq_theory::{Schema, Typeside};
 use std::alloc::Global;
 use std::rc::Rc;
@@ -52,12 +52,52 @@ pub fn colimit(
         return Err(ColimitRefusal::TooMany);
     }
     let placed = place(alloc, parts)?;
-    let entities = count_entities(&placed);
+    match join_placed(alloc, typeside, placed, &table, joins) {
+        Ok(colimit) => Ok(colimit),
+        Err(refusal) => Err(refusal),
+    }
+}
+
+/// How many entities the parts have.
+fn count_entities(parts: &[Placed]) -> u32
+    requires { (given : List Part) × (parts.now ≡ placed_of given)
+        × (sizes_of (map (λ part. part.1) given) ≤ 1000000) }
+    ensures { (given : List Part) → parts.now ≡ placed_of given → result ≡ entities_in given }
+{
+    match parts.last() {
+        Some(part) => part.start.entity + part.schema.entities.len() as u32,
+        None => 0,
+    }
+}
+
+/// The colimit of parts in their places, which have different names.
+fn join_placed(
+    alloc: Global,
+    typeside: Rc<Typeside>,
+    parts: Vec<Placed>,
+    table: &Names,
+    joins: ColimitParts,
+) -> Result<Colimit, ColimitRefusal>
+    requires table { table.now ≡ map (λ part. part.name) parts.items }
+    requires placed { (given : List Part) × ArePlaced typeside.value given parts.items }
+    requires few { length joins.path_eqs + length joins.obs_eqs ≤ 1000000 }
+    requires numbers { length parts.items + length joins.pairs + length joins.path_eqs + length joins.obs_eqs < 2 ^ 32 }
+    ensures accepted { IfOk result (λ _. joining_fault typeside.value parts.items (links_of parts.items joins.pairs)
+        (length parts.items) joins ≡ None) }
+    ensures schema { IfOk result (λ made. made.schema.value ≡ with_images (links_of parts.items joins.pairs)
+        (framed (links_of parts.items joins.pairs) typeside.value parts.items joins) parts.items) }
+    ensures inclusions { IfOk result (λ made. made.inclusions ≡ map (inclusion (links_of parts.items joins.pairs)
+        made.schema.value) parts.items) }
+    ensures preserves { IfOk result (λ made. All Preserves made.inclusions) }
+    ensures refused { IfErr result (λ refusal. (refusal ≡ ColimitRefusal.Memory) ⊎ (joining_fault typeside.value
+        parts.items (links_of parts.items joins.pairs) (length parts.items) joins ≡ Some refusal)) }
+{
+    let entities = count_entities(parts.as_slice());
     let first = parts.len() as u32;
     let found = find_links(
         alloc,
-        &placed,
-        &table,
+        parts.as_slice(),
+        table,
         entities,
         first,
         joins.pairs.as_slice(),
@@ -67,52 +107,9 @@ pub fn colimit(
         Err(refusal) => return Err(of_colimit(refusal)),
     };
     let classes = Classes::new(alloc, entities, links.as_slice())?;
-    let ColimitParts {
-        pairs,
-        path_eqs,
-        obs_eqs,
-    } = joins;
-    let first = first + pairs.len() as u32;
-    join(alloc, typeside, placed, classes, first, (path_eqs, obs_eqs))
-}
-
-/// How many entities the parts have.
-fn count_entities(parts: &[Placed]) -> u32 {
-    match parts.last() {
-        Some(part) => part.start.entity + part.schema.entities.len() as u32,
-        None => 0,
+    let first = first + joins.pairs.len() as u32;
+    match join(alloc, typeside, parts, classes, first, joins) {
+        Ok(colimit) => Ok(colimit),
+        Err(refusal) => Err(refusal),
     }
-}
-
-/// The colimit of parts with these classes of entities, where the first added equation is part `first`.
-fn join(
-    alloc: Global,
-    typeside: Rc<Typeside>,
-    parts: Vec<Placed>,
-    classes: Classes,
-    first: u32,
-    added: Added,
-) -> Result<Colimit, ColimitRefusal> {
-    let entities = given_entities(alloc, parts.as_slice(), classes.firsts.as_slice())?;
-    let arrows = given_arrows(alloc, parts.as_slice())?;
-    check_given(alloc, &typeside, entities.as_slice(), arrows.as_slice())?;
-    let symbols = Symbols {
-        parts,
-        numbers: classes.numbers,
-        entities: names_of(alloc, entities.as_slice())?,
-    };
-    let (path_eqs, obs_eqs) = images(alloc, typeside.clone()?, &symbols)?;
-    let mut schema = framed(alloc, typeside, &symbols, first, added)?;
-    put_first(alloc, &mut schema, path_eqs, obs_eqs)?;
-    let schema = shared(alloc, schema)?;
-    let inclusions = include_all(
-        alloc,
-        symbols.parts.as_slice(),
-        symbols.numbers.as_slice(),
-        &schema,
-    )?;
-    Ok(Colimit {
-        schema,
-        inclusions: Seq::from_vec(inclusions),
-    })
 }

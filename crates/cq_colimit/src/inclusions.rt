@@ -1,10 +1,11 @@
 //! The inclusions of the parts.
-ghost use Rattle.std.specs.Prelude.{ℕ, List, ◌≡◌, ◌+◌, ◌<◌, ◌≤◌, ◌^◌, ◌∷◌, [], IfOk, length, map};
+ghost use Rattle.std.specs.Prelude.{ℕ, List, ◌≡◌, ◌+◌, ◌<◌, ◌≤◌, ◌^◌, ◌∷◌, [], All, IfOk, length, map};
 ghost use Rattle.std.specs.List.{range_with_len};
 ghost use Rattle.cq_theory.specs.Canonical.{below};
-ghost use Rattle.cq_mapping.specs.Mapping.{attribute_itself};
+ghost use Rattle.cq_mapping.specs.Mapping.{IsMapping, attribute_itself};
 ghost use Rattle.cq_colimit.specs.Classes.{class_of};
 ghost use Rattle.cq_colimit.specs.Joined.{inclusion};
+ghost use Rattle.cq_colimit.specs.Frame.{HasShortNumbers, GoesInto};
 
 use crate::placed::Placed;
 use cq_base::Seq;
@@ -63,16 +64,21 @@ fn class_numbers(
 }
 
 /// The inclusion of a part in a schema of joined symbols.
-fn include(
+pub(crate) fn include(
     alloc: Global,
     part: &Placed,
     numbers: &[u32],
     target: Rc<Schema>,
 ) -> Result<Mapping, AllocError>
+    requires entities { part.now.start.entity + length part.now.schema.entities ≤ length numbers.now }
+    requires short { HasShortNumbers part.now }
+    requires mapping { (links : List (ℕ × ℕ)) × (numbers.now ≡ map (class_of links) (below (length numbers.now)))
+        × GoesInto links target.value part.now }
     ensures { (links : List (ℕ × ℕ)) → numbers.now ≡ map (class_of links) (below (length numbers.now)) → IfOk result (λ
         made. made ≡ inclusion links target.value part.now) }
 {
     let start = part.start;
+    part.schema.is_well_sorted();
     let source = part.schema.clone()?;
     let entities = class_numbers(alloc, numbers, start.entity, source.entities.len() as u32)?;
     let keys = single_keys(alloc, start.key, source.keys.len() as u32)?;
@@ -93,12 +99,19 @@ pub(crate) fn include_all(
     numbers: &[u32],
     target: &Rc<Schema>,
 ) -> Result<Vec<Mapping>, AllocError>
-    ensures { (links : List (ℕ × ℕ)) → numbers.now ≡ map (class_of links) (below (length numbers.now)) → IfOk result (λ
-        made. made.items ≡ map (inclusion links target.now.value) parts.now) }
+    requires entities { All (λ part. part.start.entity + length part.schema.entities ≤ length numbers.now) parts.now }
+    requires short { All HasShortNumbers parts.now }
+    requires mappings { (links : List (ℕ × ℕ)) × (numbers.now ≡ map (class_of links) (below (length numbers.now)))
+        × All (GoesInto links target.now.value) parts.now }
+    ensures made { (links : List (ℕ × ℕ)) → numbers.now ≡ map (class_of links) (below (length numbers.now)) → IfOk
+        result (λ made. made.items ≡ map (inclusion links target.now.value) parts.now) }
+    ensures well_sorted { IfOk result (λ made. All IsMapping made.items) }
 {
     let mut made = Vec::new(alloc);
     for part in parts {
-        made.push(include(alloc, part, numbers, target.clone()?)?)?;
+        let mapping = include(alloc, part, numbers, target.clone()?)?;
+        mapping.is_well_sorted();
+        made.push(mapping)?;
     }
     Ok(made)
 }

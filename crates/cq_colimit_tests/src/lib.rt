@@ -1,0 +1,5 @@
+//! Tests of colimits of small schemas.
+#![tactic(auto)]
+
+#[cfg(test)]
+mod tests;

@@ -1,0 +1,3 @@
+//! Colimits of small schemas.
+mod cases;
+mod given;
