@@ -1,7 +1,7 @@
 -- What schemas that are joined pose.
 use Rattle.std.proofs.Common.{◌≡◌, ◌⊎◌, inl, inr, ◌<◌, ◌≤◌, ◌+◌, ◌^◌, ℕ, zero, suc, Bool, true, false, List, [], ◌∷◌, ◌++◌, Option, Some, None, length, map, min, refl, sym, ap, ◌∙◌, subst, take, drop, get_or, drop-cons, arith}
 use Rattle.std.specs.Prelude.{All, Result, Ok, Err, if◌then◌else◌, not, option_map}
-use Rattle.std.proofs.lemmas.List.{drop_all, length-map}
+use Rattle.std.proofs.lemmas.List.{drop_all, length-map, length-take, map-append, take_more}
 use Rattle.std.proofs.lemmas.List.Elements.{All-nil, All-cons, All-head, All-tail}
 use Rattle.cq_base.specs.declared.name.Name.{Name}
 use Rattle.cq_base.specs.declared.place.Place.{Place}
@@ -23,13 +23,13 @@ use Rattle.cq_program.specs.declared.colimits.UsedSchema.{UsedSchema}
 use Rattle.cq_program.specs.declared.environment.NamedPart.{NamedPart}
 use Rattle.cq_program.specs.declared.reason.ProgramRefusal.{ProgramRefusal}
 use Rattle.cq_program.specs.declared.reason.Reason.TheVariants.{WrongSchema}
-use Rattle.cq_program.specs.Meanings.{Checked, ColimitMeant, Environment, PartMeant, SchemaMeant, and_then, colimit_used, meant_by, schema, schema_used, typeside, typeside_used}
-use Rattle.cq_program.specs.Checks.{Posed, a_colimit, broken_or, colimit_breach, colimit_given, colimit_of, colimit_over, colimit_posed, first_apart, get_mapping_posed, included, inclusion_of, named_schemas, part_named, parts_used, posed_colimit}
+use Rattle.cq_program.specs.Meanings.{Checked, ColimitMeant, Environment, PartMeant, SchemaMeant, and_then, colimit, colimit_used, meant_by, schema, schema_used, typeside, typeside_used}
+use Rattle.cq_program.specs.Checks.{Posed, a_colimit, a_schema, an_inclusion, broken_or, colimit_breach, colimit_given, colimit_of, colimit_over, colimit_posed, first_apart, get_mapping_posed, get_schema_posed, included, inclusion_of, named_schemas, part_named, parts_used, posed_colimit}
 use Rattle.cq_program.specs.Environment.{AreSettled, IsPartPrinted, IsPartSettled, IsPrinted, IsSettled, Refuses, Tells, part_meant, used_meant, useds_meant}
-use Rattle.cq_program.specs.Parts.{colimit_parts, colimit_places}
+use Rattle.cq_program.specs.Parts.{colimit_parts, colimit_places, observation_part, path_eq_part}
 use Rattle.cq_program.specs.Posing.{IsGrounded}
-use Rattle.cq_program.proofs.Given.{given, refused}
-use Rattle.cq_program.proofs.Settled.{over_typeside, schema_printed, used_settled}
+use Rattle.cq_program.proofs.Given.{given, refused, refused_after, refused_then}
+use Rattle.cq_program.proofs.Settled.{colimit_settled, over_typeside, schema_printed, used_settled}
 use Rattle.cq_program.proofs.Uses.{none_other, used_count, used_hold}
 
 -- what is posed where names are found
@@ -73,7 +73,7 @@ pub parts_few : (env : Environment) (spots : List Spot) (parts : List UsedSchema
     → length spots + pairs + path_eqs + obs_eqs < 2 ^ 32 → length parts + pairs + path_eqs + obs_eqs < 2 ^ 32
 parts_few env spots parts pairs path_eqs obs_eqs are few =
     let counted : length (useds_meant parts) ≡ length spots = used_count (λ (s : Spot). s) (schema_used env) spots (useds_meant parts) are in
-    let long : length (useds_meant parts) ≡ length parts = length-map used_meant parts in
+    let long : length (useds_meant parts) ≡ length parts = length-map parts used_meant in
     omega arith
 
 schemas_over : (T : TypesideData) (parts : List UsedSchema) → All (λ (part : UsedSchema). part.part.schema.value.typeside ≡ T) parts
@@ -84,25 +84,28 @@ schemas_over T (part ∷ parts) over =
     (All-head (λ (p : UsedSchema). p.part.schema.value.typeside ≡ T) part parts over)
     (schemas_over T parts (All-tail (λ (p : UsedSchema). p.part.schema.value.typeside ≡ T) part parts over))
 
-pub over_named : {X : Type 0} (T : TypesideData) (view : X → Part) (xs : List X) (parts : List UsedSchema) → map view xs ≡ named_schemas (useds_meant parts)
+pub over_named : {X : Type 0} (T : TypesideData) (xs : List X) (parts : List UsedSchema) (view : X → Part) → map view xs ≡ named_schemas (useds_meant parts)
     → All (λ (part : UsedSchema). part.part.schema.value.typeside ≡ T) parts → All (λ (x : X). (view x).1.typeside ≡ T) xs
-over_named T view xs parts are over =
+over_named T xs parts view are over =
     all_under (λ (part : Part). part.1.typeside ≡ T) view xs (subst (All (λ (part : Part). part.1.typeside ≡ T)) (sym are) (schemas_over T parts over))
 
 count_schemas : (parts : List UsedSchema) → length (named_schemas (useds_meant parts)) ≡ length parts
 count_schemas [] = refl
 count_schemas (part ∷ parts) = ap (λ (n : ℕ). suc n) (count_schemas parts)
 
-pub count_named : {X : Type 0} (view : X → Part) (xs : List X) (parts : List UsedSchema) → map view xs ≡ named_schemas (useds_meant parts) → length xs ≡ length parts
-count_named view xs parts are = sym (length-map view xs) ∙ ap length are ∙ count_schemas parts
+pub count_parts : (named : List Part) (parts : List UsedSchema) → named ≡ named_schemas (useds_meant parts) → length named ≡ length parts
+count_parts named parts are = ap length are ∙ count_schemas parts
+
+pub count_named : {X : Type 0} (xs : List X) (parts : List UsedSchema) (view : X → Part) → map view xs ≡ named_schemas (useds_meant parts) → length xs ≡ length parts
+count_named xs parts view are = sym (length-map xs view) ∙ ap length are ∙ count_schemas parts
 
 pub few_joins : (lit : ColimitLit) (joins : ColimitParts) (n m : ℕ) → joins ≡ colimit_parts lit → n ≡ m → m + length lit.pairs + length lit.path_eqs + length lit.obs_eqs < 2 ^ 32
     → n + length joins.pairs + length joins.path_eqs + length joins.obs_eqs < 2 ^ 32
 unfolding colimit_parts
 few_joins lit joins n m is same few =
-    let pairs : length joins.pairs ≡ length lit.pairs = ap (λ (j : ColimitParts). length j.pairs) is ∙ length-map (λ p. (p.left, p.right)) lit.pairs in
-    let path_eqs : length joins.path_eqs ≡ length lit.path_eqs = ap (λ (j : ColimitParts). length j.path_eqs) is ∙ length-map _ lit.path_eqs in
-    let obs_eqs : length joins.obs_eqs ≡ length lit.obs_eqs = ap (λ (j : ColimitParts). length j.obs_eqs) is ∙ length-map _ lit.obs_eqs in
+    let pairs : length joins.pairs ≡ length lit.pairs = ap (λ (j : ColimitParts). length j.pairs) is ∙ length-map lit.pairs (λ p. (p.left, p.right)) in
+    let path_eqs : length joins.path_eqs ≡ length lit.path_eqs = ap (λ (j : ColimitParts). length j.path_eqs) is ∙ length-map lit.path_eqs path_eq_part in
+    let obs_eqs : length joins.obs_eqs ≡ length lit.obs_eqs = ap (λ (j : ColimitParts). length j.obs_eqs) is ∙ length-map lit.obs_eqs observation_part in
     omega arith
 
 -- What is given over parts that are those of a literal.
@@ -120,7 +123,7 @@ module _ (T : TypesideData) (named : List Part) (parts : List (Spot × SchemaMea
   pub refused_as : (place : Place) (name : Name) (answer : ProgramRefusal) (found : List Place) (refusal : ColimitRefusal) → found ≡ colimit_places lit
       → Tells answer (colimit_breach place found refusal) → (refusal ≡ joining.Memory) ⊎ (colimit_fault T named joins ≡ Some refusal) → Refuses answer (colimit_given place lit name T parts)
   unfolding colimit_given
-  refused_as place name answer found refusal at tells why =
+  refused_as place name answer those refusal at tells why =
       refused (colimit_breach place (colimit_places lit)) joining.Memory refl answer refusal (colimit_fault T (named_schemas parts) (colimit_parts lit)) (colimit_of lit name T parts)
       (subst (λ (l : List Place). Tells answer (colimit_breach place l refusal)) at tells) (turned why)
     where
@@ -194,6 +197,41 @@ mapping_is env along spot c S is used =
     ap (λ (r : Checked ColimitMeant). and_then r (λ d. and_then (schema_used env spot) (λ S. inclusion_of spot d.schema.name (part_named d.parts spot.name)))) is
     ∙ ap (λ (r : Checked SchemaMeant). and_then r (λ S. inclusion_of spot c.schema.name (part_named c.parts spot.name))) used
 
+module _ (env : Environment) (along spot : Spot) (answer : ProgramRefusal) where
+  pub no_colimit : Refuses answer (colimit_used env along) → Refuses answer (get_mapping_posed env along spot)
+  no_colimit refuses = refused_then answer (colimit_used env along) (λ d. and_then (schema_used env spot) (λ S. inclusion_of spot d.schema.name (part_named d.parts spot.name))) refuses
+
+  pub no_schema : (c : ColimitMeant) → colimit_used env along ≡ Ok c → Refuses answer (schema_used env spot) → Refuses answer (get_mapping_posed env along spot)
+  no_schema c is refuses =
+      refused_after answer (colimit_used env along) c (λ d. and_then (schema_used env spot) (λ S. inclusion_of spot d.schema.name (part_named d.parts spot.name))) is
+      (refused_then answer (schema_used env spot) (λ S. inclusion_of spot c.schema.name (part_named c.parts spot.name)) refuses)
+
+module _ (env : Environment) (along spot : Spot) (c : ColimitMeant) (S : SchemaMeant) (is : colimit_used env along ≡ Ok c) (used : schema_used env spot ≡ Ok S) where
+  pub no_mapping : part_named c.parts spot.name ≡ None → get_mapping_posed env along spot ≡ Err (spot.place, WrongSchema)
+  no_mapping none = mapping_is env along spot c S is used ∙ ap (inclusion_of spot c.schema.name) none
+
+  pub one_mapping : (part : PartMeant) → part_named c.parts spot.name ≡ Some part → get_mapping_posed env along spot ≡ Ok (an_inclusion part.source c.schema.name part.inclusion)
+  one_mapping part some = mapping_is env along spot c S is used ∙ ap (inclusion_of spot c.schema.name) some
+
+pub inclusion_grounded : (env : Environment) (along : Spot) (name : Name) (c : ColimitMeant) (part : PartMeant) → AreSettled env → colimit_used env along ≡ Ok c → part_named c.parts name ≡ Some part
+    → Preserves part.inclusion × IsPrinted env part.source part.inclusion.source × IsPrinted env c.schema.name part.inclusion.target
+inclusion_grounded env along name c part settled is some =
+    let all : IsSettled env (colimit c) = colimit_settled env along c settled is in
+    part_grounded env c.schema c.parts name part (all.0, all.1) all.2 some
+
+-- what is posed of the schema of a colimit
+module _ (env : Environment) (spot : Spot) where
+  pub schema_is : (c : ColimitMeant) (S : SchemaMeant) → colimit_used env spot ≡ Ok c → S ≡ c.schema → get_schema_posed env spot ≡ Ok (a_schema S)
+  schema_is c S is same = ap (λ (r : Checked ColimitMeant). and_then r (λ d. Ok (a_schema d.schema))) is ∙ ap (λ (T : SchemaMeant). Ok (a_schema T)) (sym same)
+
+  pub schema_refused : (answer : ProgramRefusal) → Refuses answer (colimit_used env spot) → Refuses answer (get_schema_posed env spot)
+  schema_refused answer refuses = refused_then answer (colimit_used env spot) (λ d. Ok (a_schema d.schema)) refuses
+
+  pub schema_grounded : (name : Name) (c : ColimitMeant) (S : SchemaMeant) → AreSettled env → colimit_used env spot ≡ Ok c → S ≡ c.schema → IsGrounded env name (a_schema S)
+  schema_grounded name c S settled is same =
+      let all : IsSettled env (colimit c) = colimit_settled env spot c settled is in
+      subst (λ (T : SchemaMeant). IsGrounded env name (a_schema T)) (sym same) (all.0, inr all.1)
+
 -- One part more in a search.
 module _ (name : Name) (parts : List NamedPart) where
   abbrev named_or : NamedPart → Option PartMeant → Bool → Option PartMeant
@@ -232,3 +270,31 @@ included_all zero (p ∷ parts) (F ∷ Fs) is = absurd (omega arith)
 included_all (suc n) (p ∷ parts) (F ∷ Fs) is =
     let rest : n ≡ min (length parts) (length Fs) = omega arith in
     ap (λ (l : List PartMeant). record { name = p.0.name; source = p.1.name; inclusion = F } ∷ l) (included_all n parts Fs rest)
+
+-- as many of both lists, one more, and all that there are of the shorter one
+module _ {X : Type 0} (parts : List UsedSchema) (shared : List X) (view : X → MappingData) (n : ℕ) (named : List NamedPart)
+    (so_far : map part_meant named ≡ included (useds_meant (take n parts)) (map view (take n shared))) where
+  pub included_turn : (more : List NamedPart) (one : NamedPart) (part : UsedSchema) (inclusion : X) (m : ℕ) → n < length parts → n < length shared → part ≡ get_or parts n part
+      → inclusion ≡ get_or shared n inclusion → part_meant one ≡ record { name = part.name; source = part.part.name; inclusion = view inclusion } → more ≡ named ++ one ∷ [] → m ≡ n + 1
+      → map part_meant more ≡ included (useds_meant (take m parts)) (map view (take m shared))
+  included_turn more one part inclusion m inside within is at meant longer next =
+      let first : take (n + 1) parts ≡ take n parts ++ part ∷ [] = take_more parts n part inside ∙ ap (λ (x : UsedSchema). take n parts ++ x ∷ []) (sym is) in
+      let second : take (n + 1) shared ≡ take n shared ++ inclusion ∷ [] = take_more shared n inclusion within ∙ ap (λ (x : X). take n shared ++ x ∷ []) (sym at) in
+      let long : length (useds_meant (take n parts)) ≡ length (map view (take n shared)) =
+      length-map (take n parts) used_meant ∙ length-take n parts ∙ (let both : min n (length parts) ≡ min n (length shared) = omega arith in both) ∙ sym (length-take n shared) ∙ sym (length-map (take n shared) view) in
+      ap (map part_meant) longer ∙ map-append part_meant named (one ∷ [])
+      ∙ (λ i. so_far i ++ meant i ∷ [])
+      ∙ sym (included_more (useds_meant (take n parts)) (map view (take n shared)) (used_meant part) (view inclusion) long)
+      ∙ (λ i. included (sym (map-append used_meant (take n parts) (part ∷ [])) i) (sym (map-append view (take n shared) (inclusion ∷ [])) i))
+      ∙ (λ i. included (useds_meant (sym first i)) (map view (sym second i)))
+      ∙ ap (λ (k : ℕ). included (useds_meant (take k parts)) (map view (take k shared))) (sym next)
+
+  pub included_end : n ≡ min (length parts) (length shared) → map part_meant named ≡ included (useds_meant parts) (map view shared)
+  included_end is = so_far ∙ (λ i. included (seen used_meant parts n i) (seen view shared n i)) ∙ included_all n (useds_meant parts) (map view shared) counted
+    where
+      seen : {A B : Type 0} (f : A → B) (xs : List A) (k : ℕ) → map f (take k xs) ≡ take k (map f xs)
+      seen f xs zero = refl
+      seen f [] (suc k) = refl
+      seen f (x ∷ xs) (suc k) = ap (λ l. f x ∷ l) (seen f xs k)
+      counted : n ≡ min (length (useds_meant parts)) (length (map view shared))
+      counted = is ∙ (λ i. min (sym (length-map parts used_meant) i) (sym (length-map shared view) i))

@@ -14,7 +14,7 @@ use Rattle.cq_program.specs.Environment.{Refuses}
 use Rattle.cq_program.proofs.Given.{refused_after, refused_then}
 
 -- what one more and the rest give together, each gives
-record AreTwo {K A : Type 0} (key : K) (one : Checked A) (others : Checked (List (K × A))) (all : List (K × A)) : Type 0 where
+pub record AreTwo {K A : Type 0} (key : K) (one : Checked A) (others : Checked (List (K × A))) (all : List (K × A)) : Type 0 where
   pub first : A
   pub rest : List (K × A)
   pub one_is : one ≡ Ok first

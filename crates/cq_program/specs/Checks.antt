@@ -148,9 +148,9 @@ presentation_given place S lit = of_parts (part_breach place (instance_places li
 
 -- What a declaration poses whose names and parts break no rule: a theory; a mapping or a query between schemas of printed names, whose
 -- duties are to be derived; the identity of a schema; a presentation over a schema, whose model is to be made; a presentation that is made
--- of others, to which a limit applies; a colimit of schemas, and the inclusion of one of its parts; tables that are to be pulled back along a mapping, whose source has the printed name; tables to
--- which a query is to be answered, whose target has it; or the images of a transform between two instances, which are to keep the equations
--- of the first.
+-- of others, to which a limit applies; a colimit of schemas, and the inclusion of one of its parts; tables that are to be pulled back
+-- along a mapping, whose source has the printed name; tables to which a query is to be answered, whose target has it; or the images of a
+-- transform between two instances, which are to keep the equations of the first.
 pub data Posed : Type 0 where
   a_typeside : TypesideData → Posed
   a_schema : SchemaMeant → Posed
@@ -236,8 +236,8 @@ colimit_of lit name T parts = record {
 }
 
 unfoldable pub colimit_given : Place → ColimitLit → Name → TypesideData → List (Spot × SchemaMeant) → Checked ColimitMeant
-colimit_given place lit name T parts = of_parts (colimit_breach place (colimit_places lit)) (colimit_fault T (named_schemas parts) (colimit_parts lit))
-    (colimit_of lit name T parts)
+colimit_given place lit name T parts = of_parts (colimit_breach place (colimit_places lit))
+    (colimit_fault T (named_schemas parts) (colimit_parts lit)) (colimit_of lit name T parts)
 
 abbrev pub posed_colimit : Checked ColimitMeant → Checked Posed
 posed_colimit check = and_then check (λ c. Ok (a_colimit c))

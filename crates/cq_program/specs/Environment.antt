@@ -26,7 +26,8 @@ use Rattle.cq_theory.specs.Tables.{Initial}
 use Rattle.cq_model.specs.InstanceData.{InstanceData}
 use Rattle.cq_model.specs.Given.{HasLeastNames}
 use Rattle.cq_transform.specs.Transforms.{GoesFrom}
-use Rattle.cq_program.specs.Meanings.{Meant, PartMeant, ColimitMeant, colimit, schema_named, typeside, schema, mapping, query, instance, transform, Ends, SchemaMeant, MappingMeant}
+use Rattle.cq_program.specs.Meanings.{Meant, PartMeant, ColimitMeant, colimit, schema_named, typeside, schema, mapping, query}
+use Rattle.cq_program.specs.Meanings.{instance, transform, Ends, SchemaMeant, MappingMeant}
 use Rattle.cq_program.specs.Meanings.{QueryMeant, InstanceMeant, TransformMeant, Environment, Checked, meant_by}
 
 abbrev pub schema_meant : NamedSchema → SchemaMeant
@@ -113,9 +114,10 @@ abbrev pub IsPartPrinted : Environment → Spot × SchemaMeant → Type 0
 IsPartPrinted env part = IsPrinted env part.1.name part.1.schema
 
 -- What holds of each meaning: the name of a schema's typeside stands for that typeside, and its printed name for the schema; a colimit's
--- schema is so too, and each of its inclusions preserves equality and goes from the schema of its part; each duty of a mapping or a query is derivable, and the printed names of its two schemas stand for them; that of an instance's schema stands for the
--- schema, and the instance is the term model of its presentation; the names of a transform's ends stand for these, and the transform goes
--- from the one to the other.
+-- schema is so too, and each of its inclusions preserves equality and goes from the schema of its part; each duty of a mapping or a query
+-- is derivable, and the printed names of its two schemas stand for them; that of an instance's schema stands for the schema, and the
+-- instance is the term model of its presentation; the names of a transform's ends stand for these, and the transform goes from the one to
+-- the other.
 abbrev pub IsSettled : Environment → Meant → Type 0
 IsSettled env (typeside T) = Unit {0}
 IsSettled env (schema S) = (meant_by env S.typeside ≡ Some (typeside S.schema.typeside)) × (schema_named env S.name ≡ Some S)
@@ -130,7 +132,8 @@ IsSettled env (transform e t) = AreEnds env e × GoesFrom t e.start.instance e.f
 -- the same of a meaning that is to be put behind the others under a name
 abbrev pub WillSettle : Environment → Name → Meant → Type 0
 WillSettle env name (typeside T) = Unit {0}
-WillSettle env name (schema S) = (meant_by env S.typeside ≡ Some (typeside S.schema.typeside)) × ((S.name ≡ name) ⊎ (schema_named env S.name ≡ Some S))
+WillSettle env name (schema S) =
+    (meant_by env S.typeside ≡ Some (typeside S.schema.typeside)) × ((S.name ≡ name) ⊎ (schema_named env S.name ≡ Some S))
 WillSettle env name (colimit c) =
     (meant_by env c.schema.typeside ≡ Some (typeside c.schema.schema.typeside)) × (c.schema.name ≡ name)
     × All (IsPartSettled env c.schema.schema) c.parts

@@ -59,8 +59,8 @@ pub record TransformMeant : Type 0 where
   pub ends : Ends
   pub transform : Transform
 
--- What a declared name stands for. Where a schema is wanted, the name of a colimit stands for its schema. An instance goes with the printed name of its schema, a mapping and a query with those of their source
--- and their target, and a transform with its ends.
+-- What a declared name stands for. Where a schema is wanted, the name of a colimit stands for its schema. An instance goes with the
+-- printed name of its schema, a mapping and a query with those of their source and their target, and a transform with its ends.
 pub data Meant : Type 0 where
   typeside : TypesideData → Meant
   schema : SchemaMeant → Meant

@@ -39,7 +39,8 @@ use Rattle.cq_program.specs.declared.stating.Stated.TheVariants as stated
 use Rattle.cq_program.specs.Folders.{Told, TellsFault, LacksFile, Raised, rule_of, unread_fault}
 use Rattle.cq_program.specs.Meanings.{Environment, Meant, TransformMeant, typeside, colimit, schema_named}
 use Rattle.cq_program.specs.Checks.{Stated, at_once, a_folder, stated_by, Posed, a_typeside}
-use Rattle.cq_program.specs.Checks.{a_schema, a_mapping, an_identity, a_colimit, an_inclusion, a_query, a_presentation, a_made, a_delta, an_eval, a_transform}
+use Rattle.cq_program.specs.Checks.{a_schema, a_mapping, an_identity, a_colimit, an_inclusion, a_query, a_presentation}
+use Rattle.cq_program.specs.Checks.{a_made, a_delta, an_eval, a_transform}
 use Rattle.cq_program.specs.Meanings.{meant_by}
 use Rattle.cq_program.specs.Checks.{pushed_out}
 use Rattle.cq_program.specs.Environment.{AreEnds, IsPrinted, WillSettle, colimit_meant, ends_meant, schema_meant, transform_meant}
@@ -100,7 +101,8 @@ IsPosed (statement.Broken b) = IsBrokenAt b.ends.start.instance.value b.ends.fin
 -- preserves equality.
 abbrev pub IsGrounded : Environment → Name → Posed → Type 0
 IsGrounded env name (a_typeside T) = Unit {0}
-IsGrounded env name (a_schema S) = (meant_by env S.typeside ≡ Some (typeside S.schema.typeside)) × ((S.name ≡ name) ⊎ (schema_named env S.name ≡ Some S))
+IsGrounded env name (a_schema S) =
+    (meant_by env S.typeside ≡ Some (typeside S.schema.typeside)) × ((S.name ≡ name) ⊎ (schema_named env S.name ≡ Some S))
 IsGrounded env name (a_mapping n t F) = IsPrinted env n F.source × IsPrinted env t F.target
 IsGrounded env name (an_identity n S) = Preserves (identity_of S) × IsPrinted env n S
 IsGrounded env name (a_colimit c) = WillSettle env name (colimit c)

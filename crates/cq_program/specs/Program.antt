@@ -46,7 +46,8 @@ use Rattle.cq_check.specs.Answers.{IsDerivedWithin, IsNotPreserved, IsTooDeepDut
 use Rattle.cq_program.specs.Parts.{colimit_count, typeside_count, schema_count, mapping_count, query_count, instance_count, transform_count}
 use Rattle.cq_program.specs.Meanings.{Meant, typeside, schema, colimit, mapping, query, instance, transform, Ends, Environment}
 use Rattle.cq_program.specs.Checks.{Posed, a_typeside}
-use Rattle.cq_program.specs.Checks.{a_schema, a_mapping, an_identity, a_colimit, an_inclusion, a_query, a_presentation, a_made, a_delta, an_eval, a_transform}
+use Rattle.cq_program.specs.Checks.{a_schema, a_mapping, an_identity, a_colimit, an_inclusion, a_query, a_presentation}
+use Rattle.cq_program.specs.Checks.{a_made, a_delta, an_eval, a_transform}
 use Rattle.cq_program.specs.Checks.{Stated, stated_by}
 use Rattle.cq_program.specs.declared.reason.ReadCause.{ReadCause}
 use Rattle.cq_program.specs.Folders.{Told, Reads, TellsFault, LacksFile}
@@ -76,10 +77,9 @@ pub record IsTransformOf (e : Ends) (images : List Image) (t : Transform) : Type
   pub goes : GoesFrom t e.start.instance e.finish.instance
 
 -- What is posed is this: a theory itself, a mapping or a query where each of its duties is derivable, a presentation by its listed model.
--- The duties of an identity and of an inclusion are equations of the target, and so derivable. Tables that are pulled back or that are answers stand with their
--- canonical presentation, within the limits on tables; a presentation that is made of others stands by its listed model, within the limit
--- on presentations.
--- Images stand by the one homomorphism that agrees with them.
+-- The duties of an identity and of an inclusion are equations of the target, and so derivable. Tables that are pulled back or that are
+-- answers stand with their canonical presentation, within the limits on tables; a presentation that is made of others stands by its listed
+-- model, within the limit on presentations. Images stand by the one homomorphism that agrees with them.
 abbrev pub Stands : Posed → Meant → Type 0
 Stands (a_typeside T) m = m ≡ typeside T
 Stands (a_schema S) m = m ≡ schema S

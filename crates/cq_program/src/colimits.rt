@@ -7,13 +7,13 @@ ghost use Rattle.cq_colimit.specs.Faults.{colimit_fault};
 ghost use Rattle.cq_colimit.specs.Joined.{inclusions as all_inclusions, joined as joined_schema};
 ghost use Rattle.cq_mapping.specs.Duties.{Preserves};
 ghost use Rattle.cq_program.specs.Checks.{colimit_breach, colimit_given, colimit_posed, first_apart, get_mapping_posed};
-ghost use Rattle.cq_program.specs.Checks.{an_inclusion, get_schema_posed, included, named_schemas, part_named, parts_used};
-ghost use Rattle.cq_program.specs.Checks.{posed_colimit};
+ghost use Rattle.cq_program.specs.Checks.{an_inclusion, get_schema_posed, included, named_schemas, part_named};
+ghost use Rattle.cq_program.specs.Checks.{parts_used, posed_colimit};
 ghost use Rattle.cq_program.specs.Environment.{Answers, AreSettled, Refuses, Tells, colimit_meant, environment_of};
 ghost use Rattle.cq_program.specs.Environment.{IsPartPrinted, part_meant, useds_meant};
 ghost use Rattle.cq_program.specs.Meanings.{Environment as Meanings, SchemaMeant, meant_by, schema_used};
 ghost use Rattle.cq_program.specs.Meanings.{typeside as typeside_meant};
-ghost use Rattle.cq_program.specs.Parts.{colimit_count, colimit_parts as literal_parts, colimit_places as literal_places};
+ghost use Rattle.cq_program.specs.Parts.{colimit_count, colimit_parts as literal_parts};
 ghost use Rattle.cq_program.specs.Posing.{IsGrounded, IsPosed, posed_as};
 
 use crate::environment::{Environment, NamedColimit, NamedPart, NamedSchema, copy_named};
@@ -71,8 +71,8 @@ fn join_schemas(
     parts: &[UsedSchema],
     literal: &ColimitLit,
 ) -> Result<Statement, ProgramRefusal>
-    requires few { length parts.now + length literal.now.pairs + length literal.now.path_eqs + length literal.now.obs_eqs
-        < 2 ^ 32 }
+    requires few { length parts.now + length literal.now.pairs + length literal.now.path_eqs
+        + length literal.now.obs_eqs < 2 ^ 32 }
     requires over { All (λ part. part.part.schema.value.typeside ≡ typeside.value) parts.now }
     ensures posed { Answers posed_as result
         (posed_colimit (colimit_given place literal.now name.now typeside.value (useds_meant parts.now))) }
@@ -147,8 +147,8 @@ fn colimit_in(
     parts: &[UsedSchema],
     literal: &ColimitLit,
 ) -> Result<Colimit, ProgramRefusal>
-    requires few { length parts.now + length literal.now.pairs + length literal.now.path_eqs + length literal.now.obs_eqs
-        < 2 ^ 32 }
+    requires few { length parts.now + length literal.now.pairs + length literal.now.path_eqs
+        + length literal.now.obs_eqs < 2 ^ 32 }
     requires over { All (λ part. part.part.schema.value.typeside ≡ typeside.value) parts.now }
     ensures accepted { IfOk result (λ _. colimit_fault typeside.value (named_schemas (useds_meant parts.now))
         (literal_parts literal.now) ≡ None) }

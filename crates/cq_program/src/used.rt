@@ -1,8 +1,8 @@
-//! The mappings, queries, instances and transforms for which used names stand.
+//! The mappings, colimits, queries, instances and transforms for which used names stand.
 ghost use Rattle.std.specs.Prelude.{◌≡◌, IfOk};
 ghost use Rattle.cq_program.specs.Meanings.{colimit_used, mapping_used, query_used, instance_used, transform_used};
-ghost use Rattle.cq_program.specs.Environment.{Answers, colimit_meant, ends_meant, environment_of, instance_meant, mapping_meant};
-ghost use Rattle.cq_program.specs.Environment.{query_meant, transform_meant};
+ghost use Rattle.cq_program.specs.Environment.{Answers, colimit_meant, ends_meant, environment_of, instance_meant};
+ghost use Rattle.cq_program.specs.Environment.{mapping_meant, query_meant, transform_meant};
 
 use crate::environment::{
     Environment, Meaning, NamedColimit, NamedEnds, NamedInstance, NamedTransform, unknown,
