@@ -1,6 +1,6 @@
 -- What schemas that are joined pose.
 use Rattle.std.proofs.Common.{◌≡◌, ◌⊎◌, inl, inr, ◌<◌, ◌≤◌, ◌+◌, ◌^◌, ℕ, zero, suc, Bool, true, false, List, [], ◌∷◌, ◌++◌, Option, Some, None, length, map, min, refl, sym, ap, ◌∙◌, subst, take, drop, get_or, drop-cons, arith}
-use Rattle.std.specs.Prelude.{All, Result, Ok, Err, if◌then◌else◌, not, option_map}
+use Rattle.std.specs.Prelude.{All, Ok, if◌then◌else◌}
 use Rattle.std.proofs.lemmas.List.{drop_all, length-map, length-take, map-append, take_more}
 use Rattle.std.proofs.lemmas.List.Elements.{All-nil, All-cons, All-head, All-tail}
 use Rattle.cq_base.specs.declared.name.Name.{Name}
@@ -18,36 +18,18 @@ use Rattle.cq_colimit.specs.declared.refusal.ColimitRefusal.{ColimitRefusal}
 use Rattle.cq_colimit.specs.declared.refusal.ColimitRefusal.TheVariants as joining
 use Rattle.cq_colimit.specs.Faults.{colimit_fault}
 use Rattle.cq_colimit.specs.Joined.{framed, inclusion, inclusions, joined, keyed, links_in}
-use Rattle.cq_colimit.specs.Placing.{Part, past, placed, placed_from}
+use Rattle.cq_colimit.specs.Placing.{Part, past, placed_from}
 use Rattle.cq_program.specs.declared.colimits.UsedSchema.{UsedSchema}
 use Rattle.cq_program.specs.declared.environment.NamedPart.{NamedPart}
 use Rattle.cq_program.specs.declared.reason.ProgramRefusal.{ProgramRefusal}
-use Rattle.cq_program.specs.declared.reason.Reason.TheVariants.{WrongSchema}
-use Rattle.cq_program.specs.Meanings.{Checked, ColimitMeant, Environment, PartMeant, SchemaMeant, and_then, colimit, colimit_used, meant_by, schema, schema_used, typeside, typeside_used}
-use Rattle.cq_program.specs.Checks.{Posed, a_colimit, a_schema, an_inclusion, broken_or, colimit_breach, colimit_given, colimit_of, colimit_over, colimit_posed, first_apart, get_mapping_posed, get_schema_posed, included, inclusion_of, named_schemas, part_named, parts_used, posed_colimit}
+use Rattle.cq_program.specs.Meanings.{ColimitMeant, Environment, PartMeant, SchemaMeant, colimit, colimit_used, meant_by, schema, schema_used, typeside}
+use Rattle.cq_program.specs.Checks.{a_colimit, a_schema, colimit_breach, colimit_given, colimit_of, first_apart, included, named_schemas, part_named, parts_used, posed_colimit}
 use Rattle.cq_program.specs.Environment.{AreSettled, IsPartPrinted, IsPartSettled, IsPrinted, IsSettled, Refuses, Tells, part_meant, used_meant, useds_meant}
 use Rattle.cq_program.specs.Parts.{colimit_parts, colimit_places, observation_part, path_eq_part}
 use Rattle.cq_program.specs.Posing.{IsGrounded}
-use Rattle.cq_program.proofs.Given.{given, refused, refused_after, refused_then}
+use Rattle.cq_program.proofs.Given.{given, refused}
 use Rattle.cq_program.proofs.Settled.{colimit_settled, over_typeside, schema_printed, used_settled}
 use Rattle.cq_program.proofs.Uses.{none_other, used_count, used_hold}
-
--- what is posed where names are found
-module _ (env : Environment) (place : Place) (name : Name) (lit : ColimitLit) (parts : List (Spot × SchemaMeant)) (T : TypesideData)
-    (are : parts_used env lit.parts ≡ Ok parts) (is : typeside_used env lit.typeside ≡ Ok T) where
-  abbrev apart_or : Option Place → Checked Posed
-  apart_or o = and_then (broken_or parts (option_map (λ at. (at, WrongSchema)) o)) (λ over. posed_colimit (colimit_given place lit name T over))
-
-  found : colimit_posed env place name lit ≡ apart_or (first_apart lit.typeside.name parts)
-  found =
-      ap (λ (r : Checked (List (Spot × SchemaMeant))). and_then r (λ ps. and_then (typeside_used env lit.typeside) (λ U. colimit_over place lit name ps U))) are
-      ∙ ap (λ (r : Checked TypesideData). and_then r (λ U. colimit_over place lit name parts U)) is
-
-  pub colimit_is : first_apart lit.typeside.name parts ≡ None → colimit_posed env place name lit ≡ posed_colimit (colimit_given place lit name T parts)
-  colimit_is none = found ∙ ap apart_or none
-
-  pub colimit_apart : (at : Place) → first_apart lit.typeside.name parts ≡ Some at → colimit_posed env place name lit ≡ Err (at, WrongSchema)
-  colimit_apart at some = found ∙ ap apart_or some
 
 pub parts_printed : (env : Environment) (spots : List Spot) (parts : List (Spot × SchemaMeant)) → AreSettled env → parts_used env spots ≡ Ok parts → All (IsPartPrinted env) parts
 parts_printed env spots parts settled are = used_hold (λ (s : Spot). s) (schema_used env) (IsPartPrinted env) (λ spot S is. schema_printed env spot S settled is) spots parts are
@@ -111,15 +93,6 @@ few_joins lit joins n m is same few =
 -- What is given over parts that are those of a literal.
 module _ (T : TypesideData) (named : List Part) (parts : List (Spot × SchemaMeant)) (joins : ColimitParts) (lit : ColimitLit)
     (are : named ≡ named_schemas parts) (is : joins ≡ colimit_parts lit) where
-  pub accepted_as : colimit_fault T named joins ≡ None → colimit_fault T (named_schemas parts) (colimit_parts lit) ≡ None
-  accepted_as none = sym (λ i. colimit_fault T (are i) (is i)) ∙ none
-
-  pub joined_as : (S : SchemaData) → S ≡ joined T named joins → S ≡ joined T (named_schemas parts) (colimit_parts lit)
-  joined_as S h = h ∙ (λ i. joined T (are i) (is i))
-
-  pub inclusions_as : (Fs : List MappingData) → Fs ≡ inclusions T named joins → Fs ≡ inclusions T (named_schemas parts) (colimit_parts lit)
-  inclusions_as Fs h = h ∙ (λ i. inclusions T (are i) (is i))
-
   pub refused_as : (place : Place) (name : Name) (answer : ProgramRefusal) (found : List Place) (refusal : ColimitRefusal) → found ≡ colimit_places lit
       → Tells answer (colimit_breach place found refusal) → (refusal ≡ joining.Memory) ⊎ (colimit_fault T named joins ≡ Some refusal) → Refuses answer (colimit_given place lit name T parts)
   unfolding colimit_given
@@ -190,47 +163,17 @@ part_grounded env J parts name found settled each is =
     let part : IsPartSettled env J.schema found = part_holds (IsPartSettled env J.schema) parts name found each is in
     (part.0, part.1, subst (IsPrinted env J.name) (sym part.2) (J.typeside, settled.1))
 
--- what is posed of a part where names are found
-pub mapping_is : (env : Environment) (along spot : Spot) (c : ColimitMeant) (S : SchemaMeant) → colimit_used env along ≡ Ok c → schema_used env spot ≡ Ok S
-    → get_mapping_posed env along spot ≡ inclusion_of spot c.schema.name (part_named c.parts spot.name)
-mapping_is env along spot c S is used =
-    ap (λ (r : Checked ColimitMeant). and_then r (λ d. and_then (schema_used env spot) (λ S. inclusion_of spot d.schema.name (part_named d.parts spot.name)))) is
-    ∙ ap (λ (r : Checked SchemaMeant). and_then r (λ S. inclusion_of spot c.schema.name (part_named c.parts spot.name))) used
-
-module _ (env : Environment) (along spot : Spot) (answer : ProgramRefusal) where
-  pub no_colimit : Refuses answer (colimit_used env along) → Refuses answer (get_mapping_posed env along spot)
-  no_colimit refuses = refused_then answer (colimit_used env along) (λ d. and_then (schema_used env spot) (λ S. inclusion_of spot d.schema.name (part_named d.parts spot.name))) refuses
-
-  pub no_schema : (c : ColimitMeant) → colimit_used env along ≡ Ok c → Refuses answer (schema_used env spot) → Refuses answer (get_mapping_posed env along spot)
-  no_schema c is refuses =
-      refused_after answer (colimit_used env along) c (λ d. and_then (schema_used env spot) (λ S. inclusion_of spot d.schema.name (part_named d.parts spot.name))) is
-      (refused_then answer (schema_used env spot) (λ S. inclusion_of spot c.schema.name (part_named c.parts spot.name)) refuses)
-
-module _ (env : Environment) (along spot : Spot) (c : ColimitMeant) (S : SchemaMeant) (is : colimit_used env along ≡ Ok c) (used : schema_used env spot ≡ Ok S) where
-  pub no_mapping : part_named c.parts spot.name ≡ None → get_mapping_posed env along spot ≡ Err (spot.place, WrongSchema)
-  no_mapping none = mapping_is env along spot c S is used ∙ ap (inclusion_of spot c.schema.name) none
-
-  pub one_mapping : (part : PartMeant) → part_named c.parts spot.name ≡ Some part → get_mapping_posed env along spot ≡ Ok (an_inclusion part.source c.schema.name part.inclusion)
-  one_mapping part some = mapping_is env along spot c S is used ∙ ap (inclusion_of spot c.schema.name) some
-
 pub inclusion_grounded : (env : Environment) (along : Spot) (name : Name) (c : ColimitMeant) (part : PartMeant) → AreSettled env → colimit_used env along ≡ Ok c → part_named c.parts name ≡ Some part
     → Preserves part.inclusion × IsPrinted env part.source part.inclusion.source × IsPrinted env c.schema.name part.inclusion.target
 inclusion_grounded env along name c part settled is some =
     let all : IsSettled env (colimit c) = colimit_settled env along c settled is in
     part_grounded env c.schema c.parts name part (all.0, all.1) all.2 some
 
--- what is posed of the schema of a colimit
-module _ (env : Environment) (spot : Spot) where
-  pub schema_is : (c : ColimitMeant) (S : SchemaMeant) → colimit_used env spot ≡ Ok c → S ≡ c.schema → get_schema_posed env spot ≡ Ok (a_schema S)
-  schema_is c S is same = ap (λ (r : Checked ColimitMeant). and_then r (λ d. Ok (a_schema d.schema))) is ∙ ap (λ (T : SchemaMeant). Ok (a_schema T)) (sym same)
-
-  pub schema_refused : (answer : ProgramRefusal) → Refuses answer (colimit_used env spot) → Refuses answer (get_schema_posed env spot)
-  schema_refused answer refuses = refused_then answer (colimit_used env spot) (λ d. Ok (a_schema d.schema)) refuses
-
-  pub schema_grounded : (name : Name) (c : ColimitMeant) (S : SchemaMeant) → AreSettled env → colimit_used env spot ≡ Ok c → S ≡ c.schema → IsGrounded env name (a_schema S)
-  schema_grounded name c S settled is same =
-      let all : IsSettled env (colimit c) = colimit_settled env spot c settled is in
-      subst (λ (T : SchemaMeant). IsGrounded env name (a_schema T)) (sym same) (all.0, inr all.1)
+-- the schema of a colimit is settled
+pub schema_grounded : (env : Environment) (spot : Spot) (name : Name) (c : ColimitMeant) (S : SchemaMeant) → AreSettled env → colimit_used env spot ≡ Ok c → S ≡ c.schema → IsGrounded env name (a_schema S)
+schema_grounded env spot name c S settled is same =
+    let all : IsSettled env (colimit c) = colimit_settled env spot c settled is in
+    subst (λ (T : SchemaMeant). IsGrounded env name (a_schema T)) (sym same) (all.0, inr all.1)
 
 -- One part more in a search.
 module _ (name : Name) (parts : List NamedPart) where
@@ -296,5 +239,6 @@ module _ {X : Type 0} (parts : List UsedSchema) (shared : List X) (view : X → 
       seen f xs zero = refl
       seen f [] (suc k) = refl
       seen f (x ∷ xs) (suc k) = ap (λ l. f x ∷ l) (seen f xs k)
+
       counted : n ≡ min (length (useds_meant parts)) (length (map view shared))
       counted = is ∙ (λ i. min (sym (length-map parts used_meant) i) (sym (length-map shared view) i))

@@ -1,7 +1,6 @@
 -- The operands of a coproduct, one by one.
-use Rattle.std.proofs.Common.{◌≡◌, ◌<◌, ◌≤◌, ◌+◌, ℕ, suc, Bool, true, false, List, [], ◌∷◌, ◌++◌, Option, Some, None, length, take, drop, get_or, refl, sym, ap, ◌∙◌, subst, drop-cons, arith}
-use Rattle.std.proofs.lemmas.List.{drop_all, take-append-drop, take_more}
-use Rattle.std.specs.Prelude.{All, Result, Ok, Err, if◌then◌else◌, map, not, option_map}
+use Rattle.std.proofs.Common.{◌≡◌, ◌<◌, ◌≤◌, ◌+◌, ℕ, true, false, List, [], ◌∷◌, ◌++◌, Option, Some, None, length, take, drop, get_or, refl, sym, ap, ◌∙◌}
+use Rattle.std.specs.Prelude.{All, Ok, Err, map, not, option_map}
 use Rattle.std.proofs.lemmas.List.Elements.{All-nil, All-cons, All-head, All-tail}
 use Rattle.cq_base.specs.declared.name.Name.{Name}
 use Rattle.cq_base.specs.declared.place.Place.{Place}
@@ -15,7 +14,6 @@ use Rattle.cq_program.specs.Meanings.{Checked, Environment, InstanceMeant, Schem
 use Rattle.cq_program.specs.Checks.{Posed, a_made, broken_or, coproduct_over, coproduct_posed, first_misfit, operands_used, presentations_of}
 use Rattle.cq_program.specs.declared.gluing.Operand.{Operand}
 use Rattle.cq_program.specs.Environment.{AreSettled, IsPrinted, Refuses, operand_meant, operands_meant}
-use Rattle.cq_program.proofs.Given.{refused_after, refused_then}
 use Rattle.cq_program.proofs.Settled.{instance_settled, one_printed}
 use Rattle.cq_program.proofs.Uses.{used_refused_at, used_given_at, used_hold, none_other, same_at, other_at, no_other}
 

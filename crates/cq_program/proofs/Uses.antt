@@ -1,7 +1,7 @@
 -- What used names stand for, one by one.
 use Rattle.std.proofs.Common.{◌≡◌, ◌<◌, ◌≤◌, ◌+◌, ℕ, suc, Bool, true, false, List, [], ◌∷◌, ◌++◌, Option, Some, None, length, take, drop, get_or, refl, sym, ap, ◌∙◌, subst, drop-cons, arith}
 use Rattle.std.proofs.lemmas.List.{drop_all, take-append-drop, take_more}
-use Rattle.std.specs.Prelude.{All, Result, Ok, Err, if◌then◌else◌, map, not}
+use Rattle.std.specs.Prelude.{All, Ok, Err, if◌then◌else◌, map, not}
 use Rattle.std.proofs.lemmas.List.Elements.{All-nil, All-cons, All-head, All-tail}
 use Rattle.cq_base.specs.declared.name.Name.{Name}
 use Rattle.cq_base.specs.declared.place.Place.{Place}

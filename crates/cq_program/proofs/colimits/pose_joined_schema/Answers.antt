@@ -1,4 +1,3 @@
-use Rattle.std.proofs.Common.{sym}
 use Rattle.cq_program.specs.Environment.{colimit_meant, environment_of, schema_meant}
 use Rattle.cq_program.proofs.ColimitsPosed.{schema_grounded}
 use Rattle.cq_program.proofs.colimits.pose_joined_schema.Goals as goal
