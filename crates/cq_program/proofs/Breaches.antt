@@ -14,7 +14,8 @@ use Rattle.cq_model.specs.InstanceData.{InstanceData}
 use Rattle.cq_model.specs.Given.{is_oversized}
 use Rattle.cq_mapping.specs.Moved.{delta_tables}
 use Rattle.cq_program.specs.declared.reason.Reason.{Reason}
-use Rattle.cq_program.specs.Checks.{Meant, Environment, Checked, Posed, a_typeside, a_schema, a_mapping, an_identity, a_query, a_presentation, a_made, a_delta, an_eval, a_transform, Stated, stated_by}
+use Rattle.cq_program.specs.Meanings.{Meant, Environment, Checked}
+use Rattle.cq_program.specs.Checks.{Posed, a_typeside, a_schema, a_mapping, an_identity, a_colimit, an_inclusion, a_query, a_presentation, a_made, a_delta, an_eval, a_transform, Stated, stated_by}
 use Rattle.cq_program.specs.declared.reason.ReadCause.{ReadCause}
 use Rattle.cq_program.specs.declared.reason.ReadCause.TheVariants.{Failed}
 use Rattle.cq_program.specs.Folders.{Reads, TellsFault, LacksFile}
@@ -64,6 +65,8 @@ exceeds_limit depth (a_typeside T) reason exceeds = absurd exceeds
 exceeds_limit depth (a_schema S) reason exceeds = absurd exceeds
 exceeds_limit depth (a_mapping n t F) reason exceeds = exceeds_at_duty depth F reason exceeds.0 exceeds.1
 exceeds_limit depth (an_identity n S) reason exceeds = absurd exceeds
+exceeds_limit depth (a_colimit c) reason exceeds = absurd exceeds
+exceeds_limit depth (an_inclusion source target F) reason exceeds = absurd exceeds
 exceeds_limit depth (a_query n t Q) reason exceeds = exceeds_at_query_duty depth Q reason exceeds.0 exceeds.1
 exceeds_limit depth (a_presentation n S P) reason exceeds = exceeds_at_model depth S P reason exceeds
 exceeds_limit depth (a_made n S P) reason exceeds = exceeds_at_model depth S P reason exceeds.1
@@ -99,6 +102,8 @@ no_failure (a_typeside T) m reason stands fails = fails
 no_failure (a_schema S) m reason stands fails = fails
 no_failure (a_mapping n t F) m reason stands fails = kept F reason stands.1 fails
 no_failure (an_identity n S) m reason stands fails = fails
+no_failure (a_colimit c) m reason stands fails = fails
+no_failure (an_inclusion source target F) m reason stands fails = fails
 no_failure (a_query n t Q) m reason stands fails = kept_query Q reason stands.1 fails
 no_failure (a_presentation n S P) m reason stands fails = stands.2.consistent (fails.least, fails.greater, fails.equal)
 no_failure (a_made n S P) m reason stands fails = none_made S P reason stands.0 stands.3 stands.2 fails
@@ -111,6 +116,8 @@ one_failure (a_typeside T) reason other fails fails' = absurd fails
 one_failure (a_schema S) reason other fails fails' = absurd fails
 one_failure (a_mapping n t F) reason other fails fails' = one_unkept F reason other fails fails'
 one_failure (an_identity n S) reason other fails fails' = absurd fails
+one_failure (a_colimit c) reason other fails fails' = absurd fails
+one_failure (an_inclusion source target F) reason other fails fails' = absurd fails
 one_failure (a_query n t Q) reason other fails fails' = one_unsound Q reason other fails fails'
 one_failure (a_presentation n S P) reason other fails fails' = one_clash S P reason other fails fails'
 one_failure (a_made n S P) reason other fails fails' = one_made S P reason other fails fails'

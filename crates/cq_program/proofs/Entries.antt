@@ -7,7 +7,7 @@ use Rattle.std.proofs.lemmas.List.{length-map}
 use Rattle.std.proofs.lemmas.Option.{slice_get-get_or}
 use Rattle.cq_base.proofs.Numbers.{position-cons, number_of-within}
 use Rattle.cq_program.specs.declared.environment.Entry.{Entry}
-use Rattle.cq_program.specs.Checks.{Meant, meant_by}
+use Rattle.cq_program.specs.Meanings.{Meant, meant_by}
 use Rattle.cq_program.specs.Environment.{entry_names, environment_of, meant}
 
 abbrev meant_at : List Entry → ℕ → Option Meant

@@ -11,7 +11,8 @@ use Rattle.cq_program.specs.declared.reason.ProgramRefusal.{ProgramRefusal}
 use Rattle.cq_program.specs.declared.reason.ProgramRefusal.TheVariants as program_refusal
 use Rattle.cq_program.specs.declared.reason.ReadCause.{ReadCause}
 use Rattle.cq_program.specs.declared.reason.ReadCause.TheVariants.{Absent, TooLong, Failed}
-use Rattle.cq_program.specs.Checks.{Environment, Meant, Posed, Stated, stated_by}
+use Rattle.cq_program.specs.Meanings.{Environment, Meant}
+use Rattle.cq_program.specs.Checks.{Posed, Stated, stated_by}
 use Rattle.cq_program.specs.Folders.{Told, Reads, LacksFile, Raised}
 use Rattle.cq_program.specs.declared.environment.Entry.{Entry}
 use Rattle.cq_program.specs.Environment.{Refuses, environment_of, meant}

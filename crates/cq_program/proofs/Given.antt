@@ -5,7 +5,8 @@ use Rattle.cq_base.specs.declared.place.Place.{Place}
 use Rattle.cq_program.specs.declared.reason.Reason.{Reason}
 use Rattle.cq_program.specs.declared.reason.ProgramRefusal.{ProgramRefusal}
 use Rattle.cq_program.specs.declared.reason.ProgramRefusal.TheVariants as program_refusal
-use Rattle.cq_program.specs.Checks.{Checked, broken_or, of_parts, and_then}
+use Rattle.cq_program.specs.Meanings.{Checked, and_then}
+use Rattle.cq_program.specs.Checks.{broken_or, of_parts}
 use Rattle.cq_program.specs.Environment.{Refuses, Tells}
 
 -- the parts break no rule

@@ -22,7 +22,8 @@ use Rattle.cq_transform.specs.Transforms.{GoesFrom}
 use Rattle.cq_program.specs.declared.reason.ProgramRefusal.{ProgramRefusal}
 use Rattle.cq_program.specs.declared.reason.Reason.TheVariants.{WrongSchema}
 use Rattle.cq_program.specs.declared.posing.Statement.{Statement}
-use Rattle.cq_program.specs.Checks.{Checked, Ends, Environment, InstanceMeant, Posed, a_transform, and_then, arrow_breach, ends_of, images_given, images_posed, instance_used, transform_between, transform_posed}
+use Rattle.cq_program.specs.Meanings.{Checked, Ends, Environment, InstanceMeant, and_then, instance_used}
+use Rattle.cq_program.specs.Checks.{Posed, a_transform, arrow_breach, ends_of, images_given, images_posed, transform_between, transform_posed}
 use Rattle.cq_program.specs.Environment.{Answers, AreEnds, IsTermModel, Refuses, Tells}
 use Rattle.cq_program.specs.Images.{broken_by_images, rule_on_images}
 use Rattle.cq_program.specs.Parts.{transform_count, transform_parts, transform_places}

@@ -15,7 +15,7 @@ use Rattle.cq_transform.specs.Transforms.{GoesFrom, meanings_in}
 use Rattle.cq_transform.proofs.ExactlyOne.{one_homomorphism}
 use Rattle.cq_program.specs.declared.reason.Reason.{Reason}
 use Rattle.cq_program.specs.declared.reason.Reason.TheVariants.{Broken}
-use Rattle.cq_program.specs.Checks.{Ends}
+use Rattle.cq_program.specs.Meanings.{Ends}
 use Rattle.cq_program.specs.Program.{IsTransformOf, TellsBroken}
 
 -- the images of a transform keep each equation of its start

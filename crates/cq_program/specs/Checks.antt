@@ -1,5 +1,5 @@
--- What declared names stand for, and the rules of names and parts.
-use Rattle.std.specs.Prelude.{ℕ, Bool, true, false, List, [], ◌∷◌, Option, Some, None, Result, Ok, Err, if◌then◌else◌, is_some, map}
+-- The rules of names and parts.
+use Rattle.std.specs.Prelude.{ℕ, ◌+◌, List, [], ◌∷◌, Option, Some, None, Ok, Err, if◌then◌else◌, is_some, map}
 use Rattle.std.specs.Prelude.{slice_index_or, option_and_then, option_map}
 use Rattle.cq_base.specs.declared.name.Name.{Name}
 use Rattle.cq_base.specs.declared.place.Place.{Place}
@@ -7,6 +7,7 @@ use Rattle.cq_base.specs.Names.{same_name}
 use Rattle.cq_syntax.specs.declared.part.Spot.{Spot}
 use Rattle.cq_syntax.specs.declared.literal.TypesideLit.{TypesideLit}
 use Rattle.cq_syntax.specs.declared.literal.SchemaLit.{SchemaLit}
+use Rattle.cq_syntax.specs.declared.literal.ColimitLit.{ColimitLit}
 use Rattle.cq_syntax.specs.declared.literal.InstanceLit.{InstanceLit}
 use Rattle.cq_syntax.specs.declared.literal.MappingLit.{MappingLit}
 use Rattle.cq_syntax.specs.declared.literal.QueryLit.{QueryLit}
@@ -32,7 +33,6 @@ use Rattle.cq_theory.specs.Parts.{presentation_fault, presented}
 use Rattle.cq_theory.specs.Tables.{Tables}
 use Rattle.cq_model.specs.InstanceData.{InstanceData}
 use Rattle.cq_model.specs.declared.transform.Image.{Image}
-use Rattle.cq_model.specs.declared.transform.Transform.{Transform}
 use Rattle.cq_mapping.specs.MappingData.{MappingData}
 use Rattle.cq_mapping.specs.MappingParts.{mapping_fault, mapping_made}
 use Rattle.cq_mapping.specs.Images.{sigma}
@@ -42,124 +42,25 @@ use Rattle.cq_query.specs.Coeval.{coeval_of}
 use Rattle.cq_transform.specs.Identities.{identity_images}
 use Rattle.cq_transform.specs.Images.{images_made}
 use Rattle.cq_push.specs.Gluing.{coproduct_of, pushout_of}
+use Rattle.cq_colimit.specs.declared.refusal.ColimitRefusal.{ColimitRefusal}
+use Rattle.cq_colimit.specs.declared.refusal.ColimitRefusal.TheVariants as joining
+use Rattle.cq_colimit.specs.Faults.{colimit_fault}
+use Rattle.cq_colimit.specs.Joined.{joined, inclusions}
+use Rattle.cq_colimit.specs.Placing.{Part}
 use Rattle.cq_program.specs.declared.reason.Reason.{Reason}
-use Rattle.cq_program.specs.declared.reason.Reason.TheVariants.{NameTaken, NameUnknown, WrongKind, WrongSchema, Duplicate, Unknown}
-use Rattle.cq_program.specs.declared.reason.Reason.TheVariants.{WrongCount, WrongSort, Reserved, TooLarge, Missing, NotASpan, NotBuilt}
+use Rattle.cq_program.specs.declared.reason.Reason.TheVariants.{NameTaken, WrongSchema, Duplicate, Unknown}
+use Rattle.cq_program.specs.declared.reason.Reason.TheVariants.{WrongCount, WrongSort, Reserved, TooLarge, Missing, NotASpan}
+use Rattle.cq_program.specs.declared.reason.Reason.TheVariants.{Oversized, NameClash, LongName, WrongKind}
 use Rattle.cq_program.specs.Images.{broken_by_images}
 use Rattle.cq_program.specs.declared.stating.Format.{Format}
 use Rattle.cq_program.specs.declared.stating.Format.TheVariants.{First, Second}
 use Rattle.cq_program.specs.Parts.{typeside_parts, typeside_places, schema_parts, schema_places, instance_parts, instance_places}
+use Rattle.cq_program.specs.Parts.{colimit_parts, colimit_places}
 use Rattle.cq_program.specs.Parts.{mapping_parts, mapping_places, query_parts, query_places, transform_parts, transform_places}
-
--- A schema, with the name under which it is printed, that of its own declaration, and the name of its typeside's declaration. Two names
--- stand for one schema exactly where the printed names are one, and two schemas are over one typeside declaration exactly where the
--- typesides' names are one.
-pub record SchemaMeant : Type 0 where
-  pub name : Name
-  pub typeside : Name
-  pub schema : SchemaData
-
--- A mapping or a query, with the printed names of its source and its target; an instance, with that of its schema.
-pub record MappingMeant : Type 0 where
-  pub source : Name
-  pub target : Name
-  pub mapping : MappingData
-
-pub record QueryMeant : Type 0 where
-  pub source : Name
-  pub target : Name
-  pub query : QueryData
-
-pub record InstanceMeant : Type 0 where
-  pub schema : Name
-  pub instance : InstanceData
-
--- the declared names of the instances from which and to which a transform goes, and what they stand for
-pub record Ends : Type 0 where
-  pub source : Name
-  pub target : Name
-  pub start : InstanceMeant
-  pub finish : InstanceMeant
-
-pub record TransformMeant : Type 0 where
-  pub ends : Ends
-  pub transform : Transform
-
--- What a declared name stands for. An instance goes with the printed name of its schema, a mapping and a query with those of their source
--- and their target, and a transform with its ends.
-pub data Meant : Type 0 where
-  typeside : TypesideData → Meant
-  schema : SchemaMeant → Meant
-  mapping : Name → Name → MappingData → Meant
-  query : Name → Name → QueryData → Meant
-  instance : Name → InstanceData → Meant
-  transform : Ends → Transform → Meant
-
--- the declared names in order, with what they stand for
-abbrev pub Environment : Type 0
-Environment = List (Name × Meant)
-
-abbrev pub meant_by : Environment → Name → Option Meant
-meant_by [] name = None
-meant_by (entry ∷ entries) name = if same_name name entry.0 then Some entry.1 else meant_by entries name
-
--- what a check gives, or the place and the reason of the first rule that is broken
-abbrev pub Checked : Type 0 → Type 0
-Checked A = Result A (Place × Reason)
-
--- one check and then, with what it gives, another
-abbrev pub and_then : {A B : Type 0} → Checked A → (A → Checked B) → Checked B
-and_then (Ok a) f = f a
-and_then (Err broken) f = Err broken
-
--- A used name is declared, and then it is of the right kind.
-abbrev pub as_typeside : Place → Option Meant → Checked TypesideData
-as_typeside place None = Err (place, NameUnknown)
-as_typeside place (Some (typeside T)) = Ok T
-as_typeside place (Some _) = Err (place, WrongKind)
-
-abbrev pub as_schema : Place → Option Meant → Checked SchemaMeant
-as_schema place None = Err (place, NameUnknown)
-as_schema place (Some (schema S)) = Ok S
-as_schema place (Some _) = Err (place, WrongKind)
-
-abbrev pub as_mapping : Place → Option Meant → Checked MappingMeant
-as_mapping place None = Err (place, NameUnknown)
-as_mapping place (Some (mapping n m F)) = Ok (record { source = n; target = m; mapping = F })
-as_mapping place (Some _) = Err (place, WrongKind)
-
-abbrev pub as_query : Place → Option Meant → Checked QueryMeant
-as_query place None = Err (place, NameUnknown)
-as_query place (Some (query n m Q)) = Ok (record { source = n; target = m; query = Q })
-as_query place (Some _) = Err (place, WrongKind)
-
-abbrev pub as_instance : Place → Option Meant → Checked InstanceMeant
-as_instance place None = Err (place, NameUnknown)
-as_instance place (Some (instance n i)) = Ok (record { schema = n; instance = i })
-as_instance place (Some _) = Err (place, WrongKind)
-
-abbrev pub as_transform : Place → Option Meant → Checked TransformMeant
-as_transform place None = Err (place, NameUnknown)
-as_transform place (Some (transform e t)) = Ok (record { ends = e; transform = t })
-as_transform place (Some _) = Err (place, WrongKind)
-
-abbrev pub typeside_used : Environment → Spot → Checked TypesideData
-typeside_used env spot = as_typeside spot.place (meant_by env spot.name)
-
-abbrev pub schema_used : Environment → Spot → Checked SchemaMeant
-schema_used env spot = as_schema spot.place (meant_by env spot.name)
-
-abbrev pub mapping_used : Environment → Spot → Checked MappingMeant
-mapping_used env spot = as_mapping spot.place (meant_by env spot.name)
-
-abbrev pub query_used : Environment → Spot → Checked QueryMeant
-query_used env spot = as_query spot.place (meant_by env spot.name)
-
-abbrev pub instance_used : Environment → Spot → Checked InstanceMeant
-instance_used env spot = as_instance spot.place (meant_by env spot.name)
-
-abbrev pub transform_used : Environment → Spot → Checked TransformMeant
-transform_used env spot = as_transform spot.place (meant_by env spot.name)
+use Rattle.cq_program.specs.Meanings.{Checked, ColimitMeant, Ends, Environment, InstanceMeant, MappingMeant, PartMeant, QueryMeant}
+use Rattle.cq_program.specs.Meanings.{SchemaMeant, TransformMeant, and_then, colimit, colimit_used, instance, instance_used, mapping}
+use Rattle.cq_program.specs.Meanings.{mapping_used, meant_by, query, query_used, schema, schema_used, transform, transform_used, typeside}
+use Rattle.cq_program.specs.Meanings.{typeside_used}
 
 -- the place of part n of a declaration that stands at `place`
 abbrev pub place_of : Place → List Place → ℕ → Place
@@ -175,6 +76,19 @@ part_breach place places (refusal.Reserved n) = Some (place_of place places n, R
 part_breach place places (refusal.TooLarge n) = Some (place_of place places n, TooLarge)
 part_breach place places refusal.Memory = None
 
+-- The same of a colimit. Two joined names that are one, and one that is too long, are told with the numbers of their schemas, from 1.
+abbrev pub colimit_breach : Place → List Place → ColimitRefusal → Option (Place × Reason)
+colimit_breach place places (joining.Duplicate n) = Some (place_of place places n, Duplicate)
+colimit_breach place places (joining.Unknown n) = Some (place_of place places n, Unknown)
+colimit_breach place places (joining.WrongCount n) = Some (place_of place places n, WrongCount)
+colimit_breach place places (joining.WrongSort n) = Some (place_of place places n, WrongSort)
+colimit_breach place places (joining.Reserved n) = Some (place_of place places n, Reserved)
+colimit_breach place places (joining.TooLarge n) = Some (place_of place places n, TooLarge)
+colimit_breach place places (joining.NameClash m n) = Some (place, NameClash (m + 1) (n + 1))
+colimit_breach place places (joining.LongName n) = Some (place, LongName (n + 1))
+colimit_breach place places joining.TooMany = Some (place, Oversized)
+colimit_breach place places joining.Memory = None
+
 -- the same of a mapping or a query, whose missing parts are told at its declaration
 abbrev pub arrow_breach : Place → List Place → ArrowRefusal → Option (Place × Reason)
 arrow_breach place places (arrow.Duplicate n) = Some (place_of place places n, Duplicate)
@@ -185,6 +99,14 @@ arrow_breach place places (arrow.Reserved n) = Some (place_of place places n, Re
 arrow_breach place places (arrow.TooLarge n) = Some (place_of place places n, TooLarge)
 arrow_breach place places (arrow.Missing name) = Some (place, Missing name)
 arrow_breach place places arrow.Memory = None
+
+-- the schemas that are joined, under their names, and their inclusions
+abbrev pub named_schemas : List (Spot × SchemaMeant) → List Part
+named_schemas parts = map (λ part. (part.0.name, part.1.schema)) parts
+
+abbrev pub included : List (Spot × SchemaMeant) → List MappingData → List PartMeant
+included (part ∷ parts) (F ∷ Fs) = record { name = part.0.name; source = part.1.name; inclusion = F } ∷ included parts Fs
+included _ _ = []
 
 abbrev pub broken_or : {A : Type 0} → A → Option (Place × Reason) → Checked A
 broken_or made None = Ok made
@@ -226,14 +148,16 @@ presentation_given place S lit = of_parts (part_breach place (instance_places li
 
 -- What a declaration poses whose names and parts break no rule: a theory; a mapping or a query between schemas of printed names, whose
 -- duties are to be derived; the identity of a schema; a presentation over a schema, whose model is to be made; a presentation that is made
--- of others, to which a limit applies; tables that are to be pulled back along a mapping, whose source has the printed name; tables to
--- which a query is to be answered, whose target has it; or the images of a transform between two instances, which are to keep the equations
--- of the first.
+-- of others, to which a limit applies; a colimit of schemas, and the inclusion of one of its parts; tables that are to be pulled back
+-- along a mapping, whose source has the printed name; tables to which a query is to be answered, whose target has it; or the images of a
+-- transform between two instances, which are to keep the equations of the first.
 pub data Posed : Type 0 where
   a_typeside : TypesideData → Posed
   a_schema : SchemaMeant → Posed
   a_mapping : Name → Name → MappingData → Posed
   an_identity : Name → SchemaData → Posed
+  a_colimit : ColimitMeant → Posed
+  an_inclusion : Name → Name → MappingData → Posed
   a_query : Name → Name → QueryData → Posed
   a_presentation : Name → SchemaData → Presentation → Posed
   a_made : Name → SchemaData → Presentation → Posed
@@ -284,6 +208,71 @@ instance_posed env place lit =
     and_then (presentation_given place over.schema lit) (λ P.
     Ok (a_presentation over.name over.schema P)))
 
+-- what used names stand for, in order, each with what is kept of the name
+abbrev pub all_used : {K A : Type 0} → (Spot → K) → (Spot → Checked A) → List Spot → Checked (List (K × A))
+all_used key find [] = Ok []
+all_used key find (spot ∷ spots) =
+    and_then (find spot) (λ a.
+    and_then (all_used key find spots) (λ rest.
+    Ok ((key spot, a) ∷ rest)))
+
+-- the place of the first of them that is over something of another name
+abbrev pub first_other : {K A : Type 0} → (K → Place) → (A → Name) → Name → List (K × A) → Option Place
+first_other at over n [] = None
+first_other at over n (one ∷ rest) = if same_name n (over one.1) then first_other at over n rest else Some (at one.0)
+
+-- the schemas that are joined, in order, each with the name under which it stands
+abbrev pub parts_used : Environment → List Spot → Checked (List (Spot × SchemaMeant))
+parts_used env spots = all_used (λ spot. spot) (schema_used env) spots
+
+-- the place of the first of them that isn't over the typeside declaration of a name
+abbrev pub first_apart : Name → List (Spot × SchemaMeant) → Option Place
+first_apart n parts = first_other (λ spot. spot.place) (λ S. S.typeside) n parts
+
+abbrev pub colimit_of : ColimitLit → Name → TypesideData → List (Spot × SchemaMeant) → ColimitMeant
+colimit_of lit name T parts = record {
+  schema = record { name = name; typeside = lit.typeside.name; schema = joined T (named_schemas parts) (colimit_parts lit) };
+  parts = included parts (inclusions T (named_schemas parts) (colimit_parts lit));
+}
+
+unfoldable pub colimit_given : Place → ColimitLit → Name → TypesideData → List (Spot × SchemaMeant) → Checked ColimitMeant
+colimit_given place lit name T parts = of_parts (colimit_breach place (colimit_places lit))
+    (colimit_fault T (named_schemas parts) (colimit_parts lit)) (colimit_of lit name T parts)
+
+abbrev pub posed_colimit : Checked ColimitMeant → Checked Posed
+posed_colimit check = and_then check (λ c. Ok (a_colimit c))
+
+-- Each part is over the stated typeside, and then the parts are joined.
+abbrev pub colimit_over : Place → ColimitLit → Name → List (Spot × SchemaMeant) → TypesideData → Checked Posed
+colimit_over place lit name parts T =
+    and_then (broken_or parts (option_map (λ at. (at, WrongSchema)) (first_apart lit.typeside.name parts)))
+    (λ over. posed_colimit (colimit_given place lit name T over))
+
+abbrev pub colimit_posed : Environment → Place → Name → ColimitLit → Checked Posed
+colimit_posed env place name lit =
+    and_then (parts_used env lit.parts) (λ parts.
+    and_then (typeside_used env lit.typeside) (λ T.
+    colimit_over place lit name parts T))
+
+-- the schema of a colimit, under the colimit's name
+abbrev pub get_schema_posed : Environment → Spot → Checked Posed
+get_schema_posed env spot = and_then (colimit_used env spot) (λ c. Ok (a_schema c.schema))
+
+-- the part that stands under a name in the colimit's declaration
+abbrev pub part_named : List PartMeant → Name → Option PartMeant
+part_named [] name = None
+part_named (part ∷ parts) name = if same_name name part.name then Some part else part_named parts name
+
+abbrev pub inclusion_of : Spot → Name → Option PartMeant → Checked Posed
+inclusion_of spot name None = Err (spot.place, WrongSchema)
+inclusion_of spot name (Some part) = Ok (an_inclusion part.source name part.inclusion)
+
+abbrev pub get_mapping_posed : Environment → Spot → Spot → Checked Posed
+get_mapping_posed env along spot =
+    and_then (colimit_used env along) (λ c.
+    and_then (schema_used env spot) (λ S.
+    inclusion_of spot c.schema.name (part_named c.parts spot.name)))
+
 -- The instance is over the target of a mapping along which it is pulled back, and over the source of one along which it is moved.
 abbrev pub delta_between : Spot → MappingMeant → InstanceMeant → Checked Posed
 delta_between spot F i = if same_name F.target i.schema then Ok (a_delta F.source F.mapping i.instance.tables)
@@ -318,16 +307,11 @@ coeval_posed env along spot = and_then (query_used env along) (λ Q. and_then (i
 
 -- the operands of a coproduct, in order, each with its place
 abbrev pub operands_used : Environment → List Spot → Checked (List (Place × InstanceMeant))
-operands_used env [] = Ok []
-operands_used env (spot ∷ spots) =
-    and_then (instance_used env spot) (λ i.
-    and_then (operands_used env spots) (λ rest.
-    Ok ((spot.place, i) ∷ rest)))
+operands_used env spots = all_used (λ spot. spot.place) (instance_used env) spots
 
 -- the place of the first operand that isn't over the schema of a printed name
 abbrev pub first_misfit : Name → List (Place × InstanceMeant) → Option Place
-first_misfit n [] = None
-first_misfit n (operand ∷ rest) = if same_name n operand.1.schema then first_misfit n rest else Some operand.0
+first_misfit n operands = first_other (λ place. place) (λ i. i.schema) n operands
 
 abbrev pub presentations_of : List (Place × InstanceMeant) → List Presentation
 presentations_of operands = map (λ operand. operand.1.instance.presentation) operands
@@ -383,16 +367,13 @@ transform_posed env place lit =
     and_then (instance_used env lit.target) (λ j.
     transform_between place lit i j))
 
--- the forms that are built
-abbrev pub is_built : Body → Bool
-is_built (Schema (schema_exp.GetSchema spot)) = false
-is_built (Colimit lit) = false
-is_built (Mapping (mapping_exp.GetMapping colimit part)) = false
-is_built _ = true
-
+-- What a body poses that reads no files. A folder of files poses what these give, and nothing by itself.
 abbrev pub body_posed : Environment → Place → Name → Body → Checked Posed
 body_posed env place name (Typeside lit) = typeside_posed place lit
 body_posed env place name (Schema (schema_exp.Literal lit)) = schema_posed env place name lit
+body_posed env place name (Schema (schema_exp.GetSchema spot)) = get_schema_posed env spot
+body_posed env place name (Colimit lit) = colimit_posed env place name lit
+body_posed env place name (Mapping (mapping_exp.GetMapping along spot)) = get_mapping_posed env along spot
 body_posed env place name (Mapping (mapping_exp.Literal lit)) = mapping_posed env place lit
 body_posed env place name (Mapping (mapping_exp.Identity spot)) = identity_posed env spot
 body_posed env place name (Query lit) = query_posed env place lit
@@ -405,7 +386,7 @@ body_posed env place name (Instance (instance_exp.Coproduct spots spot)) = copro
 body_posed env place name (Instance (instance_exp.Pushout first second)) = pushout_posed env first second
 body_posed env place name (Transformed (transform_exp.Literal lit)) = transform_posed env place lit
 body_posed env place name (Transformed (transform_exp.Identity spot)) = identical_posed env spot
-body_posed env place name _ = Err (place, NotBuilt)
+body_posed env place name _ = Err (place, WrongKind)
 
 -- What a declaration states whose names and parts break no rule: what it poses at once, or a folder of files, by its format, over the
 -- schema of a printed name, whose files are to be read.
@@ -436,9 +417,7 @@ stated_from env (Some folder) check = folder_stated env folder
 abbrev pub body_stated : Environment → Place → Name → Body → Checked Stated
 body_stated env place name body = stated_from env (folder_of body) (body_posed env place name body)
 
--- The checks of names and parts of a declaration, in their order: its form is built, its name is new, and then those of its body.
+-- The checks of names and parts of a declaration, in their order: its name is new, and then those of its body.
 unfoldable pub stated_by : Environment → Decl → Checked Stated
 stated_by env d =
-    if is_built d.body then (if is_some (meant_by env d.name) then Err (d.name_place, NameTaken)
-    else body_stated env d.place d.name d.body)
-    else Err (d.place, NotBuilt)
+    if is_some (meant_by env d.name) then Err (d.name_place, NameTaken) else body_stated env d.place d.name d.body

@@ -1,17 +1,21 @@
 -- The environment that the code keeps, as the definitions see it, and what its functions answer.
-use Rattle.std.specs.Prelude.{◌≡◌, List, Option, Some, Result, Ok, Err, All, map}
+use Rattle.std.specs.Prelude.{◌≡◌, ◌⊎◌, List, Option, Some, Result, Ok, Err, All, map}
 use Rattle.cq_base.specs.declared.name.Name.{Name}
 use Rattle.cq_base.specs.declared.place.Place.{Place}
 use Rattle.cq_program.specs.declared.reason.Reason.{Reason}
 use Rattle.cq_program.specs.declared.reason.ProgramRefusal.{ProgramRefusal}
 use Rattle.cq_program.specs.declared.reason.ProgramRefusal.TheVariants as program_refusal
 use Rattle.cq_program.specs.declared.environment.NamedSchema.{NamedSchema}
+use Rattle.cq_program.specs.declared.environment.NamedPart.{NamedPart}
+use Rattle.cq_program.specs.declared.environment.NamedColimit.{NamedColimit}
 use Rattle.cq_program.specs.declared.environment.NamedInstance.{NamedInstance}
 use Rattle.cq_program.specs.declared.environment.NamedEnds.{NamedEnds}
 use Rattle.cq_program.specs.declared.environment.NamedTransform.{NamedTransform}
 use Rattle.cq_program.specs.declared.used.NamedMapping.{NamedMapping}
 use Rattle.cq_program.specs.declared.used.NamedQuery.{NamedQuery}
 use Rattle.cq_program.specs.declared.gluing.Operand.{Operand}
+use Rattle.cq_program.specs.declared.colimits.UsedSchema.{UsedSchema}
+use Rattle.cq_syntax.specs.declared.part.Spot.{Spot}
 use Rattle.cq_program.specs.declared.environment.Meaning.{Meaning}
 use Rattle.cq_program.specs.declared.environment.Meaning.TheVariants as meaning
 use Rattle.cq_program.specs.declared.environment.Entry.{Entry}
@@ -22,8 +26,9 @@ use Rattle.cq_theory.specs.Tables.{Initial}
 use Rattle.cq_model.specs.InstanceData.{InstanceData}
 use Rattle.cq_model.specs.Given.{HasLeastNames}
 use Rattle.cq_transform.specs.Transforms.{GoesFrom}
-use Rattle.cq_program.specs.Checks.{Meant, typeside, schema, mapping, query, instance, transform, Ends, SchemaMeant, MappingMeant}
-use Rattle.cq_program.specs.Checks.{QueryMeant, InstanceMeant, TransformMeant, Environment, Checked, meant_by}
+use Rattle.cq_program.specs.Meanings.{Meant, PartMeant, ColimitMeant, colimit, schema_named, typeside, schema, mapping, query}
+use Rattle.cq_program.specs.Meanings.{instance, transform, Ends, SchemaMeant, MappingMeant}
+use Rattle.cq_program.specs.Meanings.{QueryMeant, InstanceMeant, TransformMeant, Environment, Checked, meant_by}
 
 abbrev pub schema_meant : NamedSchema → SchemaMeant
 schema_meant named = record { name = named.name; typeside = named.typeside; schema = named.schema.value }
@@ -39,9 +44,16 @@ ends_meant named = record {
   finish = instance_meant named.finish;
 }
 
+abbrev pub part_meant : NamedPart → PartMeant
+part_meant part = record { name = part.name; source = part.source; inclusion = part.inclusion.value }
+
+abbrev pub colimit_meant : NamedColimit → ColimitMeant
+colimit_meant named = record { schema = schema_meant named.schema; parts = map part_meant named.parts }
+
 abbrev pub meant : Meaning → Meant
 meant (meaning.Typeside t) = typeside t.value
 meant (meaning.Schema s) = schema (schema_meant s)
+meant (meaning.Colimit c) = colimit (colimit_meant c)
 meant (meaning.Mapping n t F) = mapping n t F.value
 meant (meaning.Query n t Q) = query n t Q.value
 meant (meaning.Instance n i) = instance n i.value
@@ -62,6 +74,12 @@ query_meant named = record { source = named.source; target = named.target; query
 abbrev pub transform_meant : NamedTransform → TransformMeant
 transform_meant named = record { ends = ends_meant named.ends; transform = named.transform.value }
 
+abbrev pub used_meant : UsedSchema → Spot × SchemaMeant
+used_meant used = (record { place = used.place; name = used.name }, schema_meant used.part)
+
+abbrev pub useds_meant : List UsedSchema → List (Spot × SchemaMeant)
+useds_meant parts = map used_meant parts
+
 abbrev pub operand_meant : Operand → Place × InstanceMeant
 operand_meant operand = (operand.place, instance_meant operand.part)
 
@@ -70,7 +88,7 @@ operands_meant operands = map operand_meant operands
 
 -- a printed name stands for a schema, and is that under which the schema is printed
 abbrev pub IsPrinted : Environment → Name → SchemaData → Type 0
-IsPrinted env n S = (T : Name) × (meant_by env n ≡ Some (schema (record { name = n; typeside = T; schema = S })))
+IsPrinted env n S = (T : Name) × (schema_named env n ≡ Some (record { name = n; typeside = T; schema = S }))
 
 -- an instance is the term model of its presentation, and its names are the least ones
 abbrev pub IsTermModel : InstanceData → Type 0
@@ -87,13 +105,25 @@ AreEnds env e =
     (meant_by env e.source ≡ Some (instance e.start.schema e.start.instance))
     × (meant_by env e.target ≡ Some (instance e.finish.schema e.finish.instance))
 
--- What holds of each meaning: the name of a schema's typeside stands for that typeside, and its printed name for the schema; each duty of a
--- mapping or a query is derivable, and the printed names of its two schemas stand for them; that of an instance's schema stands for the
--- schema, and the instance is the term model of its presentation; the names of a transform's ends stand for these, and the transform goes
--- from the one to the other.
+-- a part of a colimit with this schema: its inclusion preserves equality, and goes from the schema of its printed name
+abbrev pub IsPartSettled : Environment → SchemaData → PartMeant → Type 0
+IsPartSettled env J part = Preserves part.inclusion × IsPrinted env part.source part.inclusion.source × (part.inclusion.target ≡ J)
+
+-- the schema of a part stands for its printed name
+abbrev pub IsPartPrinted : Environment → Spot × SchemaMeant → Type 0
+IsPartPrinted env part = IsPrinted env part.1.name part.1.schema
+
+-- What holds of each meaning: the name of a schema's typeside stands for that typeside, and its printed name for the schema; a colimit's
+-- schema is so too, and each of its inclusions preserves equality and goes from the schema of its part; each duty of a mapping or a query
+-- is derivable, and the printed names of its two schemas stand for them; that of an instance's schema stands for the schema, and the
+-- instance is the term model of its presentation; the names of a transform's ends stand for these, and the transform goes from the one to
+-- the other.
 abbrev pub IsSettled : Environment → Meant → Type 0
 IsSettled env (typeside T) = Unit {0}
-IsSettled env (schema S) = (meant_by env S.typeside ≡ Some (typeside S.schema.typeside)) × (meant_by env S.name ≡ Some (schema S))
+IsSettled env (schema S) = (meant_by env S.typeside ≡ Some (typeside S.schema.typeside)) × (schema_named env S.name ≡ Some S)
+IsSettled env (colimit c) =
+    (meant_by env c.schema.typeside ≡ Some (typeside c.schema.schema.typeside)) × (schema_named env c.schema.name ≡ Some c.schema)
+    × All (IsPartSettled env c.schema.schema) c.parts
 IsSettled env (mapping n t F) = Preserves F × IsPrinted env n F.source × IsPrinted env t F.target
 IsSettled env (query n t Q) = Sound Q × IsPrinted env n Q.source × IsPrinted env t Q.target
 IsSettled env (instance n i) = IsPrinted env n i.schema × IsTermModel i
@@ -102,7 +132,11 @@ IsSettled env (transform e t) = AreEnds env e × GoesFrom t e.start.instance e.f
 -- the same of a meaning that is to be put behind the others under a name
 abbrev pub WillSettle : Environment → Name → Meant → Type 0
 WillSettle env name (typeside T) = Unit {0}
-WillSettle env name (schema S) = (meant_by env S.typeside ≡ Some (typeside S.schema.typeside)) × (S.name ≡ name)
+WillSettle env name (schema S) =
+    (meant_by env S.typeside ≡ Some (typeside S.schema.typeside)) × ((S.name ≡ name) ⊎ (schema_named env S.name ≡ Some S))
+WillSettle env name (colimit c) =
+    (meant_by env c.schema.typeside ≡ Some (typeside c.schema.schema.typeside)) × (c.schema.name ≡ name)
+    × All (IsPartSettled env c.schema.schema) c.parts
 WillSettle env name (mapping n t F) = IsSettled env (mapping n t F)
 WillSettle env name (query n t Q) = IsSettled env (query n t Q)
 WillSettle env name (instance n i) = IsSettled env (instance n i)

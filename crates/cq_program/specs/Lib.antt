@@ -1,6 +1,7 @@
 pub mod Lines
 pub mod Parts
 pub mod Images
+pub mod Meanings
 pub mod Checks
 pub mod Folders
 pub mod Program

@@ -7,7 +7,7 @@ use Rattle.cq_program.specs.declared.reason.Reason.TheVariants.{NameTaken, NameU
 use Rattle.cq_program.specs.declared.reason.Reason.TheVariants.{Unknown, WrongCount, WrongSort, Reserved, TooLarge, Missing, NotPreserved}
 use Rattle.cq_program.specs.declared.reason.Reason.TheVariants.{DutyDepth, DutyRows, Broken, Depth, TooManyRows, Inconsistent, Oversized}
 use Rattle.cq_program.specs.declared.reason.Reason.TheVariants.{TooManyAnswers, NameClash, LongName, NotCsv, BadHeader, BadCell, DoubleId}
-use Rattle.cq_program.specs.declared.reason.Reason.TheVariants.{NoSuchId, ManyRecords, NotBuilt}
+use Rattle.cq_program.specs.declared.reason.Reason.TheVariants.{NoSuchId, ManyRecords}
 
 abbrev pub code_of : Reason → ℕ
 code_of NameTaken = 31
@@ -39,7 +39,6 @@ code_of (BadCell file row column) = 86
 code_of (DoubleId file row) = 87
 code_of (NoSuchId file row column) = 88
 code_of ManyRecords = 89
-code_of NotBuilt = 90
 
 abbrev pub name_of : Reason → List ℕ
 name_of NameTaken = codes "Duplicate"
@@ -71,7 +70,6 @@ name_of (BadCell file row column) = codes "BadCell"
 name_of (DoubleId file row) = codes "DoubleId"
 name_of (NoSuchId file row column) = codes "NoSuchId"
 name_of ManyRecords = codes "TooLarge"
-name_of NotBuilt = codes "NotBuilt"
 
 -- what stands behind the name: a name, numbers, value texts, or a file with a record and a column
 abbrev pub details_of : Reason → List (List ℕ)

@@ -14,6 +14,7 @@ use Rattle.cq_syntax.specs.declared.part.ObsSyn.{ObsSyn}
 use Rattle.cq_syntax.specs.declared.part.Bind.{Bind}
 use Rattle.cq_syntax.specs.declared.literal.TypesideLit.{TypesideLit}
 use Rattle.cq_syntax.specs.declared.literal.SchemaLit.{SchemaLit}
+use Rattle.cq_syntax.specs.declared.literal.ColimitLit.{ColimitLit}
 use Rattle.cq_syntax.specs.declared.literal.InstanceLit.{InstanceLit}
 use Rattle.cq_syntax.specs.declared.literal.KeyImage.{KeyImage}
 use Rattle.cq_syntax.specs.declared.literal.AttSyn.{AttSyn}
@@ -34,6 +35,7 @@ use Rattle.cq_theory.specs.declared.parts.ArrowImage.{ArrowImage}
 use Rattle.cq_theory.specs.declared.parts.ArrowImage.TheVariants as image
 use Rattle.cq_theory.specs.declared.parts.ArrowPart.{ArrowPart}
 use Rattle.cq_theory.specs.declared.parts.MappingParts.{MappingParts}
+use Rattle.cq_colimit.specs.declared.parts.ColimitParts.{ColimitParts}
 use Rattle.cq_query.specs.declared.parts.Clause.{Clause}
 use Rattle.cq_query.specs.declared.parts.Clause.TheVariants as clause
 use Rattle.cq_query.specs.declared.parts.QueryParts.{QueryParts}
@@ -139,6 +141,21 @@ abbrev pub schema_count : SchemaLit → ℕ
 schema_count s =
     length s.entities + sum_by (λ e. length e.names) s.keys + length s.path_eqs
     + sum_by (λ e. length e.names) s.attributes + length s.obs_eqs
+
+-- the pairs of entities that are one, and the added equations
+unfoldable pub colimit_parts : ColimitLit → ColimitParts
+colimit_parts c = record {
+  pairs = map (λ p. (p.left, p.right)) c.pairs;
+  path_eqs = map path_eq_part c.path_eqs;
+  obs_eqs = map observation_part c.obs_eqs;
+}
+
+-- a schema stands at its name, and a pair at its first token
+unfoldable pub colimit_places : ColimitLit → List Place
+colimit_places c = places_of c.parts ++ map (λ p. p.place) c.pairs ++ map path_eq_place c.path_eqs ++ map (λ e. e.place) c.obs_eqs
+
+abbrev pub colimit_count : ColimitLit → ℕ
+colimit_count c = length c.parts + length c.pairs + length c.path_eqs + length c.obs_eqs
 
 unfoldable pub instance_parts : InstanceLit → PresentationParts
 instance_parts i = record { generators = flat_map group_parts i.generators; equations = map equation_part i.equations }

@@ -37,10 +37,13 @@ use Rattle.cq_import.specs.Folders.{FolderData}
 use Rattle.cq_program.specs.declared.stating.Stated.{Stated as TheStated}
 use Rattle.cq_program.specs.declared.stating.Stated.TheVariants as stated
 use Rattle.cq_program.specs.Folders.{Told, TellsFault, LacksFile, Raised, rule_of, unread_fault}
-use Rattle.cq_program.specs.Checks.{Stated, at_once, a_folder, stated_by, Environment, Meant, TransformMeant, Posed, typeside, a_typeside}
-use Rattle.cq_program.specs.Checks.{a_schema, a_mapping, an_identity, a_query, a_presentation, a_made, a_delta, an_eval, a_transform}
-use Rattle.cq_program.specs.Checks.{pushed_out, meant_by}
-use Rattle.cq_program.specs.Environment.{AreEnds, IsPrinted, ends_meant, schema_meant, transform_meant}
+use Rattle.cq_program.specs.Meanings.{Environment, Meant, TransformMeant, typeside, colimit, schema_named}
+use Rattle.cq_program.specs.Checks.{Stated, at_once, a_folder, stated_by, Posed, a_typeside}
+use Rattle.cq_program.specs.Checks.{a_schema, a_mapping, an_identity, a_colimit, an_inclusion, a_query, a_presentation}
+use Rattle.cq_program.specs.Checks.{a_made, a_delta, an_eval, a_transform}
+use Rattle.cq_program.specs.Meanings.{meant_by}
+use Rattle.cq_program.specs.Checks.{pushed_out}
+use Rattle.cq_program.specs.Environment.{AreEnds, IsPrinted, WillSettle, colimit_meant, ends_meant, schema_meant, transform_meant}
 use Rattle.cq_program.specs.Program.{Breach, Breaks, Lacks, Fails, Declares, Exceeds, IsModelOf, IsTransformOf}
 
 -- two transforms go from the start of the first
@@ -58,6 +61,8 @@ posed_as (statement.Typeside t) = a_typeside t
 posed_as (statement.Schema s) = a_schema (schema_meant s)
 posed_as (statement.Mapping n t F) = a_mapping n t F
 posed_as (statement.Identity n s) = an_identity n s.value
+posed_as (statement.Colimit c) = a_colimit (colimit_meant c)
+posed_as (statement.Inclusion n t F) = an_inclusion n t F.value
 posed_as (statement.Query n t Q) = a_query n t Q
 posed_as (statement.Presentation n s P) = a_presentation n s.value P
 posed_as (statement.Delta n F i) = a_delta n F.value i.value.tables
@@ -78,6 +83,8 @@ IsPosed (statement.Typeside t) = Unit {0}
 IsPosed (statement.Schema s) = Unit {0}
 IsPosed (statement.Mapping n t F) = Unit {0}
 IsPosed (statement.Identity n s) = Unit {0}
+IsPosed (statement.Colimit c) = Unit {0}
+IsPosed (statement.Inclusion n t F) = Unit {0}
 IsPosed (statement.Query n t Q) = Unit {0}
 IsPosed (statement.Presentation n s P) = IsPresentation s.value P
 IsPosed (statement.Delta n F i) = Preserves F.value × (i.value.schema ≡ F.value.target)
@@ -94,9 +101,12 @@ IsPosed (statement.Broken b) = IsBrokenAt b.ends.start.instance.value b.ends.fin
 -- preserves equality.
 abbrev pub IsGrounded : Environment → Name → Posed → Type 0
 IsGrounded env name (a_typeside T) = Unit {0}
-IsGrounded env name (a_schema S) = (meant_by env S.typeside ≡ Some (typeside S.schema.typeside)) × (S.name ≡ name)
+IsGrounded env name (a_schema S) =
+    (meant_by env S.typeside ≡ Some (typeside S.schema.typeside)) × ((S.name ≡ name) ⊎ (schema_named env S.name ≡ Some S))
 IsGrounded env name (a_mapping n t F) = IsPrinted env n F.source × IsPrinted env t F.target
 IsGrounded env name (an_identity n S) = Preserves (identity_of S) × IsPrinted env n S
+IsGrounded env name (a_colimit c) = WillSettle env name (colimit c)
+IsGrounded env name (an_inclusion n t F) = Preserves F × IsPrinted env n F.source × IsPrinted env t F.target
 IsGrounded env name (a_query n t Q) = IsPrinted env n Q.source × IsPrinted env t Q.target
 IsGrounded env name (a_presentation n S P) = IsPrinted env n S
 IsGrounded env name (a_made n S P) = IsPrinted env n S

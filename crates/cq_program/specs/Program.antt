@@ -5,7 +5,7 @@ use Rattle.std.specs.List.{filter_map}
 use Rattle.cq_base.specs.declared.name.Name.{Name}
 use Rattle.cq_base.specs.declared.place.Place.{Place}
 use Rattle.cq_syntax.specs.declared.program.Body.{Body}
-use Rattle.cq_syntax.specs.declared.program.Body.TheVariants.{Typeside, Schema, Mapping, Query, Instance, Transform as Transformed}
+use Rattle.cq_syntax.specs.declared.program.Body.TheVariants.{Typeside, Schema, Colimit, Mapping, Query, Instance, Transform as Transformed}
 use Rattle.cq_syntax.specs.declared.program.SchemaExp.TheVariants as schema_exp
 use Rattle.cq_syntax.specs.declared.program.InstanceExp.TheVariants as instance_exp
 use Rattle.cq_syntax.specs.declared.program.MappingExp.TheVariants as mapping_exp
@@ -43,9 +43,11 @@ use Rattle.cq_transform.specs.Refusals.{IsBrokenAt}
 use Rattle.cq_transform.specs.Transforms.{GoesFrom}
 use Rattle.cq_push.specs.Gluing.{is_oversized as is_too_large}
 use Rattle.cq_check.specs.Answers.{IsDerivedWithin, IsNotPreserved, IsTooDeepDuty, IsTooWideDuty, IsUnsoundAt, IsTooDeepAt, IsTooWideAt}
-use Rattle.cq_program.specs.Parts.{typeside_count, schema_count, mapping_count, query_count, instance_count, transform_count}
-use Rattle.cq_program.specs.Checks.{Meant, typeside, schema, mapping, query, instance, transform, Ends, Environment, Posed, a_typeside}
-use Rattle.cq_program.specs.Checks.{a_schema, a_mapping, an_identity, a_query, a_presentation, a_made, a_delta, an_eval, a_transform}
+use Rattle.cq_program.specs.Parts.{colimit_count, typeside_count, schema_count, mapping_count, query_count, instance_count, transform_count}
+use Rattle.cq_program.specs.Meanings.{Meant, typeside, schema, colimit, mapping, query, instance, transform, Ends, Environment}
+use Rattle.cq_program.specs.Checks.{Posed, a_typeside}
+use Rattle.cq_program.specs.Checks.{a_schema, a_mapping, an_identity, a_colimit, an_inclusion, a_query, a_presentation}
+use Rattle.cq_program.specs.Checks.{a_made, a_delta, an_eval, a_transform}
 use Rattle.cq_program.specs.Checks.{Stated, stated_by}
 use Rattle.cq_program.specs.declared.reason.ReadCause.{ReadCause}
 use Rattle.cq_program.specs.Folders.{Told, Reads, TellsFault, LacksFile}
@@ -75,15 +77,16 @@ pub record IsTransformOf (e : Ends) (images : List Image) (t : Transform) : Type
   pub goes : GoesFrom t e.start.instance e.finish.instance
 
 -- What is posed is this: a theory itself, a mapping or a query where each of its duties is derivable, a presentation by its listed model.
--- The duties of an identity are equations of its schema, and so derivable. Tables that are pulled back or that are answers stand with their
--- canonical presentation, within the limits on tables; a presentation that is made of others stands by its listed model, within the limit
--- on presentations.
--- Images stand by the one homomorphism that agrees with them.
+-- The duties of an identity and of an inclusion are equations of the target, and so derivable. Tables that are pulled back or that are
+-- answers stand with their canonical presentation, within the limits on tables; a presentation that is made of others stands by its listed
+-- model, within the limit on presentations. Images stand by the one homomorphism that agrees with them.
 abbrev pub Stands : Posed → Meant → Type 0
 Stands (a_typeside T) m = m ≡ typeside T
 Stands (a_schema S) m = m ≡ schema S
 Stands (a_mapping n t F) m = (m ≡ mapping n t F) × Preserves F
 Stands (an_identity n S) m = m ≡ mapping n n (identity_of S)
+Stands (a_colimit c) m = m ≡ colimit c
+Stands (an_inclusion n t F) m = m ≡ mapping n t F
 Stands (a_query n t Q) m = (m ≡ query n t Q) × Sound Q
 Stands (a_presentation n S P) m = (i : InstanceData) × (m ≡ instance n i) × IsModelOf S P i
 Stands (a_made n S P) m = (i : InstanceData) × (m ≡ instance n i) × IsModelOf S P i × (is_too_large P ≡ false)
@@ -134,6 +137,8 @@ Fails (a_typeside T) reason = ⊥
 Fails (a_schema S) reason = ⊥
 Fails (a_mapping n t F) reason = TellsUnkept F reason
 Fails (an_identity n S) reason = ⊥
+Fails (a_colimit c) reason = ⊥
+Fails (an_inclusion n t F) reason = ⊥
 Fails (a_query n t Q) reason = TellsUnsound Q reason
 Fails (a_presentation n S P) reason = TellsClash S P reason
 Fails (a_made n S P) reason = TellsMade S P reason
@@ -172,6 +177,8 @@ Exceeds depth (a_typeside T) reason = ⊥
 Exceeds depth (a_schema S) reason = ⊥
 Exceeds depth (a_mapping n t F) reason = (duty : ℕ) × ExceedsAtDuty depth F reason duty
 Exceeds depth (an_identity n S) reason = ⊥
+Exceeds depth (a_colimit c) reason = ⊥
+Exceeds depth (an_inclusion n t F) reason = ⊥
 Exceeds depth (a_query n t Q) reason = (duty : ℕ) × ExceedsAtQueryDuty depth Q reason duty
 Exceeds depth (a_presentation n S P) reason = ExceedsAtModel depth S P reason
 Exceeds depth (a_made n S P) reason = (is_too_large P ≡ false) × ExceedsAtModel depth S P reason
@@ -214,6 +221,7 @@ pub record Listing : Type 0 where
 abbrev pub listing_named : Name → Meant → Option Listing
 listing_named name (typeside T) = None
 listing_named name (schema S) = None
+listing_named name (colimit c) = None
 listing_named name (mapping n t F) = None
 listing_named name (query n t Q) = None
 listing_named name (instance n i) = Some (record { name = name; schema = n; instance = i })
@@ -272,6 +280,8 @@ KeepsLimits depth (a_typeside T) = Unit {0}
 KeepsLimits depth (a_schema S) = Unit {0}
 KeepsLimits depth (a_mapping n t F) = All (IsDecided depth F.target) (duties_of F)
 KeepsLimits depth (an_identity n S) = Unit {0}
+KeepsLimits depth (a_colimit c) = Unit {0}
+KeepsLimits depth (an_inclusion n t F) = Unit {0}
 KeepsLimits depth (a_query n t Q) = All (IsQueryDutyDecided depth Q) (all_duties Q)
 KeepsLimits depth (a_presentation n S P) = ClosesWithin depth S P
 KeepsLimits depth (a_made n S P) = ClosesWithin depth S P
@@ -286,10 +296,11 @@ IsWithinLimits depth told program =
     → program.decls ≡ before ++ d ∷ after → Follow told [] before env → stated_by env d ≡ Ok stated → Reads told stated posed
     → KeepsLimits depth posed
 
--- how many parts a declaration of a form that is built has
+-- how many parts a declaration has
 abbrev pub part_count : Body → ℕ
 part_count (Typeside lit) = typeside_count lit
 part_count (Schema (schema_exp.Literal lit)) = schema_count lit
+part_count (Colimit lit) = colimit_count lit
 part_count (Mapping (mapping_exp.Literal lit)) = mapping_count lit
 part_count (Query lit) = query_count lit
 part_count (Instance (instance_exp.Literal lit)) = instance_count lit

@@ -28,13 +28,18 @@ pub struct Named {
 
 /// The instances of a program in order, or the first rule that a declaration breaks, at its place.
 ///
-/// The declarations are taken in order. Each is checked in this order: its form is built (`NotBuilt`), its name is
-/// new (`NameTaken`), each name that it uses is declared (`NameUnknown`) and of the right kind (`WrongKind`), name by
-/// name; what the names stand for fits (`WrongSchema`): the two schemas of a mapping or a query are over one typeside
-/// declaration, the two instances of a transform over one schema, and instances over the schemas that the form wants,
-/// told at the second of two ends, at the first operand of a coproduct that doesn't fit, and else at the instance; two
+/// The declarations are taken in order. Each is checked in this order: its name is new (`NameTaken`), each name that it
+/// uses is declared (`NameUnknown`) and of the right kind (`WrongKind`; the name of a colimit stands for its schema),
+/// name by name; what the names stand for fits (`WrongSchema`): the two schemas of a mapping or a query are over one
+/// typeside declaration, the parts of a colimit over the stated one, the two instances of a transform over one schema,
+/// and instances over the schemas that the form wants, told at the second of two ends, at the first part or operand
+/// that doesn't fit, and else at the instance; a colimit has a part under the name of which the mapping is wanted; two
 /// transforms that are pushed out start in one instance declaration (`NotASpan`, at the second); its parts break no
 /// rule (`Duplicate` to `TooLarge`, at the first such part) and none is missing (`Missing`).
+///
+/// The parts of a colimit have at most 1,000,000 entities, foreign keys, attributes and equations (`Oversized`), and no
+/// two give one name and none a name of the typeside (`NameClash`) or a name of over 255 bytes (`LongName`), in the
+/// order of `cq_colimit::colimit` among the rules of parts; `NameClash` and `LongName` count parts from 1.
 ///
 /// Then the duties of a mapping or a query literal are derived, in order: the first that isn't is not derivable
 /// (`NotPreserved`), or not decided within the depth (`DutyDepth`) or with 200,000 rows (`DutyRows`). The equations of
@@ -288,6 +293,7 @@ fn push_instance(named: &mut Vec<Named>, entry: Entry) -> Result<(), AllocError>
         }
         Meaning::Typeside(_) => Ok(()),
         Meaning::Schema(_) => Ok(()),
+        Meaning::Colimit(_) => Ok(()),
         Meaning::Mapping(_, _, _) => Ok(()),
         Meaning::Query(_, _, _) => Ok(()),
         Meaning::Transform(_) => Ok(()),

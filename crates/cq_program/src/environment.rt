@@ -1,12 +1,12 @@
 //! The declared names in order, and what they stand for.
 ghost use Rattle.std.specs.Prelude.{◌≡◌, ◌<◌, ◌-◌, ◌^◌, ◌++◌, ◌∷◌, [], Some, IfOk, length, is_some, option_map};
-ghost use Rattle.cq_program.specs.Checks.{meant_by, typeside, typeside_used, schema_used};
+ghost use Rattle.cq_program.specs.Meanings.{meant_by, typeside, typeside_used, schema_used};
 ghost use Rattle.cq_program.specs.Environment.{Answers, entry_names, environment_of, meant, schema_meant};
 ghost use Rattle.cq_program.specs.declared.reason.ProgramRefusal.TheVariants.{Broken};
 ghost use Rattle.cq_program.specs.declared.reason.Reason.TheVariants.{NameUnknown, WrongKind};
 
 use crate::reason::{ProgramRefusal, Reason};
-use cq_base::{Name, Names};
+use cq_base::{Name, Names, Seq};
 use cq_mapping::Mapping;
 use cq_model::{Instance, Transform};
 use cq_query::Query;
@@ -22,6 +22,22 @@ pub(crate) struct NamedSchema {
     pub name: Name,
     pub typeside: Name,
     pub schema: Rc<Schema>,
+}
+
+/// A part of a colimit: the name under which it stands in the colimit's declaration, the name under which its schema is
+/// printed, and its inclusion.
+#[derive(Drop)]
+pub(crate) struct NamedPart {
+    pub name: Name,
+    pub source: Name,
+    pub inclusion: Rc<Mapping>,
+}
+
+/// A colimit: its schema, which is printed under its own name, and its parts in order.
+#[derive(Drop)]
+pub(crate) struct NamedColimit {
+    pub schema: NamedSchema,
+    pub parts: Seq<NamedPart>,
 }
 
 /// An instance, with the name under which its schema is printed.
@@ -53,6 +69,7 @@ pub(crate) struct NamedTransform {
 pub(crate) enum Meaning {
     Typeside(Rc<Typeside>),
     Schema(NamedSchema),
+    Colimit(NamedColimit),
     Mapping(Name, Name, Rc<Mapping>),
     Query(Name, Name, Rc<Query>),
     Instance(Name, Rc<Instance>),
@@ -107,6 +124,7 @@ impl Environment {
             None => Err(unknown(used)),
             Some(Meaning::Typeside(typeside)) => Ok(typeside.clone()?),
             Some(Meaning::Schema(_)) => Err(wrong_kind(used)),
+            Some(Meaning::Colimit(_)) => Err(wrong_kind(used)),
             Some(Meaning::Mapping(_, _, _)) => Err(wrong_kind(used)),
             Some(Meaning::Query(_, _, _)) => Err(wrong_kind(used)),
             Some(Meaning::Instance(_, _)) => Err(wrong_kind(used)),
@@ -122,6 +140,7 @@ impl Environment {
             None => Err(unknown(used)),
             Some(Meaning::Typeside(_)) => Err(wrong_kind(used)),
             Some(Meaning::Schema(named)) => Ok(copy_named(named)?),
+            Some(Meaning::Colimit(named)) => Ok(copy_named(&named.schema)?),
             Some(Meaning::Mapping(_, _, _)) => Err(wrong_kind(used)),
             Some(Meaning::Query(_, _, _)) => Err(wrong_kind(used)),
             Some(Meaning::Instance(_, _)) => Err(wrong_kind(used)),
@@ -148,7 +167,8 @@ impl Environment {
     }
 }
 
-fn copy_named(named: &NamedSchema) -> Result<NamedSchema, AllocError>
+/// A schema once more.
+pub fn copy_named(named: &NamedSchema) -> Result<NamedSchema, AllocError>
     ensures { IfOk result (λ copy. schema_meant copy ≡ schema_meant named.now) }
 {
     Ok(NamedSchema {

@@ -5,12 +5,12 @@ ghost use Rattle.cq_syntax.specs.declared.program.Body.TheVariants.{Mapping, Ins
 ghost use Rattle.cq_program.specs.Program.{HasFewParts, part_count};
 ghost use Rattle.cq_theory.specs.TypesideParts.{literals_count};
 ghost use Rattle.cq_program.specs.Parts.{name_of, clause_count, instance_count, key_count, mapping_count, query_count};
-ghost use Rattle.cq_program.specs.Parts.{schema_count, transform_count, typeside_count, variable_count};
+ghost use Rattle.cq_program.specs.Parts.{colimit_count, schema_count, transform_count, typeside_count, variable_count};
 
 use cq_syntax::{
-    Body, Decl, EdgeSyn, FunSyn, GroupSyn, InstanceExp, InstanceLit, MapBlock, MappingExp,
-    MappingLit, Program, QueryBlock, QueryKey, QueryLit, SchemaExp, SchemaLit, Spot, TransformExp,
-    TypesideLit,
+    Body, ColimitLit, Decl, EdgeSyn, FunSyn, GroupSyn, InstanceExp, InstanceLit, MapBlock,
+    MappingExp, MappingLit, Program, QueryBlock, QueryKey, QueryLit, SchemaExp, SchemaLit, Spot,
+    TransformExp, TypesideLit,
 };
 
 /// Whether a program has fewer than 2^32 - 1 declarations, and each of them fewer than 2^32 parts, as every program in
@@ -35,11 +35,26 @@ fn has_few(body: &Body) -> bool
         Body::Schema(SchemaExp::Literal(literal)) => has_few_in_schema(literal),
         Body::Schema(SchemaExp::GetSchema(_)) => true,
         Body::Instance(expression) => has_few_in_instance(expression),
-        Body::Colimit(_) => true,
+        Body::Colimit(literal) => has_few_in_colimit(literal),
         Body::Mapping(expression) => has_few_in_mapping(expression),
         Body::Query(literal) => has_few_in_query(literal),
         Body::Transform(expression) => has_few_in_transform(expression),
     }
+}
+
+fn has_few_in_colimit(literal: &ColimitLit) -> bool
+    ensures { IsTrue result ↔ (colimit_count literal.now < 2 ^ 32) }
+{
+    let Some(room) = room_after(u32::MAX, literal.parts.len()) else {
+        return false;
+    };
+    let Some(room) = room_after(room, literal.pairs.len()) else {
+        return false;
+    };
+    let Some(room) = room_after(room, literal.path_eqs.len()) else {
+        return false;
+    };
+    room_after(room, literal.obs_eqs.len()).is_some()
 }
 
 fn has_few_in_typeside(literal: &TypesideLit) -> bool

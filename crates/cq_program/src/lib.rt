@@ -1,6 +1,7 @@
 //! The declarations of a program in order: what they mean, or the first rule that is broken.
 #![tactic(auto)]
 
+mod colimits;
 mod declarations;
 mod environment;
 mod few;

@@ -53,7 +53,6 @@ impl Reason {
             Reason::DoubleId(_, _) => 87,
             Reason::NoSuchId(_, _, _) => 88,
             Reason::ManyRecords => 89,
-            Reason::NotBuilt => 90,
         }
     }
 
@@ -91,7 +90,6 @@ impl Reason {
             Reason::DoubleId(_, _) => "DoubleId",
             Reason::NoSuchId(_, _, _) => "NoSuchId",
             Reason::ManyRecords => "TooLarge",
-            Reason::NotBuilt => "NotBuilt",
         }
     }
 
@@ -132,7 +130,6 @@ impl Reason {
             Reason::TooManyRows => Ok(()),
             Reason::Oversized => Ok(()),
             Reason::ManyRecords => Ok(()),
-            Reason::NotBuilt => Ok(()),
         }
     }
 }

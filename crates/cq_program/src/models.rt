@@ -7,7 +7,8 @@ ghost use Rattle.cq_theory.specs.declared.value.Value.TheVariants.{Const};
 ghost use Rattle.cq_program.specs.Program.{Stands};
 ghost use Rattle.cq_program.specs.Environment.{IsModelled, IsTermModel, meant};
 ghost use Rattle.cq_program.specs.Posing.{IsPosed, TellsConstants, Withholds, posed_as};
-ghost use Rattle.cq_program.specs.Checks.{a_mapping, an_identity, a_presentation, mapping, instance};
+ghost use Rattle.cq_program.specs.Meanings.{mapping, instance};
+ghost use Rattle.cq_program.specs.Checks.{a_mapping, an_identity, a_presentation};
 
 use crate::environment::Meaning;
 use crate::gluing::{glued, summed};
@@ -45,6 +46,10 @@ pub fn meaning_of(
         Statement::Schema(schema) => Ok(Meaning::Schema(schema)),
         Statement::Mapping(source, target, mapping) => {
             checked_mapping(alloc, place, source, target, mapping, depth)
+        }
+        Statement::Colimit(colimit) => Ok(Meaning::Colimit(colimit)),
+        Statement::Inclusion(source, target, mapping) => {
+            Ok(Meaning::Mapping(source, target, mapping))
         }
         Statement::Identity(name, schema) => Ok(identity(alloc, name, schema)?),
         Statement::Query(source, target, query) => {

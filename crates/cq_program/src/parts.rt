@@ -4,13 +4,14 @@ ghost use Rattle.std.specs.List.{flat_map};
 ghost use Rattle.cq_program.specs.Parts.{names_of, name_of, group_parts, function_parts, edge_parts, path_eq_part};
 ghost use Rattle.cq_program.specs.Parts.{observation_part, equation_part, attribute_image, key_part, attribute_part};
 ghost use Rattle.cq_program.specs.Parts.{arrow_parts, typeside_parts, schema_parts, instance_parts, mapping_parts};
-ghost use Rattle.cq_program.specs.Parts.{transform_parts};
+ghost use Rattle.cq_program.specs.Parts.{colimit_parts, transform_parts};
 
 use crate::raw::copy_raw;
 use cq_base::{Name, Raw, Seq};
+use cq_colimit::ColimitParts;
 use cq_syntax::{
-    AttImage, AttSyn, Bind, EdgeSyn, EqSyn, FunSyn, GroupSyn, InstanceLit, KeyImage, MapBlock,
-    MappingLit, ObsSyn, PathEqSyn, SchemaLit, Spot, TransformLit, TypesideLit,
+    AttImage, AttSyn, Bind, ColimitLit, EdgeSyn, EqSyn, FunSyn, GroupSyn, InstanceLit, KeyImage,
+    MapBlock, MappingLit, ObsSyn, PairSyn, PathEqSyn, SchemaLit, Spot, TransformLit, TypesideLit,
 };
 use cq_theory::{
     ArrowImage, ArrowPart, MappingParts, ObsPart, PresentationParts, SchemaParts, TypesideParts,
@@ -74,6 +75,36 @@ pub fn mapping_parts(alloc: Global, literal: &MappingLit) -> Result<MappingParts
     let entities = block_images(alloc, literal.blocks.as_slice())?;
     let arrows = arrows_in(alloc, literal.blocks.as_slice())?;
     Ok(MappingParts { entities, arrows })
+}
+
+/// The pairs of entities that are one in a colimit, and the added equations.
+#[tactic(auto, unfolding(crate::specs::Parts::colimit_parts))]
+pub fn colimit_parts(alloc: Global, literal: &ColimitLit) -> Result<ColimitParts, AllocError>
+    ensures { IfOk result (λ parts. parts ≡ colimit_parts literal.now) }
+{
+    let pairs = pairs_in(alloc, literal.pairs.as_slice())?;
+    let path_eqs = path_eqs_in(alloc, literal.path_eqs.as_slice())?;
+    let obs_eqs = observations_in(alloc, literal.obs_eqs.as_slice())?;
+    Ok(ColimitParts {
+        pairs,
+        path_eqs,
+        obs_eqs,
+    })
+}
+
+fn pairs_in(
+    alloc: Global,
+    pairs: &[PairSyn],
+) -> Result<Seq<((Name, Name), (Name, Name))>, AllocError>
+    ensures { IfOk result (λ parts. parts ≡ map (λ p. (p.left, p.right)) pairs.now) }
+{
+    let mut parts = Vec::new(alloc);
+    for pair in pairs {
+        let left = (pair.left.0.clone()?, pair.left.1.clone()?);
+        let right = (pair.right.0.clone()?, pair.right.1.clone()?);
+        parts.push((left, right))?;
+    }
+    Ok(Seq::from_vec(parts))
 }
 
 /// The image of each generator.

@@ -3,12 +3,12 @@ ghost use Rattle.std.specs.Prelude.{◌≡◌, ◌++◌, IfOk, OnOk, map, option
 ghost use Rattle.std.specs.List.{flat_map};
 ghost use Rattle.cq_program.specs.Parts.{places_of, group_places, function_places, edge_places, path_eq_place};
 ghost use Rattle.cq_program.specs.Parts.{equation_place, arrow_places, typeside_places, schema_places, instance_places};
-ghost use Rattle.cq_program.specs.Parts.{mapping_places, transform_places};
+ghost use Rattle.cq_program.specs.Parts.{colimit_places, mapping_places, transform_places};
 
 use cq_base::Place;
 use cq_syntax::{
-    AttImage, Bind, EdgeSyn, EqSyn, FunSyn, GroupSyn, InstanceLit, KeyImage, MapBlock, MappingLit,
-    ObsSyn, PathEqSyn, SchemaLit, Spot, TransformLit, TypesideLit,
+    AttImage, Bind, ColimitLit, EdgeSyn, EqSyn, FunSyn, GroupSyn, InstanceLit, KeyImage, MapBlock,
+    MappingLit, ObsSyn, PairSyn, PathEqSyn, SchemaLit, Spot, TransformLit, TypesideLit,
 };
 use std::alloc::{AllocError, Global};
 
@@ -59,6 +59,28 @@ pub fn mapping_places(alloc: Global, literal: &MappingLit) -> Result<Vec<Place>,
     push_blocks(&mut places, literal.blocks.as_slice())?;
     push_arrows(&mut places, literal.blocks.as_slice())?;
     Ok(places)
+}
+
+/// The places of the parts of a colimit.
+#[tactic(auto, unfolding(crate::specs::Parts::colimit_places))]
+pub fn colimit_places(alloc: Global, literal: &ColimitLit) -> Result<Vec<Place>, AllocError>
+    ensures { IfOk result (λ places. places.items ≡ colimit_places literal.now) }
+{
+    let mut places = Vec::new(alloc);
+    push_spots(&mut places, literal.parts.as_slice())?;
+    push_pairs(&mut places, literal.pairs.as_slice())?;
+    push_path_eqs(&mut places, literal.path_eqs.as_slice())?;
+    push_observations(&mut places, literal.obs_eqs.as_slice())?;
+    Ok(places)
+}
+
+fn push_pairs(places: &mut Vec<Place>, pairs: &[PairSyn]) -> Result<(), AllocError>
+    ensures { OnOk result (places.new.items ≡ places.old.items ++ map (λ p. p.place) pairs.now) }
+{
+    for pair in pairs {
+        places.push(pair.place)?;
+    }
+    Ok(())
 }
 
 /// The places of the images of a transform.

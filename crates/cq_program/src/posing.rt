@@ -5,13 +5,14 @@ ghost use Rattle.cq_syntax.specs.declared.program.Body.TheVariants.{Instance as 
 ghost use Rattle.cq_theory.specs.Presentation.{IsPresentation};
 ghost use Rattle.cq_program.specs.Program.{part_count};
 ghost use Rattle.cq_program.specs.Parts.{typeside_count, schema_count, mapping_count, instance_count};
-ghost use Rattle.cq_program.specs.Checks.{arrow_breach, body_posed, identity_posed, instance_posed, is_built};
+ghost use Rattle.cq_program.specs.Checks.{arrow_breach, body_posed, folder_of, identity_posed, instance_posed};
 ghost use Rattle.cq_program.specs.Checks.{mapping_given, mapping_posed, part_breach, place_of, presentation_given};
 ghost use Rattle.cq_program.specs.Checks.{schema_given, schema_posed, typeside_given, typeside_posed};
 ghost use Rattle.cq_program.specs.Environment.{schema_meant, Answers, AreSettled, Tells, environment_of};
 ghost use Rattle.cq_program.specs.Posing.{IsGrounded, IsPosed, posed_as};
 
-use crate::environment::{Environment, NamedEnds, NamedSchema, NamedTransform};
+use crate::colimits::{pose_colimit, pose_inclusion, pose_joined_schema};
+use crate::environment::{Environment, NamedColimit, NamedEnds, NamedSchema, NamedTransform};
 use crate::gluing::{pose_coproduct, pose_pushout};
 use crate::moves::{pose_delta, pose_sigma};
 use crate::parts::{instance_parts, mapping_parts, schema_parts, typeside_parts};
@@ -42,6 +43,8 @@ pub(crate) enum Statement {
     Schema(NamedSchema),
     Mapping(Name, Name, Mapping),
     Identity(Name, Rc<Schema>),
+    Colimit(NamedColimit),
+    Inclusion(Name, Name, Rc<Mapping>),
     Query(Name, Name, Query),
     Presentation(Name, Rc<Schema>, Presentation),
     Delta(Name, Rc<Mapping>, Rc<Instance>),
@@ -54,41 +57,6 @@ pub(crate) enum Statement {
     Broken(BrokenImages),
 }
 
-/// Whether declarations of this form are built.
-pub fn is_built(body: &Body) -> bool
-    ensures { result ≡ is_built body.now }
-{
-    match body {
-        Body::Typeside(_) => true,
-        Body::Schema(SchemaExp::Literal(_)) => true,
-        Body::Schema(SchemaExp::GetSchema(_)) => false,
-        Body::Instance(expression) => is_built_instance(expression),
-        Body::Colimit(_) => false,
-        Body::Mapping(MappingExp::Literal(_)) => true,
-        Body::Mapping(MappingExp::Identity(_)) => true,
-        Body::Mapping(MappingExp::GetMapping(_, _)) => false,
-        Body::Query(_) => true,
-        Body::Transform(TransformExp::Literal(_)) => true,
-        Body::Transform(TransformExp::Identity(_)) => true,
-    }
-}
-
-fn is_built_instance(expression: &InstanceExp) -> bool
-    ensures { result ≡ is_built (Instanced expression.now) }
-{
-    match expression {
-        InstanceExp::Literal(_) => true,
-        InstanceExp::Delta(_, _) => true,
-        InstanceExp::Sigma(_, _) => true,
-        InstanceExp::Eval(_, _) => true,
-        InstanceExp::Coeval(_, _) => true,
-        InstanceExp::Coproduct(_, _) => true,
-        InstanceExp::Pushout(_, _) => true,
-        InstanceExp::ImportCsv(_, _, _) => true,
-        InstanceExp::ImportCsv2(_, _, _) => true,
-    }
-}
-
 /// What the body of a declaration poses that reads no files, or the first rule of names and parts that it breaks.
 pub fn pose_body(
     alloc: Global,
@@ -97,6 +65,7 @@ pub fn pose_body(
     name: &Name,
     body: &Body,
 ) -> Result<Statement, ProgramRefusal>
+    requires no_files { folder_of body.now ≡ None }
     requires few { part_count body.now < 2 ^ 32 }
     requires settled { AreSettled (environment_of env.now.entries.items) }
     ensures posed { Answers posed_as result (body_posed (environment_of env.now.entries.items) place
@@ -116,13 +85,9 @@ pub fn pose_body(
             pose_transform(alloc, env, place, literal)
         }
         Body::Transform(TransformExp::Identity(used)) => pose_identical(alloc, env, used),
-        Body::Schema(SchemaExp::GetSchema(_)) => {
-            Err(ProgramRefusal::Broken(place, Reason::NotBuilt))
-        }
-        Body::Mapping(MappingExp::GetMapping(_, _)) => {
-            Err(ProgramRefusal::Broken(place, Reason::NotBuilt))
-        }
-        Body::Colimit(_) => Err(ProgramRefusal::Broken(place, Reason::NotBuilt)),
+        Body::Schema(SchemaExp::GetSchema(used)) => pose_joined_schema(env, used),
+        Body::Mapping(MappingExp::GetMapping(along, used)) => pose_inclusion(env, along, used),
+        Body::Colimit(literal) => pose_colimit(alloc, env, place, name, literal),
     }
 }
 
@@ -132,6 +97,7 @@ fn pose_instance(
     place: Place,
     expression: &InstanceExp,
 ) -> Result<Statement, ProgramRefusal>
+    requires no_files { folder_of (Instanced expression.now) ≡ None }
     requires few { part_count (Instanced expression.now) < 2 ^ 32 }
     requires settled { AreSettled (environment_of env.now.entries.items) }
     ensures posed { (name : TheName) → Answers posed_as result
@@ -153,8 +119,8 @@ fn pose_instance(
             used,
         ),
         InstanceExp::Pushout(first, second) => pose_pushout(env, first, second),
-        InstanceExp::ImportCsv(_, _, _) => Err(ProgramRefusal::Broken(place, Reason::NotBuilt)),
-        InstanceExp::ImportCsv2(_, _, _) => Err(ProgramRefusal::Broken(place, Reason::NotBuilt)),
+        InstanceExp::ImportCsv(_, _, _) => unreachable!(),
+        InstanceExp::ImportCsv2(_, _, _) => unreachable!(),
     }
 }
 

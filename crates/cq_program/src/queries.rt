@@ -3,7 +3,8 @@ ghost use Rattle.std.specs.Prelude.{ℕ, ◌≡◌, ◌<◌, ◌≤◌, ◌^◌,
 ghost use Rattle.cq_base.specs.declared.name.Name.{Name as TheName};
 ghost use Rattle.cq_query.specs.Coeval.{coeval_of};
 ghost use Rattle.cq_query.specs.Duties.{Sound};
-ghost use Rattle.cq_program.specs.Checks.{a_made, a_query, an_eval, coeval_posed, eval_posed, query as meant_query};
+ghost use Rattle.cq_program.specs.Meanings.{query as meant_query};
+ghost use Rattle.cq_program.specs.Checks.{a_made, a_query, an_eval, coeval_posed, eval_posed};
 ghost use Rattle.cq_program.specs.Checks.{query_given, query_posed};
 ghost use Rattle.cq_program.specs.Environment.{Answers, AreSettled, IsModelled, Tells, environment_of, meant};
 ghost use Rattle.cq_eval.specs.declared.refusal.EvalRefusal.TheVariants.{TooManyAnswers as HasMany, TooLarge, Memory};

@@ -63,8 +63,6 @@ pub enum Reason {
     NoSuchId(Seq<u8>, u32, u32),
     /// The records are too many.
     ManyRecords,
-    /// The declaration has a form that isn't built yet.
-    NotBuilt,
 }
 
 /// Why a file was not read.

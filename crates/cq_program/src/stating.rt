@@ -14,7 +14,7 @@ ghost use Rattle.cq_program.specs.Posing.{IsGrounded, IsPosed, IsStated, IsState
 ghost use Rattle.cq_program.specs.Posing.{posed_as, stated_as};
 
 use crate::environment::Environment;
-use crate::posing::{Statement, is_built, pose_body};
+use crate::posing::{Statement, pose_body};
 use crate::reason::{ProgramRefusal, ReadCause, Reason};
 use cq_base::{Name, Place, Seq};
 use cq_import::{CsvRefusal, import, import2};
@@ -57,9 +57,6 @@ pub fn state(alloc: Global, env: &Environment, decl: &Decl) -> Result<Stated, Pr
     ensures grounded { IfOk result (λ s. IsStatedOver (environment_of env.now.entries.items) decl.now.name
         (stated_as s)) }
 {
-    if !is_built(&decl.body) {
-        return Err(ProgramRefusal::Broken(decl.place, Reason::NotBuilt));
-    }
     if env.find(&decl.name).is_some() {
         return Err(ProgramRefusal::Broken(decl.name_place, Reason::NameTaken));
     }
@@ -128,6 +125,7 @@ fn state_at_once(
     name: &Name,
     body: &Body,
 ) -> Result<Stated, ProgramRefusal>
+    requires no_files { folder_of body.now ≡ None }
     requires few { part_count body.now < 2 ^ 32 }
     requires settled { AreSettled (environment_of env.now.entries.items) }
     ensures stated { Answers stated_as result

@@ -1,11 +1,12 @@
-//! The mappings, queries, instances and transforms for which used names stand.
+//! The mappings, colimits, queries, instances and transforms for which used names stand.
 ghost use Rattle.std.specs.Prelude.{◌≡◌, IfOk};
-ghost use Rattle.cq_program.specs.Checks.{mapping_used, query_used, instance_used, transform_used};
-ghost use Rattle.cq_program.specs.Environment.{Answers, ends_meant, environment_of, instance_meant, mapping_meant};
-ghost use Rattle.cq_program.specs.Environment.{query_meant, transform_meant};
+ghost use Rattle.cq_program.specs.Meanings.{colimit_used, mapping_used, query_used, instance_used, transform_used};
+ghost use Rattle.cq_program.specs.Environment.{Answers, colimit_meant, ends_meant, environment_of, instance_meant};
+ghost use Rattle.cq_program.specs.Environment.{mapping_meant, query_meant, transform_meant};
 
 use crate::environment::{
-    Environment, Meaning, NamedEnds, NamedInstance, NamedTransform, unknown, wrong_kind,
+    Environment, Meaning, NamedColimit, NamedEnds, NamedInstance, NamedTransform, unknown,
+    wrong_kind,
 };
 use crate::reason::ProgramRefusal;
 use cq_base::Name;
@@ -40,9 +41,27 @@ pub fn mapping_of(env: &Environment, used: &Spot) -> Result<NamedMapping, Progra
         None => Err(unknown(used)),
         Some(Meaning::Typeside(_)) => Err(wrong_kind(used)),
         Some(Meaning::Schema(_)) => Err(wrong_kind(used)),
+        Some(Meaning::Colimit(_)) => Err(wrong_kind(used)),
         Some(Meaning::Mapping(source, target, mapping)) => {
             Ok(named_mapping(source, target, mapping)?)
         }
+        Some(Meaning::Query(_, _, _)) => Err(wrong_kind(used)),
+        Some(Meaning::Instance(_, _)) => Err(wrong_kind(used)),
+        Some(Meaning::Transform(_)) => Err(wrong_kind(used)),
+    }
+}
+
+/// The colimit for which a used name stands.
+pub fn colimit_of<'a>(env: &'a Environment, used: &Spot) -> Result<&'a NamedColimit, ProgramRefusal>
+    ensures { Answers (λ found. colimit_meant found.now) result
+        (colimit_used (environment_of env.now.entries.items) used.now) }
+{
+    match env.find(&used.name) {
+        None => Err(unknown(used)),
+        Some(Meaning::Typeside(_)) => Err(wrong_kind(used)),
+        Some(Meaning::Schema(_)) => Err(wrong_kind(used)),
+        Some(Meaning::Colimit(found)) => Ok(found),
+        Some(Meaning::Mapping(_, _, _)) => Err(wrong_kind(used)),
         Some(Meaning::Query(_, _, _)) => Err(wrong_kind(used)),
         Some(Meaning::Instance(_, _)) => Err(wrong_kind(used)),
         Some(Meaning::Transform(_)) => Err(wrong_kind(used)),
@@ -57,6 +76,7 @@ pub fn query_of(env: &Environment, used: &Spot) -> Result<NamedQuery, ProgramRef
         None => Err(unknown(used)),
         Some(Meaning::Typeside(_)) => Err(wrong_kind(used)),
         Some(Meaning::Schema(_)) => Err(wrong_kind(used)),
+        Some(Meaning::Colimit(_)) => Err(wrong_kind(used)),
         Some(Meaning::Mapping(_, _, _)) => Err(wrong_kind(used)),
         Some(Meaning::Query(source, target, query)) => Ok(named_query(source, target, query)?),
         Some(Meaning::Instance(_, _)) => Err(wrong_kind(used)),
@@ -72,6 +92,7 @@ pub fn instance_of(env: &Environment, used: &Spot) -> Result<NamedInstance, Prog
         None => Err(unknown(used)),
         Some(Meaning::Typeside(_)) => Err(wrong_kind(used)),
         Some(Meaning::Schema(_)) => Err(wrong_kind(used)),
+        Some(Meaning::Colimit(_)) => Err(wrong_kind(used)),
         Some(Meaning::Mapping(_, _, _)) => Err(wrong_kind(used)),
         Some(Meaning::Query(_, _, _)) => Err(wrong_kind(used)),
         Some(Meaning::Instance(schema, instance)) => Ok(named_instance(schema, instance)?),
@@ -87,6 +108,7 @@ pub fn transform_of(env: &Environment, used: &Spot) -> Result<NamedTransform, Pr
         None => Err(unknown(used)),
         Some(Meaning::Typeside(_)) => Err(wrong_kind(used)),
         Some(Meaning::Schema(_)) => Err(wrong_kind(used)),
+        Some(Meaning::Colimit(_)) => Err(wrong_kind(used)),
         Some(Meaning::Mapping(_, _, _)) => Err(wrong_kind(used)),
         Some(Meaning::Query(_, _, _)) => Err(wrong_kind(used)),
         Some(Meaning::Instance(_, _)) => Err(wrong_kind(used)),

@@ -14,6 +14,8 @@ mod images;
 #[cfg(test)]
 mod imports;
 #[cfg(test)]
+mod joined;
+#[cfg(test)]
 mod limits;
 #[cfg(test)]
 mod mapping_parts;

@@ -122,9 +122,9 @@ mapping G = literal : S -> S { entity E -> E foreign_keys k -> k attributes x ->
         words: RUN,
         text: "schema S = literal : T { }
 mapping F = identity S
-mapping F = getMapping S S",
+mapping G = getMapping S S",
         status: Status::Refused,
-        written: "refused 4:1 90 NotBuilt\n",
+        written: "refused 4:24 33 WrongKind\n",
     },
 ];
 

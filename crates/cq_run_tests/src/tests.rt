@@ -291,7 +291,7 @@ lines */ z : D -> n}instance I = literal : S { generators c : D a : E b : D }",
         words: RUN,
         text: "typeside T = literal { } schema S = getSchema T",
         status: Status::Refused,
-        written: "refused 1:26 90 NotBuilt\n",
+        written: "refused 1:47 33 WrongKind\n",
     },
     Case {
         words: RUN,

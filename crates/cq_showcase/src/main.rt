@@ -7,7 +7,7 @@ use cq_run::run;
 use std::alloc::Global;
 use std::process::ExitCode;
 
-const FILES: [&str; 12] = [
+const FILES: [&str; 13] = [
     "examples/first-run.cql",
     "examples/orders.cql",
     "examples/departments.cql",
@@ -15,6 +15,7 @@ const FILES: [&str; 12] = [
     "examples/people.cql",
     "examples/lists.cql",
     "examples/glued.cql",
+    "examples/joined.cql",
     "examples/moves.cql",
     "examples/questions.cql",
     "examples/exercises/chief.cql",

@@ -1,7 +1,7 @@
 use Rattle.std.proofs.Common.{◌≡◌, false, subst, sym}
 use Rattle.std.specs.Prelude.{is_some}
 use Rattle.cq_base.specs.declared.name.Name.{Name}
-use Rattle.cq_program.specs.Checks.{meant_by}
+use Rattle.cq_program.specs.Meanings.{meant_by}
 use Rattle.cq_program.specs.Environment.{AreSettled, WillSettle, environment_of, meant}
 use Rattle.cq_program.proofs.Poses.{fresh}
 use Rattle.cq_program.proofs.Settled.{AreSettled-more}

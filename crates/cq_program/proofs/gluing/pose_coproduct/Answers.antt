@@ -3,7 +3,8 @@ use Rattle.std.specs.Prelude.{All}
 use Rattle.cq_base.specs.declared.place.Place.{Place}
 use Rattle.cq_theory.specs.declared.presentation.Presentation.{Presentation}
 use Rattle.cq_push.specs.Gluing.{coproduct_of}
-use Rattle.cq_program.specs.Checks.{InstanceMeant, SchemaMeant, a_made, coproduct_posed, first_misfit, presentations_of}
+use Rattle.cq_program.specs.Meanings.{InstanceMeant, SchemaMeant}
+use Rattle.cq_program.specs.Checks.{a_made, coproduct_posed, first_misfit, presentations_of}
 use Rattle.cq_program.specs.Environment.{environment_of, operand_meant, operands_meant, schema_meant}
 use Rattle.cq_program.proofs.Operands.{All_seen, coproduct_given, operands_over, operands_printed, seen_same}
 use Rattle.cq_program.proofs.Settled.{schema_printed}

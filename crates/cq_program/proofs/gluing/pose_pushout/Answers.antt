@@ -1,6 +1,6 @@
 use Rattle.std.proofs.Common.{◌≡◌, subst}
 use Rattle.cq_transform.specs.Transforms.{GoesFrom}
-use Rattle.cq_program.specs.Checks.{InstanceMeant, TransformMeant}
+use Rattle.cq_program.specs.Meanings.{InstanceMeant, TransformMeant}
 use Rattle.cq_program.specs.Environment.{environment_of, transform_meant}
 use Rattle.cq_program.proofs.Settled.{one_start, start_printed, transform_settled}
 use Rattle.cq_program.proofs.gluing.pose_pushout.Goals as goal

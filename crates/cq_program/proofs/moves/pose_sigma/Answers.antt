@@ -1,5 +1,5 @@
 use Rattle.std.proofs.Common.{sym}
-use Rattle.cq_program.specs.Checks.{InstanceMeant, MappingMeant}
+use Rattle.cq_program.specs.Meanings.{InstanceMeant, MappingMeant}
 use Rattle.cq_program.specs.Environment.{environment_of, instance_meant, mapping_meant}
 use Rattle.cq_program.proofs.Settled.{instance_settled, mapping_settled, one_printed}
 use Rattle.cq_program.proofs.moves.pose_sigma.Goals as goal

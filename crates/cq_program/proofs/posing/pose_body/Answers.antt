@@ -24,3 +24,9 @@ returns-in-Transform-Identity-clause-grounded c = c.pose_identical.ensures.groun
 
 pub returns-in-Transform-Literal-clause-grounded : goal.returns-in-Transform-Literal-clause-grounded
 returns-in-Transform-Literal-clause-grounded c = c.pose_transform.ensures.grounded c.args.name.now
+
+pub returns-in-Schema-GetSchema-clause-grounded : goal.returns-in-Schema-GetSchema-clause-grounded
+returns-in-Schema-GetSchema-clause-grounded c = c.pose_joined_schema.ensures.grounded c.args.name.now
+
+pub returns-in-Mapping-GetMapping-clause-grounded : goal.returns-in-Mapping-GetMapping-clause-grounded
+returns-in-Mapping-GetMapping-clause-grounded c = c.pose_inclusion.ensures.grounded c.args.name.now

@@ -1,5 +1,5 @@
 use Rattle.std.proofs.Common.{sym}
-use Rattle.cq_program.specs.Checks.{InstanceMeant, QueryMeant}
+use Rattle.cq_program.specs.Meanings.{InstanceMeant, QueryMeant}
 use Rattle.cq_program.specs.Environment.{environment_of, instance_meant, query_meant}
 use Rattle.cq_program.proofs.Settled.{instance_settled, query_settled, one_printed}
 use Rattle.cq_program.proofs.queries.pose_eval.Goals as goal

@@ -5,7 +5,8 @@ use Rattle.cq_model.specs.InstanceData.{InstanceData}
 use Rattle.cq_model.specs.declared.transform.Image.{Image}
 use Rattle.cq_transform.specs.Identities.{identity_images}
 use Rattle.cq_transform.specs.Transforms.{GoesFrom}
-use Rattle.cq_program.specs.Checks.{Ends, InstanceMeant, a_transform, ends_at, instance_used}
+use Rattle.cq_program.specs.Meanings.{Ends, InstanceMeant, instance_used}
+use Rattle.cq_program.specs.Checks.{a_transform, ends_at}
 use Rattle.cq_program.specs.Environment.{AreEnds, environment_of, instance_meant}
 use Rattle.cq_program.specs.Program.{IsTransformOf}
 use Rattle.cq_program.proofs.Given.{given_after}

@@ -1,0 +1,40 @@
+// A shop and a newsletter keep people in two schemas. Joined, their customers and subscribers are one table, with the
+// columns of both, and what either schema calls the address of somebody is the same for the other.
+typeside T = literal { types text literals text }
+
+schema Shop = literal : T {
+  entities Customer Order
+  foreign_keys by : Order -> Customer
+  attributes name mail : Customer -> text number : Order -> text
+}
+
+schema Newsletter = literal : T {
+  entities Subscriber
+  attributes nick address : Subscriber -> text
+}
+
+schema_colimit Joined = quotient Shop + Newsletter : T {
+  entity_equations Shop.Customer = Newsletter.Subscriber
+  observation_equations forall p. Shop_mail(p) = Newsletter_address(p)
+}
+
+mapping FromShop = getMapping Joined Shop
+mapping FromNewsletter = getMapping Joined Newsletter
+
+instance Orders = literal : Shop {
+  generators ann ben : Customer o1 : Order
+  equations
+    name(ann) = "Ann Müller" mail(ann) = "ann@example.org"
+    name(ben) = "Ben Li"
+    by(o1) = ann number(o1) = "2026-0117"
+}
+
+instance Readers = literal : Newsletter {
+  generators cleo : Subscriber
+  equations nick(cleo) = "Cleo" address(cleo) = "cleo@example.org"
+}
+
+instance MovedOrders = sigma FromShop Orders
+instance MovedReaders = sigma FromNewsletter Readers
+instance Both = coproduct MovedOrders + MovedReaders : Joined
+instance Mailing = delta FromNewsletter Both
