@@ -2,9 +2,13 @@
 #![tactic(auto)]
 
 #[cfg(test)]
+mod cuts;
+#[cfg(test)]
 mod entries;
 #[cfg(test)]
 mod exporting;
+#[cfg(test)]
+mod faults;
 #[cfg(test)]
 mod glued;
 #[cfg(test)]
