@@ -2,11 +2,15 @@
 #![tactic(auto)]
 
 #[cfg(test)]
+mod cuts;
+#[cfg(test)]
 mod duties;
 #[cfg(test)]
 mod entries;
 #[cfg(test)]
 mod exporting;
+#[cfg(test)]
+mod faults;
 #[cfg(test)]
 mod glued;
 #[cfg(test)]

@@ -1,0 +1,246 @@
+#!/usr/bin/env python3
+"""Times the built program on files that are made to be hard, each in three sizes.
+
+    bench/hostile.py [PROGRAM] [WORD..]
+
+PROGRAM is by default crates/cqlrun/out/cqlrun, which `./cqlrun` builds. Each file has up to 8 MiB, the most that is read, at its
+full size, and a tenth and a hundredth of it else; with words, only files in whose names one of them stands. For each it prints
+how the run ends, the bytes, the processor seconds (the best of three runs), the ratio to the size before, and the peak memory.
+Its status is 1 where a run of a full size takes over 30 seconds or 4 GiB, where one takes over twelve times what a tenth of it takes
+(times below 20 ms count as 20), or where a run does not end as it should. Literals alone are exported, since 50,000 files, one
+for each entity, are the system's work more than the program's.
+"""
+import os
+import pathlib
+import sys
+import tempfile
+
+ROOT = pathlib.Path(__file__).resolve().parent.parent
+LIMIT = 8 << 20
+HEAD = "typeside T = literal { types s constants c : s functions g : s -> s p : s, s -> s }\n"
+FILES = {}
+
+
+def file(name, count, ends):
+    """A file of this name: of so many parts at full size, with the beginning of the line that its run writes."""
+
+    def keep(make):
+        FILES[name] = make, count, ends
+        return make
+
+    return keep
+
+
+def schema(body):
+    return HEAD + f"schema S = literal : T {{ {body} }}\n"
+
+
+def instance(generators, equations):
+    return f"instance I = literal : S {{ generators {generators} equations {equations} }}\n"
+
+
+def names(letter, count):
+    return " ".join(f"{letter}{n}" for n in range(count))
+
+
+@file("brackets", LIMIT, "refused 1:1 21")
+def brackets(n):
+    return "(" * n
+
+
+@file("brackets in a term", LIMIT - 50, "refused 1:38 21")
+def brackets_in_term(n):
+    return "instance I = literal : S { equations " + "(" * n
+
+
+@file("braces that close", LIMIT - 24, "refused 1:25 21")
+def closing(n):
+    return "typeside T = literal { }" + "}" * n
+
+
+@file("quotes", LIMIT, "refused 1:1 21")
+def quotes(n):
+    return '"' * (n // 2 * 2)
+
+
+@file("a text that stays open", LIMIT - 1, "refused 1:1 1")
+def open_text(n):
+    return '"' + "x" * n
+
+
+@file("escapes", LIMIT // 202, "refused 1:")
+def escapes(n):
+    return 'typeside T = literal { types s constants ' + " ".join('"' + '\\"' * 90 + f'{k}"' for k in range(n)) + ' "" : s }'
+
+
+@file("comments", LIMIT // 6, "")
+def comments(n):
+    return "/* */\n" * n
+
+
+@file("a comment that stays open", LIMIT // 3, "refused 1:1 13")
+def open_comment(n):
+    return "/* " * n
+
+
+@file("stars", LIMIT - 2, "refused 1:1 13")
+def stars(n):
+    return "/*" + "*" * n
+
+
+@file("one word", LIMIT, "refused 1:1 14")
+def word(n):
+    return "a" * n
+
+
+@file("names of one beginning", LIMIT // 254, "refused")
+def alike(n):
+    beginning = "a" * 244
+    parts = " ".join(f"{beginning}{k:08d}" for k in range(n))
+    return f"typeside T = literal {{ types s constants {parts} : s }}\nschema S = literal : U {{ }}"
+
+
+@file("names", 1_000_000, "refused")
+def many_names(n):
+    return f"typeside T = literal {{ types s constants {names('c', n)} : s }}\nschema S = literal : U {{ }}"
+
+
+@file("options", LIMIT // 12, "")
+def options(n):
+    return "options " + "prover = a\n" * n
+
+
+@file("equations that wait on one another", 90_000, "instance I")
+def waiting(n):
+    steps = "\n".join(f"k(a{k}) = a{k + 1} k(b{k}) = b{k + 1}" for k in reversed(range(n - 1)))
+    last = f"k(a{n - 1}) = a{n - 1} k(b{n - 1}) = b{n - 1}"
+    return schema("entities E foreign_keys k : E -> E") + instance(f"{names('a', n)} {names('b', n)} : E", f"{steps} {last} a0 = b0")
+
+
+@file("values that wait on one another", 90_000, "instance I")
+def values_waiting(n):
+    steps = "\n".join(f"g(a{k}) = a{k + 1} g(b{k}) = b{k + 1}" for k in reversed(range(n - 1)))
+    return schema("") + instance(f"{names('a', n)} {names('b', n)} : s", f"{steps} a0 = b0")
+
+
+@file("cells that wait", 45_000, "instance I")
+def cells_waiting(n):
+    chain = "\n".join(f"a.k.k.k = x{k}" for k in range(n))
+    return schema("entities E foreign_keys k : E -> E path_equations k.k.k.k = k.k.k") + instance(f"a {names('x', n)} : E", chain)
+
+
+@file("one class of all rows", 190_000, "instance I")
+def one_class(n):
+    pairs = "\n".join(f"x{k * 7919 % n} = x{(k + 1) * 7919 % n}" for k in range(n - 1))
+    return schema("entities E foreign_keys k : E -> E path_equations k.k = k attributes v : E -> s") + instance(f"{names('x', n)} : E", pairs)
+
+
+@file("one class of all values", 190_000, "instance I")
+def one_value(n):
+    pairs = "\n".join(f"x{k} = x{k + 1}" for k in reversed(range(n - 1)))
+    return schema("") + instance(f"{names('x', n)} : s", f"{pairs} g(x0) = c")
+
+
+@file("a schema of 100,000 edges", 100_000, "instance I")
+def edges(n):
+    half = n // 2
+    keys = "\n".join(f"k{e} : E{e} -> E{(e + 1) % half}" for e in range(half))
+    attributes = "\n".join(f"v{e} : E{e} -> s" for e in range(half))
+    equation = "E0.k0 = E0.k0"
+    return schema(f"entities {names('E', half)} foreign_keys {keys} path_equations {equation} attributes {attributes}") + instance("", "")
+
+
+@file("100,000 edges of one entity", 100_000, "instance I")
+def keys(n):
+    return schema(f"entities E F foreign_keys {names('k', n)} : E -> F") + instance("x : E", "")
+
+
+@file("100,000 instances", 100_000, "instance I0")
+def instances(n):
+    return schema("entities E attributes v : E -> s") + "\n".join(f"instance I{k} = literal : S {{ generators x : E }}" for k in range(n))
+
+
+@file("100,000 schemas", 100_000, "")
+def schemas(n):
+    return HEAD + "\n".join(f"schema S{k} = literal : T {{ entities E attributes v : E -> s }}" for k in range(n))
+
+
+@file("deep towers of functions", 40_000, "instance I")
+def towers(n):
+    rows = "\n".join("g(" * 62 + f"a{k}" + ")" * 62 + f" = a{k * 7919 % n}" for k in range(n))
+    return schema("") + instance(f"{names('a', n)} : s", rows)
+
+
+@file("wide terms of functions", 1_500, "instance I")
+def wide_terms(n):
+    def tree(leaves):
+        while len(leaves) > 1:
+            leaves = [f"p({a}, {b})" for a, b in zip(leaves[::2], leaves[1::2])]
+        return leaves[0]
+
+    rows = "\n".join(tree([f"a{(k + j * j) % n}" for j in range(256)]) + f" = a{k}" for k in range(n))
+    return schema("") + instance(f"{names('a', n)} : s", rows)
+
+
+@file("deep paths", 28_000, "instance I")
+def paths(n):
+    rows = "\n".join(f"x{k}" + ".k" * 62 + f" = x{k * 7919 % n}" for k in range(n))
+    return schema("entities E foreign_keys k : E -> E path_equations k.k = k") + instance(f"{names('x', n)} : E", rows)
+
+
+def run(program, folder, wanted):
+    """Processor seconds and peak memory in bytes of one run in a folder, whose output goes into a file."""
+    child = os.fork()
+    if child == 0:
+        os.chdir(folder)
+        os.dup2(os.open("out", os.O_WRONLY | os.O_CREAT | os.O_TRUNC), 1)
+        os.execv(program, [program, "run", "p.cql", "--only", "cql"])
+    _, status, usage = os.wait4(child, 0)
+    if os.waitstatus_to_exitcode(status) != wanted:
+        sys.exit(f"the program ended with {status}")
+    return usage.ru_utime + usage.ru_stime, usage.ru_maxrss * 1024
+
+
+def measure(program, text, ends):
+    """Seconds and peak memory of the best of three runs, whose output begins so."""
+    best = None
+    with tempfile.TemporaryDirectory() as folder:
+        pathlib.Path(folder, "p.cql").write_text(text)
+        for _ in range(3):
+            found = run(program, folder, 1 if ends.startswith("refused") else 0)
+            best = found if best is None else min(best, found)
+            if found[0] > 3:
+                break
+        with open(pathlib.Path(folder, "out")) as out:
+            line = out.readline().rstrip("\n")
+    if not line.startswith(ends):
+        sys.exit(f"a line that begins with {ends!r} was due: {line!r}")
+    return best, line
+
+
+def main():
+    program = str(pathlib.Path(sys.argv[1]).resolve() if len(sys.argv) > 1 else ROOT / "crates/cqlrun/out/cqlrun")
+    wanted, steep = sys.argv[2:], []
+    print("| File | bytes | seconds | time, of a tenth | peak memory, MiB | ends with |")
+    print("|---|---|---|---|---|---|")
+    for name, (make, count, ends) in FILES.items():
+        if wanted and not any(word in name for word in wanted):
+            continue
+        before = None
+        for part in (100, 10, 1):
+            text = make(count // part)
+            size = len(text.encode())
+            if size > LIMIT:
+                sys.exit(f"{name}: {size} bytes are too many")
+            (seconds, peak), line = measure(program, text, ends)
+            ratio = max(seconds, 0.02) / max(before, 0.02) if before else 0
+            before = seconds
+            if ratio > 12 or seconds > 30 or peak > 4 << 30:
+                steep.append(name)
+            shown = f"{ratio:.1f}" if ratio else ""
+            print(f"| {name} | {size:,} | {seconds:.3f} | {shown} | {peak / 2**20:.0f} | {line[:24]} |", flush=True)
+    print(f"\n{len(steep)} too steep: {', '.join(steep)}")
+    sys.exit(1 if steep else 0)
+
+
+main()
