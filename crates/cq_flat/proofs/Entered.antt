@@ -122,3 +122,12 @@ module _ (nodes : List Node) (class : ℕ → ℕ) where
     kept = λ a b c. f.kept a b (e.kept a b c);
     tabled = λ a h. f.tabled a (⊎_elim (λ m. ⊎_elim (λ n. inr (e.tabled a (inl n))) (λ n. inl (sym n)) (has_more entered i a l m)) (λ t. inr (e.tabled a (inr t))) h);
   }
+
+  -- of nodes that were put into the table, some are named
+  pub enters_some : (table table' : List (List ℕ × ℕ)) (pending pending' : List (ℕ × ℕ)) (entered some : ℕ → Type 0) → ((a : ℕ) → some a → entered a)
+      → Enters nodes class entered table table' pending pending' → Enters nodes class some table table' pending pending'
+  enters_some table table' pending pending' entered some fewer e = record {
+    sound = e.sound;
+    kept = e.kept;
+    tabled = λ a h. e.tabled a (⊎_elim (λ o. inl (fewer a o)) inr h);
+  }

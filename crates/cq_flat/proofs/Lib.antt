@@ -10,6 +10,8 @@ pub mod Skipping
 pub mod Moving
 pub mod Starting
 pub mod Merged
+pub mod Refreshed
+pub mod Steps
 pub mod Leasts
 pub mod Firsts
 pub mod Labelling

@@ -1,8 +1,14 @@
 -- A number at some place of a list.
-use Rattle.std.proofs.Common.{◌≡◌, ℕ, ◌+◌, ◌<◌, ◌≤◌, List, [], ◌∷◌, ◌++◌, length, get_or, take, ◌∙◌, refl, arith, ◌⊎◌, inl, inr, ⊎_elim}
+use Rattle.std.proofs.Common.{◌≡◌, ℕ, ◌+◌, ◌<◌, ◌≤◌, List, [], ◌∷◌, ◌++◌, length, get_or, take, ◌∙◌, refl, arith, eqb, ◌⊎◌, inl, inr, ⊎_elim}
 use Rattle.std.proofs.lemmas.List.{get_or_default, take_more, take_all}
 use Rattle.std.proofs.lemmas.List.Elements.{Contains-append_left, Contains-append_right, Contains-append_cases, Contains-push, Contains-push_cases}
-use Rattle.std.specs.Prelude.{Contains}
+use Rattle.std.proofs.lemmas.List.Filters.{dedup_is}
+use Rattle.std.proofs.lemmas.List.Kept.{Contains-dedup_nat, Contains-from_dedup}
+use Rattle.std.proofs.lemmas.List.Sorted.{Contains-permutation, IsPermutation-sym}
+use Rattle.std.specs.Prelude.{◌↔◌, Contains}
+use Rattle.std.specs.List.{dedup}
+use Rattle.std.specs.List.Retain.{IsFiltered, DiffersFromLast}
+use Rattle.std.specs.List.Sorted.{IsPermutation}
 use Rattle.cq_flat.specs.Partition.{Has}
 
 pub has : (xs : List ℕ) (x : ℕ) → Contains xs x → Has xs x
@@ -53,3 +59,11 @@ has_head x xs = (0, omega arith, refl)
 
 pub has_tail : (y x : ℕ) (xs : List ℕ) → Has xs x → Has (y ∷ xs) x
 has_tail y x xs h = has_right (y ∷ []) xs x h
+
+-- a list that is sorted, with each number kept once, has the same numbers
+pub has_distinct : (xs sorted ys : List ℕ) → IsPermutation xs sorted → IsFiltered (DiffersFromLast eqb) [] sorted ys → (x : ℕ) → Has xs x ↔ Has ys x
+has_distinct xs sorted ys p f x =
+    let e : ys ≡ dedup eqb sorted = dedup_is eqb sorted ys f in (
+      λ h. has ys x (rw e (Contains-dedup_nat sorted x (Contains-permutation xs sorted x p (contained xs x h)))),
+      λ h. has xs x (Contains-permutation sorted xs x (IsPermutation-sym xs sorted p) (Contains-from_dedup eqb sorted x (rw e at (contained ys x h)))),
+    )

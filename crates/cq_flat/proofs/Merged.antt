@@ -10,12 +10,12 @@ use Rattle.cq_flat.specs.declared.node.Node.{Node}
 use Rattle.cq_flat.specs.declared.node.Node.TheVariants.{Leaf, Const, Fun}
 use Rattle.cq_flat.specs.declared.closing.Closing.{Closing}
 use Rattle.cq_flat.specs.Nodes.{HasEarlierArguments, AreSides}
-use Rattle.cq_flat.specs.Keys.{key_of, con_key}
+use Rattle.cq_flat.specs.Keys.{key_of, con_key, found}
 use Rattle.cq_flat.specs.Partition.{Has, joined}
 use Rattle.cq_flat.specs.Congruence as congruent
 use Rattle.cq_flat.specs.Congruence.{Congruent, AllCongruent}
 use Rattle.cq_flat.specs.Closing.{AreExact, Joined, same, waiting, IsSound, IsTabled, AreSound, Skips, roots_below}
-use Rattle.cq_flat.specs.State.{class_in, IsShaped, IsClosing, Merges}
+use Rattle.cq_flat.specs.State.{class_in, IsShaped, IsClosing, Merges, Refreshes}
 use Rattle.cq_flat.proofs.Arguments.{args_within, argument_within}
 use Rattle.cq_flat.proofs.Waiting.{Joined-map, Joined-more, Joined-done}
 use Rattle.cq_flat.proofs.Members.{has_none, has_left, has_right, has_cases, has_head, has_tail}
@@ -66,7 +66,7 @@ module _ (nodes : List Node) (early : HasEarlierArguments nodes) (equations : Li
       let w = congruent_within nodes equations sides (c.sound.pairs o.0 o.1 o.2) in
       (rw o.3 at (c.shape.root o.0 w.0), rw o.4 at (c.shape.root o.1 w.1))
 
-  module _ (from to : ℕ) (which : ((from ≡ x) × (to ≡ y)) ⊎ ((from ≡ y) × (to ≡ x))) (new : Closing) (m : Merges nodes (record old { pending = v }) new from to) where
+  module _ (from to : ℕ) (which : ((from ≡ x) × (to ≡ y)) ⊎ ((from ≡ y) × (to ≡ x))) (new : Closing) (m : Merges (record old { pending = v }) new from to) where
     differ : from ≢ to
     differ e = ⊎_elim (λ o. taken_differ (sym o.0 ∙ e ∙ o.1)) (λ o. taken_differ (sym o.1 ∙ sym e ∙ o.0)) which
 
@@ -100,8 +100,8 @@ module _ (nodes : List Node) (early : HasEarlierArguments nodes) (equations : Li
       | inr n ↦ rw (at_other a l n) (c.sound.classes a l)
     ]
 
-    sound_between : IsSound nodes equations (class_in new) old.table v.items
-    sound_between = record { classes = sound_new; entries = c.sound.entries; pairs = λ a b h. c.sound.pairs a b (k.fewer a b h) }
+    sound_between : IsSound nodes equations (class_in new) new.table new.pending.items
+    sound_between = rw (m.table, m.pending) (record { classes = sound_new; entries = c.sound.entries; pairs = λ a b h. c.sound.pairs a b (k.fewer a b h) })
 
     stay : (a b : ℕ) → a < length nodes → b < length nodes → class_in old a ≡ class_in old b → class_in new a ≡ class_in new b
     stay a b la lb e = at a la ∙ ap (joined from to) e ∙ sym (at b lb)
@@ -123,7 +123,7 @@ module _ (nodes : List Node) (early : HasEarlierArguments nodes) (equations : Li
         j
 
     after : {a b : ℕ} → Joined (length nodes) (class_in old) old.pending.items a b → Joined (length nodes) (class_in new) new.pending.items a b
-    after {a} {b} j = Joined-more (length nodes) (class_in new) v.items new.pending.items m.entered.kept a b (between j)
+    after j = rw m.pending (between j)
 
     -- some argument is in the class that is joined to the other, or the key stays
     arguments : (args : List ℕ) → All (λ z. z < length nodes) args → ((z : ℕ) × Has args z × (class_in old z ≡ from)) ⊎ (map (class_in new) args ≡ map (class_in old) args)
@@ -135,29 +135,41 @@ module _ (nodes : List Node) (early : HasEarlierArguments nodes) (equations : Li
           (arguments zs (All-tail (λ z. z < length nodes) z zs h))
     ]
 
-    abbrev Tabled : ℕ → Type 0
-    Tabled a = IsTabled nodes (class_in new) old.table v.items a
+    abbrev WasTabled : ℕ → Type 0
+    WasTabled a = IsTabled nodes (class_in old) old.table old.pending.items a
 
-    tabled_same : (a : ℕ) (node : Node) → slice_get nodes a ≡ Some node → key_of (class_in new) node ≡ key_of (class_in old) node → Tabled a
-    tabled_same a node is e other key ia ka =
+    abbrev Tabled : ℕ → Type 0
+    Tabled a = IsTabled nodes (class_in new) new.table new.pending.items a
+
+    tabled_same : (a : ℕ) (node : Node) → slice_get nodes a ≡ Some node → key_of (class_in new) node ≡ key_of (class_in old) node → WasTabled a → Tabled a
+    tabled_same a node is e was other key ia ka =
         let i : Some other ≡ Some node = sym ia ∙ is in
         let j : other ≡ node = cc in
-        let o = c.tabled a other key ia (ap (key_of (class_in old)) j ∙ sym e ∙ sym (ap (key_of (class_in new)) j) ∙ ka) in
-        (o.0, o.1, between o.2)
+        let o = was other key ia (ap (key_of (class_in old)) j ∙ sym e ∙ sym (ap (key_of (class_in new)) j) ∙ ka) in
+        (o.0, ap (λ z. found z key) m.table ∙ o.1, after o.2)
 
-    tabled_node : (a : ℕ) (node : Node) → slice_get nodes a ≡ Some node → Has (get_or old.uses from []) a ⊎ Tabled a
-    tabled_node a Leaf is = inr (tabled_same a Leaf is refl)
-    tabled_node a (Const d) is = inr (tabled_same a (Const d) is refl)
-    tabled_node a (Fun f args) is = ⊎_elim
+    tabled_node : (a : ℕ) (node : Node) → slice_get nodes a ≡ Some node → WasTabled a → Has (get_or old.uses from []) a ⊎ Tabled a
+    tabled_node a Leaf is was = inr (tabled_same a Leaf is refl was)
+    tabled_node a (Const d) is was = inr (tabled_same a (Const d) is refl was)
+    tabled_node a (Fun f args) is was = ⊎_elim
         (λ o. inl (rw o.2 at (c.shape.uses.listed a f o.0 args is o.1)))
-        (λ o. inr (tabled_same a (Fun f args) is (ap (λ zs. Some (0 ∷ 1 ∷ f ∷ zs)) o)))
+        (λ o. inr (tabled_same a (Fun f args) is (ap (λ zs. Some (0 ∷ 1 ∷ f ∷ zs)) o) was))
         (arguments args (args_within nodes early a f args is))
 
-    tabled_between : (a : ℕ) → Has (get_or old.uses from []) a ⊎ Tabled a
-    tabled_between a = by (slice_get nodes a) refl where
+    tabled_between : (a : ℕ) → WasTabled a → Has (get_or old.uses from []) a ⊎ Tabled a
+    tabled_between a was = by (slice_get nodes a) refl where
       by : (o : Option Node) → slice_get nodes a ≡ o → Has (get_or old.uses from []) a ⊎ Tabled a
       by None e = inr (λ node key is keyed. let i : None ≡ Some node = sym e ∙ is in absurd (cc))
-      by (Some node) e = tabled_node a node e
+      by (Some node) e = tabled_node a node e was
+
+    stale_new : (a : ℕ) → Has old.stale.items a ⊎ Has (get_or old.uses from []) a → Has new.stale.items a
+    stale_new a h = rw m.stale (⊎_elim (has_left old.stale.items (get_or old.uses from []) a) (has_right old.stale.items (get_or old.uses from []) a) h)
+
+    tabled_new : (a : ℕ) → Has new.stale.items a ⊎ Tabled a
+    tabled_new a = ⊎_elim (λ o. inl (stale_new a (inl o))) (λ t. ⊎_elim (λ o. inl (stale_new a (inr o))) inr (tabled_between a t)) (c.tabled a)
+
+    stale_within : (a : ℕ) → Has new.stale.items a → a < length nodes
+    stale_within a h = ⊎_elim (c.within a) (c.shape.uses.within from a) (has_cases old.stale.items (get_or old.uses from []) a (rw m.stale at h))
 
     uses_to : get_or new.uses to [] ≡ get_or old.uses to [] ++ get_or old.uses from []
     uses_to = moved_to old.uses _ new.uses from to (omega (arith, from_within, c.shape.uses.count)) (omega (arith, to_within, c.shape.uses.count)) differ refl m.uses
@@ -217,9 +229,10 @@ module _ (nodes : List Node) (early : HasEarlierArguments nodes) (equations : Li
     pub closing_merged : IsClosing nodes equations new
     closing_merged = record {
       shape = shape_new;
-      sound = m.entered.sound equations sound_between;
+      sound = sound_between;
       given = λ a b h. after (c.given a b h);
-      tabled = λ a. m.entered.tabled a (tabled_between a);
+      within = stale_within;
+      tabled = tabled_new;
     }
 
     -- a node that is now the number of its class was that before
@@ -253,18 +266,21 @@ module _ (nodes : List Node) (early : HasEarlierArguments nodes) (equations : Li
     pub roots_fall : roots_below (class_in new) (length nodes) < roots_below (class_in old) (length nodes)
     roots_fall = (roots_fewer (length nodes) (omega arith)).1 from_within
 
--- when no pair of two classes waits, one class is what equal nodes have
-module _ (nodes : List Node) (equations : List (ℕ × ℕ)) (s : Closing) (c : IsClosing nodes equations s) (left : List (ℕ × ℕ)) (k : Skips (class_in s) s.pending.items left None) where
+-- when no pair waits and no function is stale, one class is what equal nodes have
+module _ (nodes : List Node) (equations : List (ℕ × ℕ)) (s : Closing) (c : IsClosing nodes equations s) (p : s.pending.items ≡ []) (fresh : s.stale.items ≡ []) where
   done : (a b : ℕ) → Contains {X = ℕ × ℕ} s.pending.items (a, b) → class_in s a ≡ class_in s b
-  done a b h = ⊎_elim (λ o. absurd (omega (arith, (rw (k.none refl) at o).1))) (λ o. ⊎_elim (λ e. e) (λ e. absurd (cc)) o) (k.skipped a b h)
+  done a b h = absurd (omega (arith, (rw p at h).1))
+
+  tabled : (a : ℕ) → IsTabled nodes (class_in s) s.table s.pending.items a
+  tabled a = ⊎_elim (λ o. absurd (has_none a (rw fresh at o))) (λ t. t) (c.tabled a)
 
   now : {a b : ℕ} → Joined (length nodes) (class_in s) s.pending.items a b → class_in s a ≡ class_in s b
   now j = Joined-done (length nodes) (class_in s) s.pending.items done j
 
   one_key : (a b : ℕ) (x y : Node) (key : List ℕ) → slice_get nodes a ≡ Some x → slice_get nodes b ≡ Some y → key_of (class_in s) x ≡ Some key → key_of (class_in s) y ≡ Some key → class_in s a ≡ class_in s b
   one_key a b x y key ia ib ka kb =
-      let o = c.tabled a x key ia ka in
-      let p = c.tabled b y key ib kb in
+      let o = tabled a x key ia ka in
+      let p = tabled b y key ib kb in
       let i : Some o.0 ≡ Some p.0 = sym o.1 ∙ p.1 in
       let j : o.0 ≡ p.0 = cc in
       now o.2 ∙ ap (class_in s) j ∙ sym (now p.2)

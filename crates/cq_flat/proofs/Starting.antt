@@ -1,5 +1,5 @@
 -- The state in which each node is alone, and all nodes are in the table.
-use Rattle.std.proofs.Common.{◌≡◌, ℕ, ◌<◌, List, [], length, Some, ◌∙◌, ap, arith, inl, zero-add}
+use Rattle.std.proofs.Common.{◌≡◌, ℕ, ◌<◌, List, [], length, Some, ◌∙◌, ap, arith, inl, inr, zero-add}
 use Rattle.std.proofs.lemmas.List.FromFn.{length-range_with_len, get_or-range_with_len}
 use Rattle.std.proofs.lemmas.Option.{slice_get_within, slice_get-get_or}
 use Rattle.std.specs.Prelude.{Contains, slice_index}
@@ -12,6 +12,7 @@ use Rattle.cq_flat.specs.Congruence.{Congruent, reflexive, given}
 use Rattle.cq_flat.specs.Closing.{waiting, IsSound, AreUses, Enters}
 use Rattle.cq_flat.specs.State.{class_in, IsShaped, IsClosing}
 use Rattle.cq_flat.proofs.Arguments.{argument_within}
+use Rattle.cq_flat.proofs.Members.{has_none}
 
 pub below_has : (n a : ℕ) → Has (range_with_len 0 n) a → a < n
 below_has n a h =
@@ -24,7 +25,7 @@ given_equal nodes equations a b c = given c.0 (slice_get-get_or equations c.0 (a
 
 module _ (nodes : List Node) (early : HasEarlierArguments nodes) (equations : List (ℕ × ℕ)) (s : Closing) (e : s.classes.items ≡ range_with_len 0 (length nodes))
     (p : IsPartition s.classes.items s.members) (u : AreUses nodes (λ a. a) s.uses)
-    (m : Enters nodes (class_in s) (Has s.classes.items) [] s.table equations s.pending.items) where
+    (m : Enters nodes (class_in s) (Has s.classes.items) [] s.table equations s.pending.items) (fresh : s.stale.items ≡ []) where
   at : (a : ℕ) → a < length nodes → class_in s a ≡ a
   at a l = ap (λ xs. slice_index xs a) e ∙ get_or-range_with_len 0 (length nodes) a 0 l ∙ zero-add a
 
@@ -59,5 +60,6 @@ module _ (nodes : List Node) (early : HasEarlierArguments nodes) (equations : Li
     shape = shape_start;
     sound = m.sound equations sound_start;
     given = λ a b c. waiting (m.kept a b c);
-    tabled = λ a node key is keyed. m.tabled a (inl (here a (slice_get_within nodes a node is))) node key is keyed;
+    within = λ a h. absurd (has_none a (rw fresh at h));
+    tabled = λ a. inr (λ node key is keyed. m.tabled a (inl (here a (slice_get_within nodes a node is))) node key is keyed);
   }

@@ -1,9 +1,9 @@
 -- What a closure that is being made keeps.
-use Rattle.std.specs.Prelude.{◌≡◌, ℕ, ◌<◌, List, [], ◌++◌, length, map, Contains, slice_index, slice_index_or, slice_set}
+use Rattle.std.specs.Prelude.{◌≡◌, ℕ, ◌+◌, ◌*◌, ◌<◌, ◌⊎◌, List, [], ◌∷◌, ◌++◌, length, map, Contains, slice_index, slice_index_or, slice_set}
 use Rattle.cq_flat.specs.declared.node.Node.{Node}
 use Rattle.cq_flat.specs.declared.closing.Closing.{Closing}
 use Rattle.cq_flat.specs.Partition.{Has, IsPartition, joined}
-use Rattle.cq_flat.specs.Closing.{Joined, IsSound, IsTabled, AreUses, Enters}
+use Rattle.cq_flat.specs.Closing.{Joined, IsSound, IsTabled, AreUses, Enters, roots_below}
 
 -- the class of a node
 abbrev pub class_in : Closing → ℕ → ℕ
@@ -17,17 +17,38 @@ pub record IsShaped (nodes : List Node) (s : Closing) : Type 0 where
   pub partition : IsPartition s.classes.items s.members
   pub uses : AreUses nodes (class_in s) s.uses
 
--- what is joined is equal; what is equal is joined once the pairs that wait are
+-- What is joined is equal; what is equal is joined once the pairs that wait are, and the functions that are stale are looked up anew.
 pub record IsClosing (nodes : List Node) (equations : List (ℕ × ℕ)) (s : Closing) : Type 0 where
   pub shape : IsShaped nodes s
   pub sound : IsSound nodes equations (class_in s) s.table s.pending.items
   pub given : (a b : ℕ) → Contains equations (a, b) → Joined (length nodes) (class_in s) s.pending.items a b
-  pub tabled : (a : ℕ) → IsTabled nodes (class_in s) s.table s.pending.items a
+  pub within : (a : ℕ) → Has s.stale.items a → a < length nodes
+  pub tabled : (a : ℕ) → Has s.stale.items a ⊎ IsTabled nodes (class_in s) s.table s.pending.items a
 
--- one class is joined to another, and the functions of its members are looked up anew
-pub record Merges (nodes : List Node) (old new : Closing) (from to : ℕ) : Type 0 where
+-- one class is joined to another, and the functions of its members are stale
+pub record Merges (old new : Closing) (from to : ℕ) : Type 0 where
   pub classes : new.classes.items ≡ map (joined from to) old.classes.items
   pub partition : IsPartition new.classes.items new.members
   pub uses : new.uses ≡ slice_set (slice_set old.uses from []) to
       (slice_index_or (slice_set old.uses from []) to [] ++ slice_index_or old.uses from [])
-  pub entered : Enters nodes (class_in new) (Has (slice_index_or old.uses from [])) old.table new.table old.pending.items new.pending.items
+  pub table : new.table ≡ old.table
+  pub pending : new.pending.items ≡ old.pending.items
+  pub stale : new.stale.items ≡ old.stale.items ++ slice_index_or old.uses from []
+
+-- the stale functions are looked up anew
+pub record Refreshes (nodes : List Node) (old new : Closing) : Type 0 where
+  pub classes : new.classes.items ≡ old.classes.items
+  pub members : new.members ≡ old.members
+  pub uses : new.uses ≡ old.uses
+  pub stale : new.stale.items ≡ []
+  pub idle : old.stale.items ≡ [] → new.pending.items ≡ old.pending.items
+  pub entered : Enters nodes (class_in old) (Has old.stale.items) old.table new.table old.pending.items new.pending.items
+
+-- whether something waits
+abbrev pub waits : {A : Type 0} → List A → ℕ
+waits [] = 0
+waits (x ∷ xs) = 1
+
+-- Falls with each step of a closure: a class fewer, or else less that waits.
+abbrev pub steps_left : ℕ → Closing → ℕ
+steps_left n s = 4 * roots_below (class_in s) n + 2 * waits s.stale.items + waits s.pending.items

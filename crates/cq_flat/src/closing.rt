@@ -1,7 +1,8 @@
 //! The closure of equations on nodes.
-ghost use Rattle.std.specs.Prelude.{◌≡◌, ◌≢◌, ◌<◌, ◌⊎◌, ℕ, length, Contains, IfOk, OnOk, slice_index};
+ghost use Rattle.std.specs.Prelude.{◌≡◌, ◌≢◌, ◌<◌, ◌↔◌, ℕ, length, Contains, IfOk, OnOk, IsFalse, slice_index};
 ghost use Rattle.cq_flat.specs.Nodes.{HasEarlierArguments, AreSides};
 ghost use Rattle.cq_flat.specs.Closing.{AreExact, Skips};
+ghost use Rattle.cq_flat.specs.Partition.{Has};
 
 use crate::classes::{join, singletons};
 use crate::entering::enter_all;
@@ -10,9 +11,11 @@ use crate::lists::Lists;
 use crate::node::Node;
 use crate::uses::uses_of;
 use std::alloc::{AllocError, Global};
+use std::mem;
 
 /// The classes so far, their members, the functions that have a member of a class as an argument,
-/// the nodes by their keys, and the pairs of nodes that are still to be joined.
+/// the nodes by their keys, the pairs of nodes that are still to be joined, and the functions whose
+/// arguments were joined since they were looked up.
 #[derive(Drop)]
 pub struct Closing {
     classes: Vec<u64>,
@@ -20,10 +23,13 @@ pub struct Closing {
     uses: Lists,
     table: Table,
     pending: Vec<(u64, u64)>,
+    stale: Vec<u64>,
 }
 
 impl Closing {
-    ghost use Rattle.cq_flat.specs.State.{IsClosing, IsShaped, Merges};
+    ghost use Rattle.cq_flat.specs.Partition.{IsPartition};
+    ghost use Rattle.cq_flat.specs.State.{IsClosing, Merges, Refreshes};
+    ghost use Rattle.std.specs.Prelude.{◌⊎◌, []};
 
     fn start(
         alloc: Global,
@@ -52,59 +58,85 @@ impl Closing {
             uses,
             table,
             pending,
+            stale: Vec::new(alloc),
         })
     }
 
+    // Whether pairs are to be joined, or functions to be looked up.
+    fn is_open(&self) -> bool
+        ensures { IsFalse result ↔ ((self.now.pending.items ≡ []) × (self.now.stale.items ≡ [])) }
+    {
+        !(self.pending.is_empty() && self.stale.is_empty())
+    }
+
     // Joins two classes: the one with fewer members to the other.
-    fn merge(
-        &mut self,
-        alloc: Global,
-        nodes: &[Node],
-        left: u64,
-        right: u64,
-    ) -> Result<(), AllocError>
-        requires arguments { HasEarlierArguments nodes.now }
-        requires shape { IsShaped nodes.now self.old }
-        requires left { left < length nodes.now }
-        requires right { right < length nodes.now }
+    fn merge(&mut self, left: u64, right: u64) -> Result<(), AllocError>
+        requires partition { IsPartition self.old.classes.items self.old.members }
+        requires uses { length self.old.uses ≡ length self.old.classes.items }
+        requires left { left < length self.old.classes.items }
+        requires right { right < length self.old.classes.items }
         requires differ { left ≢ right }
-        ensures { OnOk result (Merges nodes.now self.old self.new left right
-            ⊎ Merges nodes.now self.old self.new right left) }
+        ensures { OnOk result (Merges self.old self.new left right ⊎ Merges self.old self.new right left) }
     {
         if self.members.get(left).len() < self.members.get(right).len() {
-            self.join(alloc, nodes, left, right)?;
+            self.join(left, right)?;
         } else {
-            self.join(alloc, nodes, right, left)?;
+            self.join(right, left)?;
         }
         Ok(())
     }
 
-    // Joins one class to another, and looks up anew the functions of its members.
-    fn join(&mut self, alloc: Global, nodes: &[Node], from: u64, to: u64) -> Result<(), AllocError>
-        requires arguments { HasEarlierArguments nodes.now }
-        requires shape { IsShaped nodes.now self.old }
-        requires from { from < length nodes.now }
-        requires to { to < length nodes.now }
+    // Joins one class to another. The functions of its members are to be looked up anew.
+    fn join(&mut self, from: u64, to: u64) -> Result<(), AllocError>
+        requires partition { IsPartition self.old.classes.items self.old.members }
+        requires uses { length self.old.uses ≡ length self.old.classes.items }
+        requires from { from < length self.old.classes.items }
+        requires to { to < length self.old.classes.items }
         requires differ { from ≢ to }
-        ensures { OnOk result (Merges nodes.now self.old self.new from to) }
+        ensures { OnOk result (Merges self.old self.new from to) }
     {
         join(&mut self.classes, &mut self.members, from, to)?;
         let moved = self.uses.take(from);
+        self.stale.extend_from_slice(moved.as_slice())?;
+        self.uses.extend(to, moved.as_slice())?;
+        Ok(())
+    }
+
+    // Looks up anew the functions whose arguments were joined, each once, however many of them were.
+    fn refresh(&mut self, alloc: Global, nodes: &[Node]) -> Result<(), AllocError>
+        requires arguments { HasEarlierArguments nodes.now }
+        requires count { length self.old.classes.items ≡ length nodes.now }
+        requires stale { (a : ℕ) → Has self.old.stale.items a → a < length nodes.now }
+        ensures { OnOk result (Refreshes nodes.now self.old self.new) }
+    {
+        if self.stale.is_empty() {
+            return Ok(());
+        }
+        let stale = distinct(mem::replace(&mut self.stale, Vec::new(alloc)));
         enter_all(
             alloc,
             nodes,
             self.classes.as_slice(),
             &mut self.table,
             &mut self.pending,
-            moved.as_slice(),
+            stale.as_slice(),
         )?;
-        self.uses.extend(to, moved.as_slice())?;
         Ok(())
     }
 }
 
+// The numbers, each once.
+fn distinct(numbers: Vec<u64>) -> Vec<u64>
+    ensures { (x : ℕ) → Has numbers.items x ↔ Has result.items x }
+{
+    let mut numbers = numbers;
+    numbers.sort_unstable();
+    numbers.dedup();
+    numbers
+}
+
 /// The class of each node in the least congruence that contains the equations and makes equal
-/// constants equal.
+/// constants equal. All pairs that wait are joined before a function is looked up anew.
 pub fn close_classes(
     alloc: Global,
     nodes: &[Node],
@@ -115,8 +147,11 @@ pub fn close_classes(
     ensures { IfOk result (λ classes. AreExact nodes.now equations.items classes.items) }
 {
     let mut closing = Closing::start(alloc, nodes, equations)?;
-    while let Some((left, right)) = next(closing.classes.as_slice(), &mut closing.pending) {
-        closing.merge(alloc, nodes, left, right)?;
+    while closing.is_open() {
+        match next(closing.classes.as_slice(), &mut closing.pending) {
+            Some((left, right)) => closing.merge(left, right)?,
+            None => closing.refresh(alloc, nodes)?,
+        }
     }
     let Closing { classes, .. } = closing;
     Ok(classes)

@@ -12,4 +12,4 @@ enter_all-requires-clause-entered c = λ a h.
 
 pub returns : goal.returns
 returns c = closing_start c.args.nodes.now c.requires.arguments c.args.equations.items _ c.in_ok-classes.ensures.classes c.in_ok-classes.ensures.partition c.in_ok-uses.ensures
-    (rw (c.as_slice.ensures.value, c.as_slice-2.ensures.value, c.in_ok-table.ensures) at c.in_ok-enter_all.ensures)
+    (rw (c.as_slice.ensures.value, c.as_slice-2.ensures.value, c.in_ok-table.ensures) at c.in_ok-enter_all.ensures) c.new.ensures.items
