@@ -101,26 +101,19 @@ by_parser depth before after tokens (grammatical.BadOption place) answer.Memory 
 by_parser depth before after tokens (grammatical.BadOption place) (answer.Refused line) is only says = told_parse depth before.files tokens (grammatical.BadOption place) line.items is says (λ sound. let m = only sound.0 sound.1.0 sound.1.1 in absurd (cc m))
 
 -- what is judged of the tokens of a text is judged of the text
-lexed_as : (depth : ℕ) (before after : FolderData) (bytes : List ℕ) (tokens : List Token) (a : Answer) → lex.Tokens bytes tokens
+pub by_tokens : (depth : ℕ) (before after : FolderData) (bytes : List ℕ) (tokens : List Token) (a : Answer) → lex.Tokens bytes tokens
     → ((others : List Token) → lex.Tokens bytes others → tokens ≡ others)
     → JudgesTokens depth before after tokens a → Judges depth before after bytes a
 unfolding Means IsAcceptable
-lexed_as depth before after bytes tokens (answer.Accepted instances) lexed only judged =
+by_tokens depth before after bytes tokens (answer.Accepted instances) lexed only judged =
     (judged.0, record { tokens = tokens; lexed = lexed; spelled = judged.1 }, judged.2)
-lexed_as depth before after bytes tokens (answer.Refused line) lexed only judged = record {
+by_tokens depth before after bytes tokens (answer.Refused line) lexed only judged = record {
   refuses = no_program tokens lexed judged.0;
   other = λ a. judged.1 (a.0, subst (λ z. IsTreeIn z a.0) (sym (only a.1.tokens a.1.lexed)) a.1.spelled, a.2);
 }
-lexed_as depth before after bytes tokens (answer.Unread line) lexed only judged =
+by_tokens depth before after bytes tokens (answer.Unread line) lexed only judged =
     (judged.0, record { tokens = tokens; lexed = lexed; spelled = judged.1 }, judged.2)
-lexed_as depth before after bytes tokens answer.Memory lexed only judged = tt
-
--- the same of a slice of the tokens
-pub by_tokens : (depth : ℕ) (before after : FolderData) (bytes : List ℕ) (tokens slice : List Token) (a : Answer) → lex.Tokens bytes tokens
-    → ((others : List Token) → lex.Tokens bytes others → tokens ≡ others) → slice ≡ tokens
-    → JudgesTokens depth before after slice a → Judges depth before after bytes a
-by_tokens depth before after bytes tokens slice a lexed only is judged =
-    lexed_as depth before after bytes tokens a lexed only (subst (λ (ts : List Token). JudgesTokens depth before after ts a) is judged)
+by_tokens depth before after bytes tokens answer.Memory lexed only judged = tt
 
 told_lex : (depth : ℕ) (told : Told) (bytes : List ℕ) (refusal : LexRefusal) (line : List ℕ) → lex.Refuses [] bytes refusal → line ≡ lex_line refusal
     → ((others : List Token) → lex.Tokens bytes others → ⊥) → IsRefusalOf depth told bytes line

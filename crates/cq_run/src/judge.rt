@@ -1,7 +1,11 @@
 //! What becomes of a text: its instances, or the line of the first rule that it breaks, or of a file that one of its
 //! imports names and that was not read.
-ghost use Rattle.std.specs.Prelude.{◌≤◌, ◌^◌, ◌∷◌, length, codes, decimal, []};
+ghost use Rattle.std.specs.Prelude.{◌≡◌, ◌≤◌, ◌^◌, ◌∷◌, length, codes, decimal, [], IfErr, IfOk, MatchResult};
 ghost use Rattle.cq_lex.specs.Spans.{EndsOnce};
+ghost use Rattle.cq_syntax.specs.Program.{FitsLimits, IsProgram};
+ghost use Rattle.cq_syntax.specs.declared.program.Program.{Program};
+ghost use Rattle.cq_parse.specs.Parsed.{IsRefused};
+ghost use Rattle.cq_parse.specs.declared.refusal.ParseRefusal.{ParseRefusal};
 ghost use Rattle.cq_import.specs.Folders.{Keeps};
 ghost use Rattle.cq_program.specs.Lines.{line_of};
 ghost use Rattle.cq_run.specs.Answer.{Judges};
@@ -54,14 +58,14 @@ pub fn judge<F: Folder>(alloc: Global, text: &[u8], depth: u32, folder: &mut F) 
         }) }
 {
     match lex(alloc, text) {
-        Ok(tokens) => judge_tokens(alloc, tokens.as_slice(), depth, folder),
+        Ok(tokens) => judge_tokens(alloc, tokens, depth, folder),
         Err(refusal) => lex_refusal(alloc, refusal),
     }
 }
 
 /// The same for the tokens of a text.
-fn judge_tokens<F: Folder>(alloc: Global, tokens: &[Token], depth: u32, folder: &mut F) -> Answer
-    requires end { EndsOnce tokens.now }
+fn judge_tokens<F: Folder>(alloc: Global, tokens: Vec<Token>, depth: u32, folder: &mut F) -> Answer
+    requires end { EndsOnce tokens.items }
     requires depth { depth ≤ 64 }
     ensures judges { JudgesTokens depth
         (record {
@@ -78,7 +82,7 @@ fn judge_tokens<F: Folder>(alloc: Global, tokens: &[Token], depth: u32, folder: 
           overruns = F.overruns folder.new;
           steady = F.steady folder.new;
         })
-        tokens.now result }
+        tokens.items result }
     ensures keeps { Keeps
         (record {
           files = F.files folder.old;
@@ -95,10 +99,21 @@ fn judge_tokens<F: Folder>(alloc: Global, tokens: &[Token], depth: u32, folder: 
           steady = F.steady folder.new;
         }) }
 {
-    match parse(alloc, tokens) {
+    match tree_of(alloc, tokens) {
         Ok(tree) => judge_program(alloc, &tree, depth, folder),
         Err(refusal) => parse_refusal(alloc, refusal),
     }
+}
+
+/// The tree that these tokens spell. They are given back before anything is made of it.
+fn tree_of(alloc: Global, tokens: Vec<Token>) -> Result<Program, ParseRefusal>
+    requires { EndsOnce tokens.items }
+    ensures ok { IfOk result (λ tree. IsProgram tokens.items tree × FitsLimits tree) }
+    ensures refused { IfErr result (IsRefused tokens.items) }
+    ensures only { (tree : Program) → IsProgram tokens.items tree → FitsLimits tree
+        → MatchResult result (λ found. found ≡ tree) (λ e. e ≡ ParseRefusal.Memory) }
+{
+    parse(alloc, tokens.as_slice())
 }
 
 /// The same for a program.

@@ -3,8 +3,8 @@ use Rattle.cq_run.proofs.judge.judge.Goals as goal
 
 pub returns-in-Ok-clause-judges : goal.returns-in-Ok-clause-judges
 returns-in-Ok-clause-judges g c =
-    by_tokens c.args.depth _ _ c.args.text.now c.in-Ok.tokens.items c.as_slice.result.now c.judge_tokens.result c.in-Ok.ensures.ok
-    (λ others lexed. c.in-Ok.ensures.tokens others lexed) c.as_slice.ensures.value c.judge_tokens.ensures.judges
+    by_tokens c.args.depth _ _ c.args.text.now c.in-Ok.tokens.items c.judge_tokens.result c.in-Ok.ensures.ok
+    (λ others lexed. c.in-Ok.ensures.tokens others lexed) c.judge_tokens.ensures.judges
 
 pub returns-in-Err-clause-judges : goal.returns-in-Err-clause-judges
 returns-in-Err-clause-judges g c =
