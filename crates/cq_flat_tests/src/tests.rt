@@ -79,6 +79,55 @@ fn fun(alloc: Global, function: u32, args: &[u64]) -> Result<Node, AllocError> {
     Ok(Node::Fun(function, Seq::from_vec(args.to_vec(alloc)?)))
 }
 
+// A node as a table has it.
+#[derive(Clone, Copy)]
+enum Given {
+    Leaf,
+    Const(u64),
+    Fun(u32, &'static [u64]),
+}
+
+fn node_of(alloc: Global, given: &Given) -> Result<Node, AllocError> {
+    match given {
+        Given::Leaf => Ok(Node::Leaf),
+        Given::Const(number) => Ok(Node::Const(constant(alloc, *number)?)),
+        Given::Fun(function, args) => fun(alloc, *function, args),
+    }
+}
+
+fn nodes_of(alloc: Global, given: &[Given]) -> Result<Vec<Node>, AllocError> {
+    let mut nodes = Vec::new(alloc);
+    for node in given {
+        nodes.push(node_of(alloc, node)?)?;
+    }
+    Ok(nodes)
+}
+
+fn closed_given(
+    rt: &impl Abort,
+    alloc: Global,
+    given: &[Given],
+    equations: &[(u64, u64)],
+) -> Result<Told, AllocError> {
+    let nodes = nodes_of(alloc, given)?;
+    closed(rt, alloc, nodes, equations.to_vec(alloc)?)
+}
+
+// Whether the entry gives this value to the function of this argument.
+fn says(
+    entry: Option<&(u32, Vec<Plain>, Plain)>,
+    function: u32,
+    argument: Plain,
+    value: Plain,
+) -> bool {
+    match entry {
+        Some((name, args, result)) => {
+            *name == function && args.as_slice() == [argument].as_slice() && *result == value
+        }
+        None => false,
+    }
+}
+
 fn closed(
     rt: &impl Abort,
     alloc: Global,
@@ -350,39 +399,38 @@ fn agrees_with_all_pairs_of_small_tables(rt: HostRuntime) -> Result<(), Fail> {
 }
 
 // h(Al) = Bob, h(x) = Carl and x = Al: Bob and Carl are equal.
+static CARL_AND_BOB: [Given; 9] = [
+    Given::Leaf,
+    Given::Const(0),
+    Given::Fun(0, &[1]),
+    Given::Const(1),
+    Given::Leaf,
+    Given::Fun(0, &[4]),
+    Given::Const(2),
+    Given::Leaf,
+    Given::Const(0),
+];
+
 #[test]
 fn two_constants_clash(rt: HostRuntime) -> Result<(), Fail> {
-    let alloc = rt.alloc();
-    let nodes = vec![in alloc;
-        Node::Leaf,
-        Node::Const(constant(alloc, 0)?),
-        fun(alloc, 0, &[1])?,
-        Node::Const(constant(alloc, 1)?),
-        Node::Leaf,
-        fun(alloc, 0, &[4])?,
-        Node::Const(constant(alloc, 2)?),
-        Node::Leaf,
-        Node::Const(constant(alloc, 0)?),
-    ]?;
-    let equations = vec![in alloc; (0, 4), (0, 7), (2, 3), (5, 6), (7, 8)]?;
-    let found = closed(&rt, alloc, nodes, equations)?;
+    let equations = [(0, 4), (0, 7), (2, 3), (5, 6), (7, 8)];
+    let found = closed_given(&rt, rt.alloc(), &CARL_AND_BOB, &equations)?;
     assert_eq!(rt; found.clash, Some((1, 2)));
     Ok(())
 }
 
 // "Zed" and "Ann", each twice, are made equal: the lesser text stands first, and one text has one class.
+static TEXTS: [Given; 5] = [
+    Given::Const(3),
+    Given::Leaf,
+    Given::Const(2),
+    Given::Const(3),
+    Given::Const(2),
+];
+
 #[test]
 fn two_texts_clash_in_the_order_of_their_bytes(rt: HostRuntime) -> Result<(), Fail> {
-    let alloc = rt.alloc();
-    let nodes = vec![in alloc;
-        Node::Const(constant(alloc, 3)?),
-        Node::Leaf,
-        Node::Const(constant(alloc, 2)?),
-        Node::Const(constant(alloc, 3)?),
-        Node::Const(constant(alloc, 2)?),
-    ]?;
-    let equations = vec![in alloc; (0, 1), (1, 2)]?;
-    let found = closed(&rt, alloc, nodes, equations)?;
+    let found = closed_given(&rt, rt.alloc(), &TEXTS, &[(0, 1), (1, 2)])?;
     let ann = Plain::Const(2);
     assert_eq!(rt;
         found.values.as_slice(),
@@ -393,48 +441,37 @@ fn two_texts_clash_in_the_order_of_their_bytes(rt: HostRuntime) -> Result<(), Fa
 }
 
 // h(Al) = h(Bob): one null, and an entry for each of the two arguments.
+static ALIKE: [Given; 4] = [
+    Given::Const(0),
+    Given::Fun(0, &[0]),
+    Given::Const(1),
+    Given::Fun(0, &[2]),
+];
+
 #[test]
 fn a_null_is_the_value_of_two_functions(rt: HostRuntime) -> Result<(), Fail> {
-    let alloc = rt.alloc();
-    let nodes = vec![in alloc;
-        Node::Const(constant(alloc, 0)?),
-        fun(alloc, 0, &[0])?,
-        Node::Const(constant(alloc, 1)?),
-        fun(alloc, 0, &[2])?,
-    ]?;
-    let equations = vec![in alloc; (1, 3)]?;
-    let found = closed(&rt, alloc, nodes, equations)?;
-    let first = vec![in alloc; Plain::Const(0)]?;
-    let second = vec![in alloc; Plain::Const(1)]?;
-    let expected = Told {
-        values: vec![in alloc;
-            Plain::Const(0),
-            Plain::Null(0),
-            Plain::Const(1),
-            Plain::Null(0),
-        ]?,
-        nulls: vec![in alloc; 1]?,
-        entries: vec![in alloc; (0, first, Plain::Null(0)), (0, second, Plain::Null(0))]?,
-        clash: None,
-    };
-    assert_eq!(rt; found, expected);
+    let found = closed_given(&rt, rt.alloc(), &ALIKE, &[(1, 3)])?;
+    let (al, bob, null) = (Plain::Const(0), Plain::Const(1), Plain::Null(0));
+    assert_eq!(rt; found.values.as_slice(), [al, null, bob, null].as_slice());
+    assert_eq!(rt; found.nulls.as_slice(), [1].as_slice());
+    assert_eq!(rt; found.entries.len(), 2);
+    assert!(rt; says(found.entries.get(0), 0, al, null));
+    assert!(rt; says(found.entries.get(1), 0, bob, null));
+    assert_eq!(rt; found.clash, None);
     Ok(())
 }
 
 // u = succ(u): one null, which is the value of the function at itself.
+static AT_ITSELF: [Given; 2] = [Given::Leaf, Given::Fun(2, &[0])];
+
 #[test]
 fn a_null_is_the_value_of_a_function_at_itself(rt: HostRuntime) -> Result<(), Fail> {
-    let alloc = rt.alloc();
-    let nodes = vec![in alloc; Node::Leaf, fun(alloc, 2, &[0])?]?;
-    let equations = vec![in alloc; (0, 1)]?;
-    let found = closed(&rt, alloc, nodes, equations)?;
-    let args = vec![in alloc; Plain::Null(0)]?;
-    let expected = Told {
-        values: vec![in alloc; Plain::Null(0), Plain::Null(0)]?,
-        nulls: vec![in alloc; 0]?,
-        entries: vec![in alloc; (2, args, Plain::Null(0))]?,
-        clash: None,
-    };
-    assert_eq!(rt; found, expected);
+    let found = closed_given(&rt, rt.alloc(), &AT_ITSELF, &[(0, 1)])?;
+    let null = Plain::Null(0);
+    assert_eq!(rt; found.values.as_slice(), [null, null].as_slice());
+    assert_eq!(rt; found.nulls.as_slice(), [0].as_slice());
+    assert_eq!(rt; found.entries.len(), 1);
+    assert!(rt; says(found.entries.get(0), 2, null, null));
+    assert_eq!(rt; found.clash, None);
     Ok(())
 }

@@ -1,5 +1,0 @@
-//! Tests of colimits of small schemas.
-#![tactic(auto)]
-
-#[cfg(test)]
-mod tests;

@@ -1,3 +1,0 @@
-//! Colimits of small schemas.
-mod cases;
-mod given;
