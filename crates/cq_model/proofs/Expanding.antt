@@ -6,38 +6,26 @@ use Rattle.std.proofs.lemmas.List.{length-map, length-set, length-replicate}
 use Rattle.cq_tables.specs.Content.{Content, made_of, live_of, cell_of, step_of, keys_of, IsWhole}
 use Rattle.cq_tables.specs.Content.{entity_of as row_entity}
 use Rattle.cq_rows.specs.Plain.{ends_of}
-use Rattle.cq_rows.proofs.Cells.{read_mapped}
-use Rattle.cq_rows.proofs.Filling.{step_at, step_other}
+use Rattle.cq_tables.specs.Places.{keys_from}
+use Rattle.cq_tables.proofs.Starting.{next_key, at_first, at_next, at_end}
 use Rattle.cq_base.specs.declared.name.Name.{Name}
 use Rattle.cq_theory.specs.declared.presentation.Presentation.{Presentation}
 use Rattle.cq_theory.specs.declared.presentation.Sort.{Sort}
 use Rattle.cq_theory.specs.declared.presentation.Sort.TheVariants.{Plain, Entity}
 use Rattle.cq_theory.specs.Sorts.{Generators, entity_at}
-use Rattle.cq_theory.specs.declared.schema.Edge.{Edge}
 use Rattle.cq_theory.specs.SchemaData.{SchemaData as Schema}
 use Rattle.cq_theory.specs.declared.term.EntTerm.{EntTerm}
 use Rattle.cq_model.proofs.Lists.{get-append_front}
 use Rattle.cq_model.specs.Walking.{one_further, Listing, Meets, IsWalked, IsExpanding}
 use Rattle.cq_model.proofs.Walked.{IsWalked-none, IsWalked-step, IsWalked-skip, IsWalked-row}
 
--- what is read of the list of keys
-pub key_step : (m : Content) (keys items : List Edge) (key entity row : ℕ) (edge : Edge) → keys_of m ≡ map ends_of keys → items ≡ keys → key < length items → edge ≡ get_or items key edge
-    → edge.from ≡ entity → entity ≡ row_entity m row → step_of (keys_of m) (row_entity m row) key ≡ Some edge.to
-key_step m keys items key entity row edge keys_are same within read from is =
-    let found : slice_get (map ends_of items) key ≡ Some (ends_of edge) = read_mapped ends_of items key edge within read in
-    ap (λ (l : List (ℕ × ℕ)). step_of l (row_entity m row) key) (keys_are ∙ ap (map ends_of) (sym same)) ∙ step_at (map ends_of items) (row_entity m row) key (ends_of edge) found (from ∙ is)
-
-pub no_key : (m : Content) (keys items : List Edge) (key entity row : ℕ) (edge : Edge) → IsWhole m → live_of m row ≡ true → keys_of m ≡ map ends_of keys → items ≡ keys → key < length items
-    → edge ≡ get_or items key edge → (edge.from ≡ entity → ⊥) → entity ≡ row_entity m row → cell_of m row key ≡ None
-no_key m keys items key entity row edge whole live keys_are same within read from is = found (cell_of m row key) refl
+-- a row has no cell at a key that goes not from its entity
+no_cell : (m : Content) (row entity k : ℕ) → IsWhole m → live_of m row ≡ true → entity ≡ row_entity m row → ((d : ℕ) → step_of (keys_of m) entity k ≡ Some d → ⊥) → cell_of m row k ≡ None
+no_cell m row entity k whole live is none = found (cell_of m row k) refl
   where
-    found : (o : Option ℕ) → cell_of m row key ≡ o → cell_of m row key ≡ None
+    found : (o : Option ℕ) → cell_of m row k ≡ o → cell_of m row k ≡ None
     found None h = h
-    found (Some s) h =
-        let there : slice_get (map ends_of items) key ≡ Some (ends_of edge) = read_mapped ends_of items key edge within read in
-        let step : step_of (map ends_of items) (row_entity m row) key ≡ Some (row_entity m s) =
-        ap (λ (l : List (ℕ × ℕ)). step_of l (row_entity m row) key) (sym (keys_are ∙ ap (map ends_of) (sym same))) ∙ (whole.held row key s live h).step in
-        absurd (step_other (map ends_of items) (row_entity m row) key (row_entity m s) (ends_of edge) there (λ e. from (e ∙ sym is)) step)
+    found (Some s) h = absurd (none (row_entity m s) (subst (λ x. step_of (keys_of m) x k ≡ Some (row_entity m s)) (sym is) (whole.held row k s live h).step))
 
 name_at : (xs : List EntTerm) (i : ℕ) → i < length xs → (u : EntTerm) × (slice_get xs i ≡ Some u)
 name_at [] i h = absurd (omega arith)
@@ -77,11 +65,22 @@ module _ (S : Schema) (m : Content) (whole : IsWhole m) (keys : keys_of m ≡ ma
       names true t e = omega (arith, h.named, ap length e)
       names false t e = omega (arith, h.named, ap length e, length-append w.names (t ∷ []))
 
-  pub expanding_all : (initial w : Listing) (at row key : ℕ) (items : List Edge) → items ≡ S.keys → key ≡ length items → IsExpanding S m initial w at row key
+  module _ (initial w : Listing) (at row entity : ℕ) (live : live_of m row ≡ true) (is : entity ≡ row_entity m row) where
+    skip : (k : ℕ) → ((d : ℕ) → step_of (keys_of m) entity k ≡ Some d → ⊥) → IsExpanding S m initial w at row k → IsExpanding S m initial w at row (k + 1)
+    skip k none h = expanding_skip initial w at row k h (no_cell m row entity k whole live is none)
+
+    pub expanding_first : IsExpanding S m initial w at row 0 → IsExpanding S m initial w at row (next_key (keys_of m) entity 0)
+    expanding_first = at_first (keys_of m) entity (IsExpanding S m initial w at row) skip
+
+    pub expanding_next : (i key : ℕ) → i < length (keys_from (keys_of m) entity) → key ≡ next_key (keys_of m) entity i → IsExpanding S m initial w at row (key + 1)
+        → IsExpanding S m initial w at row (next_key (keys_of m) entity (i + 1))
+    expanding_next = at_next (keys_of m) entity (IsExpanding S m initial w at row) skip
+
+  pub expanding_all : (initial w : Listing) (at row entity i : ℕ) → length (keys_from (keys_of m) entity) ≤ i → IsExpanding S m initial w at row (next_key (keys_of m) entity i)
       → (P : Presentation) (entries : List ℕ) (g : ℕ) → IsWalked S P m entries initial g at 0 → IsWalked S P m entries w g (at + 1) 0
-  expanding_all initial w at row key items same size h P entries g start =
-      let count : key ≡ length (keys_of m) = size ∙ ap length same ∙ sym (length-map S.keys ends_of) ∙ ap length (sym keys) in
-      IsWalked-row S P m entries whole keys w g at (subst (λ k. IsWalked S P m entries w g at k) count (h.walked P entries g start))
+  expanding_all initial w at row entity i past h P entries g start =
+      let all = at_end (keys_of m) entity (IsExpanding S m initial w at row) i past h in
+      IsWalked-row S P m entries whole keys w g at (all.walked P entries g start)
 
 -- the row at the place where the walk stands
 pub read_row : (m : Content) (xs ys : List ℕ) (at row : ℕ) → ys ≡ xs → at < length xs → row ≡ get_or ys at row → slice_get xs at ≡ Some row

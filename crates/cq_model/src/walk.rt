@@ -141,15 +141,11 @@ fn expand(
         → IsWalked schema.now P tables.now entries walk.old g at 0
         → IsWalked schema.now P tables.now entries walk.new g (at + 1) 0) }
 {
-    schema.is_well_sorted();
     let row = walk.rows[at];
     let entity = tables.entity(row);
-    for (key, edge) in schema.keys.as_slice().iter().enumerate() {
-        if edge.from != entity {
-            continue;
-        }
-        if let Some(to) = tables.cell(row, key as u32) {
-            walk.meet_step(alloc, to, at, key as u32)?;
+    for key in tables.keys_from(entity) {
+        if let Some(to) = tables.cell(row, *key) {
+            walk.meet_step(alloc, to, at, *key)?;
         }
     }
     Ok(())

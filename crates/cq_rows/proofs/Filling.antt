@@ -1,7 +1,8 @@
 -- Empty cells are filled with new rows.
-use Rattle.std.proofs.Common.{◌≡◌, ◌≢◌, ℕ, ◌+◌, ◌<◌, ◌≤◌, Bool, true, false, List, [], ◌∷◌, length, get_or, Option, Some, None, cond, not, eqb, refl, sym, ◌∙◌, ap, arith, ⊎_elim, ◌⊎◌, inl, inr}
+use Rattle.std.proofs.Common.{◌≡◌, ◌≢◌, ℕ, ◌+◌, ◌<◌, ◌≤◌, Bool, true, false, List, [], ◌∷◌, length, get_or, Option, Some, None, cond, not, eqb, refl, sym, ◌∙◌, ap, subst, arith, ⊎_elim, ◌⊎◌, inl, inr}
 use Rattle.std.proofs.lemmas.Bool.{cases_eq, cases_lt, eq-eqb, ne_eqb, false≢true}
 use Rattle.std.proofs.lemmas.Option.{none-some, same_Some, slice_get-get_or, slice_get_past}
+use Rattle.std.proofs.lemmas.List.{get_or_default}
 use Rattle.std.proofs.lemmas.List.Elements.{All-get_or}
 use Rattle.std.specs.Prelude.{All, slice_get, slice_index, IsSome, is_some}
 use Rattle.cq_tables.specs.Content.{Content, made_of, live_of, entity_of, cell_of, step_of, IsWhole, keys_of}
@@ -9,6 +10,9 @@ use Rattle.cq_tables.specs.Changes.{AddsRow, SetsCell}
 use Rattle.cq_rows.specs.Theory.{Term, Theory, reflexive, along, sort_of, Derives}
 use Rattle.cq_rows.specs.Rows.{IsSound, Extends, KeepsSound, FillsCell, FillsRow, RowFilled, IsCellOf}
 use Rattle.cq_rows.proofs.Cells.{live_made, below_or_at}
+use Rattle.cq_tables.specs.Places.{keys_from}
+use Rattle.cq_tables.proofs.Placing.{goes_below, step_below}
+use Rattle.cq_tables.proofs.Starting.{next_key, listed_goes, at_first, at_next, at_end}
 use Rattle.cq_rows.proofs.Sorts.{sort-along, end_one}
 
 -- a key from an entity
@@ -243,34 +247,106 @@ IsFilling-fill old m m' i l h w' f = record {
 step_same : (a b : List (ℕ × ℕ)) (c d k : ℕ) (o : Option ℕ) → a ≡ b → c ≡ d → step_of b d k ≡ o → step_of a c k ≡ o
 step_same a b c d k o e f h = rw (e, f) h
 
--- the key that a loop reads, at the row's entity
-pub read_step : (old m : Content) (row key e : ℕ) (keys : List (ℕ × ℕ)) → Extends old m → live_of old row ≡ true → keys_of old ≡ keys → e ≡ entity_of old row → key < length keys → (get_or keys key (0, 0)).0 ≡ e
-    → step_of (keys_of m) (entity_of m row) key ≡ Some (get_or keys key (0, 0)).1
-read_step old m row key e keys x l ko ee h q =
-    step_same (keys_of m) keys (entity_of m row) (entity_of old row) key (Some (get_or keys key (0, 0)).1) (x.keys ∙ ko) (x.kind row l)
-    (step_at keys (entity_of old row) key (get_or keys key (0, 0)) (slice_get-get_or keys key (0, 0) h) (q ∙ ee))
+only_some : (b : Bool) (d : ℕ) → IsSome (cond b (Some d) None) → cond b (Some d) None ≡ Some d
+only_some true d h = refl
+only_some false d h = absurd (false≢true h)
 
-pub read_other : (old m : Content) (row key e d : ℕ) (keys : List (ℕ × ℕ)) → Extends old m → live_of old row ≡ true → keys_of old ≡ keys → e ≡ entity_of old row → key < length keys → (get_or keys key (0, 0)).0 ≢ e
-    → step_of (keys_of m) (entity_of m row) key ≡ Some d → ⊥
-read_other old m row key e d keys x l ko ee h n s =
-    step_other keys (entity_of old row) key d (get_or keys key (0, 0)) (slice_get-get_or keys key (0, 0) h) (λ q. n (q ∙ sym ee))
-    (step_same keys (keys_of m) (entity_of old row) (entity_of m row) key (Some d) (sym (x.keys ∙ ko)) (sym (x.kind row l)) s)
+-- where a key leads that goes from an entity
+pub goes_to : (keys : List (ℕ × ℕ)) (e k : ℕ) → IsSome (step_of keys e k) → step_of keys e k ≡ Some (get_or keys k (0, 0)).1
+unfolding step_of
+goes_to keys e k h =
+    let found = slice_get-get_or keys k (0, 0) (goes_below keys e k h) in
+    rw found (only_some (eqb (get_or keys k (0, 0)).0 e) (get_or keys k (0, 0)).1 (rw found at h))
 
--- the entity to which it leads
+-- A loop over the keys that go from a row's entity: the key at a place of their list, or past all keys where there is none.
+module _ (m : Content) (row e : ℕ) (is : e ≡ entity_of m row) where
+  pub listed_step : (list : List ℕ) (i key d : ℕ) → list ≡ keys_from (keys_of m) e → i < length list → key ≡ get_or list i d → IsSome (step_of (keys_of m) (entity_of m row) key)
+  listed_step list i key d are within read =
+      let there : key ≡ get_or (keys_from (keys_of m) e) i d = read ∙ ap (λ (l : List ℕ). get_or l i d) are in
+      subst (λ x. IsSome (step_of (keys_of m) x key)) is
+      (subst (λ x. IsSome (step_of (keys_of m) e x)) (sym there) (listed_goes (keys_of m) e i d (omega (arith, ap length are))))
+
+  pub listed_key : (list : List ℕ) (i key d : ℕ) → list ≡ keys_from (keys_of m) e → i < length list → key ≡ get_or list i d → key ≡ next_key (keys_of m) e i
+  listed_key list i key d are within read =
+      read ∙ ap (λ (l : List ℕ). get_or l i d) are ∙ get_or_default (keys_from (keys_of m) e) i d (length (keys_of m)) (omega (arith, ap length are))
+
+  -- the cells below a key are filled
+  abbrev pub FilledBelow : ℕ → Type 0
+  FilledBelow i = (k d : ℕ) → k < i → step_of (keys_of m) (entity_of m row) k ≡ Some d → IsSome (cell_of m row k)
+
+  filled_skip : (i : ℕ) → ((d : ℕ) → step_of (keys_of m) e i ≡ Some d → ⊥) → FilledBelow i → FilledBelow (i + 1)
+  filled_skip i none h k d l s = ⊎_elim (λ p. h k d p s) (λ q. absurd (none d (rw is (rw q at s)))) (below_or_at k i l)
+
+  pub filled_first : FilledBelow (next_key (keys_of m) e 0)
+  filled_first = at_first (keys_of m) e FilledBelow filled_skip (λ k d l. absurd (omega arith))
+
+  pub filled_next : (i k : ℕ) → i < length (keys_from (keys_of m) e) → k ≡ next_key (keys_of m) e i → IsSome (cell_of m row k) → FilledBelow (next_key (keys_of m) e i)
+      → FilledBelow (next_key (keys_of m) e (i + 1))
+  filled_next i k within key filled h =
+      at_next (keys_of m) e FilledBelow filled_skip i k within key (λ j d l s. ⊎_elim (λ p. h j d (omega (arith, p, key)) s) (λ q. rw q filled) (below_or_at j k l))
+
+  pub filled_all : (i : ℕ) → length (keys_from (keys_of m) e) ≤ i → FilledBelow (next_key (keys_of m) e i) → RowFilled m row
+  filled_all i past h k d s = at_end (keys_of m) e FilledBelow i past h k d (step_below (keys_of m) (entity_of m row) k d s) s
+
+  module _ (old : Content) where
+    row_skip : (i : ℕ) → ((d : ℕ) → step_of (keys_of m) e i ≡ Some d → ⊥) → IsFillingRow old m row i → IsFillingRow old m row (i + 1)
+    row_skip i none h = IsFillingRow-skip old m row i h (λ d s. absurd (none d (rw is s)))
+
+    row_next : (i k : ℕ) → i < length (keys_from (keys_of m) e) → k ≡ next_key (keys_of m) e i → IsFillingRow old m row (k + 1) → IsFillingRow old m row (next_key (keys_of m) e (i + 1))
+    row_next i k = at_next (keys_of m) e (IsFillingRow old m row) row_skip i k
+
+    pub row_passed : (i k : ℕ) → i < length (keys_from (keys_of m) e) → k ≡ next_key (keys_of m) e i → IsSome (cell_of m row k) → IsFillingRow old m row (next_key (keys_of m) e i)
+        → IsFillingRow old m row (next_key (keys_of m) e (i + 1))
+    row_passed i k within key filled h = row_next i k within key (IsFillingRow-skip old m row k (subst (IsFillingRow old m row) (sym key) h) (λ d s. filled))
+
+    pub row_done : (i : ℕ) → length (keys_from (keys_of m) e) ≤ i → IsFillingRow old m row (next_key (keys_of m) e i) → FillsRow old m row
+    row_done i past h = record { extends = h.extends; origin = h.origin; filled = filled_all i past h.filled; sound = h.sound }
+
+  pub row_first : IsWhole m → IsFillingRow m m row (next_key (keys_of m) e 0)
+  row_first whole = at_first (keys_of m) e (IsFillingRow m m row) (row_skip m) (IsFillingRow-start m row whole)
+
+pub kind_kept : (old m : Content) (row e : ℕ) → Extends old m → live_of old row ≡ true → e ≡ entity_of old row → e ≡ entity_of m row
+kind_kept old m row e x live is = is ∙ sym (x.kind row live)
+
+-- the key that a loop reads
+pub record IsAtKey (m : Content) (row e i key : ℕ) (keys : List (ℕ × ℕ)) : Type 0 where
+  pub within : i < length (keys_from (keys_of m) e)
+  pub at : key ≡ next_key (keys_of m) e i
+  pub goes : IsSome (step_of (keys_of m) (entity_of m row) key)
+  pub step : step_of (keys_of m) (entity_of m row) key ≡ Some (get_or keys key (0, 0)).1
+  pub below : key < length keys
+
+pub at_key : (old m : Content) (row e : ℕ) (keys : List (ℕ × ℕ)) (first list : List ℕ) (i : ℕ) → keys_of old ≡ keys → Extends old m → live_of old row ≡ true → e ≡ entity_of old row
+    → first ≡ keys_from (keys_of old) e → list ≡ keys_from (keys_of m) e → i < length first → IsAtKey m row e i (get_or list i 0) keys
+at_key old m row e keys first list i given extends live is first_is list_is h =
+    let kind = kind_kept old m row e extends live is in
+    let same : keys_of m ≡ keys = extends.keys ∙ given in
+    let size : length list ≡ length first = ap length (list_is ∙ ap (λ (ks : List (ℕ × ℕ)). keys_from ks e) extends.keys ∙ sym first_is) in
+    let within : i < length list = omega arith in
+    let goes = listed_step m row e kind list i (get_or list i 0) 0 list_is within refl in
+    record {
+      within = omega (arith, within, ap length list_is);
+      at = listed_key m row e kind list i (get_or list i 0) 0 list_is within refl;
+      goes = goes;
+      step = goes_to (keys_of m) (entity_of m row) (get_or list i 0) goes ∙ ap (λ (ks : List (ℕ × ℕ)). Some (get_or ks (get_or list i 0) (0, 0)).1) same;
+      below = omega (arith, goes_below (keys_of m) (entity_of m row) (get_or list i 0) goes, ap length same);
+    }
+
+pub row_made : (old m m' : Content) (row e i key to : ℕ) → live_of old row ≡ true → e ≡ entity_of old row → i < length (keys_from (keys_of m) e) → key ≡ next_key (keys_of m) e i
+    → IsFillingRow old m row (next_key (keys_of m) e i) → IsWhole m' → FillsCell m m' row key to → step_of (keys_of m) (entity_of m row) key ≡ Some to → cell_of m row key ≡ None
+    → IsFillingRow old m' row (next_key (keys_of m') e (i + 1))
+row_made old m m' row e i key to live is within at_key h whole f step empty =
+    let filled = IsFillingRow-fill old m m' row key to live (subst (IsFillingRow old m row) (sym at_key) h) whole f step empty in
+    row_next m' row e (kind_kept old m' row e filled.extends live is) old i key (omega (arith, within, ap (λ (keys : List (ℕ × ℕ)). length (keys_from keys e)) f.keys))
+    (at_key ∙ ap (λ (keys : List (ℕ × ℕ)). next_key keys e i) (sym f.keys)) filled
+
+-- the entity to which a key leads
 pub read_target : (keys : List (ℕ × ℕ)) (n m key : ℕ) → All (λ (k : ℕ × ℕ). (k.0 < n) × (k.1 < n)) keys → m ≡ n → key < length keys → (get_or keys key (0, 0)).1 < m
-read_target keys n m key all same h = rw same (All-get_or (λ (k : ℕ × ℕ). (k.0 < n) × (k.1 < n)) keys key (0, 0) h all).1
+read_target keys n m key range same h = rw same (All-get_or (λ (k : ℕ × ℕ). (k.0 < n) × (k.1 < n)) keys key (0, 0) h range).1
 
 pub none_if : (o : Option ℕ) (b : Bool) → b ≡ is_some o → b ≡ false → o ≡ None
 none_if None b e f = refl
 none_if (Some x) b e f = absurd (false≢true (sym f ∙ e))
-
-step_past : (keys : List (ℕ × ℕ)) (e k : ℕ) → length keys ≤ k → step_of keys e k ≡ None
-unfolding step_of
-step_past keys e k h = rw (slice_get_past keys k h) refl
-
-pub step_below : (a keys : List (ℕ × ℕ)) (e k d : ℕ) → a ≡ keys → step_of a e k ≡ Some d → k < length keys
-step_below a keys e k d q h =
-    ⊎_elim (λ p. p) (λ p. absurd (none-some d (sym (step_past keys e k p) ∙ (rw q at h)))) (cases_lt k (length keys))
 
 pub no_cell : (o : Option ℕ) (b : Bool) → is_some o ≡ not b → b ≡ true → IsSome o → ⊥
 no_cell o b e f h = false≢true (sym (ap not f) ∙ sym e ∙ h)

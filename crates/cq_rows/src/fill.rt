@@ -32,15 +32,12 @@ fn fill_row(keys: &[(u32, u32)], tables: &mut Tables, row: u64) -> Result<(), Al
     ensures ok { OnOk result (FillsRow tables.old tables.new row) }
 {
     let entity = tables.entity(row);
-    for key in 0..keys.len() {
-        let (from, to) = keys[key];
-        if from != entity {
+    for place in 0..tables.keys_from(entity).len() {
+        let key = tables.keys_from(entity)[place];
+        if tables.cell(row, key).is_some() {
             continue;
         }
-        if tables.cell(row, key as u32).is_some() {
-            continue;
-        }
-        fill_cell(tables, row, key as u32, to)?;
+        fill_cell(tables, row, key, keys[key as usize].1)?;
     }
     Ok(())
 }
@@ -65,20 +62,14 @@ pub fn fill(keys: &[(u32, u32)], tables: &mut Tables) -> Result<(), AllocError>
 }
 
 // Whether the cells of a row are filled.
-fn row_filled(keys: &[(u32, u32)], tables: &Tables, row: u64) -> bool
-    requires few { length keys.now < 2 ^ 32 }
-    requires keys { keys_of tables.now ≡ keys.now }
+fn row_filled(tables: &Tables, row: u64) -> bool
     requires whole { IsWhole tables.now }
     requires row { live_of tables.now row ≡ true }
     ensures { MatchBool result (RowFilled tables.now row) (RowFilled tables.now row → ⊥) }
 {
     let entity = tables.entity(row);
-    for key in 0..keys.len() {
-        let (from, _to) = keys[key];
-        if from != entity {
-            continue;
-        }
-        if tables.cell(row, key as u32).is_none() {
+    for key in tables.keys_from(entity) {
+        if tables.cell(row, *key).is_none() {
             return false;
         }
     }
@@ -86,9 +77,7 @@ fn row_filled(keys: &[(u32, u32)], tables: &Tables, row: u64) -> bool
 }
 
 // Whether the cells of all rows are filled.
-pub fn all_filled(keys: &[(u32, u32)], tables: &Tables) -> bool
-    requires few { length keys.now < 2 ^ 32 }
-    requires keys { keys_of tables.now ≡ keys.now }
+pub fn all_filled(tables: &Tables) -> bool
     requires whole { IsWhole tables.now }
     ensures { MatchBool result (AllFilled tables.now) (AllFilled tables.now → ⊥) }
 {
@@ -96,7 +85,7 @@ pub fn all_filled(keys: &[(u32, u32)], tables: &Tables) -> bool
         if !tables.live(row) {
             continue;
         }
-        if !row_filled(keys, tables, row) {
+        if !row_filled(tables, row) {
             return false;
         }
     }

@@ -116,7 +116,7 @@ fn grow(
         return Err(RowsRefusal::TooManyRows);
     }
     for _stage in 0..depth {
-        if all_filled(keys, &tables) {
+        if all_filled(&tables) {
             return Ok((tables, rows, true));
         }
         fill(keys, &mut tables)?;
@@ -125,7 +125,7 @@ fn grow(
             return Err(RowsRefusal::TooManyRows);
         }
     }
-    let closed = all_filled(keys, &tables);
+    let closed = all_filled(&tables);
     Ok((tables, rows, closed))
 }
 

@@ -7,6 +7,7 @@ pub mod Added
 pub mod Filled
 pub mod Renamed
 pub mod Mentioned
+pub mod Starting
 pub mod Planned
 pub mod Reading
 pub mod Empty

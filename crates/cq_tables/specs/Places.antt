@@ -16,6 +16,15 @@ rank_of keys e n = sum_below (λ k. if is_some (step_of keys e k) then 1 else 0)
 unfoldable pub width_of : List (ℕ × ℕ) → ℕ → ℕ
 width_of keys e = rank_of keys e (length keys)
 
+-- the numbers of those of the first n keys that go from an entity, in order
+unfoldable pub keys_below : List (ℕ × ℕ) → ℕ → ℕ → List ℕ
+keys_below keys e zero = []
+keys_below keys e (suc n) = keys_below keys e n ++ (if is_some (step_of keys e n) then n ∷ [] else [])
+
+-- the numbers of the keys that go from an entity, in order
+unfoldable pub keys_from : List (ℕ × ℕ) → ℕ → List ℕ
+keys_from keys e = keys_below keys e (length keys)
+
 -- where the cells of a row begin
 unfoldable pub start_of : List (ℕ × ℕ) → List ℕ → ℕ → ℕ
 start_of keys kinds r = sum_below (λ n. width_of keys (slice_index_or kinds n 0)) r

@@ -5,7 +5,7 @@ ghost use Rattle.cq_tables.specs.Content.{entities_of, keys_of, made_of, live_of
 ghost use Rattle.cq_tables.specs.Content.{trace_of, IsHeld, IsEnd, IsWhole};
 ghost use Rattle.cq_tables.specs.Changes.{AddsRow, SetsCell, Renames, given_pairs, moved_cell, first_of, pair_of};
 ghost use Rattle.cq_tables.specs.Mentions.{CountsMentions};
-ghost use Rattle.cq_tables.specs.Places.{start_of, place_of, pairs_at};
+ghost use Rattle.cq_tables.specs.Places.{start_of, place_of, pairs_at, keys_from};
 
 use crate::cells::Cells;
 use crate::plan::Plan;
@@ -41,7 +41,8 @@ impl Tables {
     /// No rows, over entities that are numbered from 0. Each key is given by the entity from which and the entity to
     /// which it goes.
     pub fn new(alloc: Global, entities: u32, keys: &[(u32, u32)]) -> Result<Tables, AllocError>
-        requires { All (λ k. (k.0 < entities) × (k.1 < entities)) keys.now }
+        requires few { length keys.now ≤ 2 ^ 32 }
+        requires range { All (λ k. (k.0 < entities) × (k.1 < entities)) keys.now }
         ensures entities { IfOk result (λ t. entities_of t ≡ entities) }
         ensures keys { IfOk result (λ t. keys_of t ≡ keys.now) }
         ensures empty { IfOk result (λ t. made_of t ≡ 0) }
@@ -79,6 +80,14 @@ impl Tables {
         ensures { result ≡ entity_of self.now row }
     {
         self.kinds[row as usize]
+    }
+
+    /// The numbers of the keys that go from an entity, in order.
+    pub fn keys_from(&self, entity: u32) -> &[u32]
+        requires { entity < entities_of self.now }
+        ensures { result.now ≡ keys_from (keys_of self.now) entity }
+    {
+        self.plan.keys_from(entity)
     }
 
     /// How many cells hold a row.

@@ -1,5 +1,7 @@
+use Rattle.cq_tables.specs.Content.{keys_of}
+use Rattle.cq_tables.proofs.Starting.{next_key}
 use Rattle.cq_rows.proofs.Filling.{IsFillingRow}
 use Rattle.cq_rows.proofs.fill.fill_row.Given as goal
 
-abbrev pub invariant-loop-key : goal.invariant-loop-key
-invariant-loop-key l = IsFillingRow l.fn.tables l.tables l.row l.key
+abbrev pub invariant-loop-place : goal.invariant-loop-place
+invariant-loop-place l = IsFillingRow l.fn.tables l.tables l.row (next_key (keys_of l.tables) l.entity l.place)

@@ -1,10 +1,10 @@
-use Rattle.std.proofs.Common.{refl, ◌∙◌, arith}
+use Rattle.std.proofs.Common.{length, refl, ap, ◌∙◌, arith}
 use Rattle.cq_rows.specs.Plain.{theory_of}
 use Rattle.cq_rows.proofs.Beginning.{HasRows-none, HasRows-more, HasRows-other, found_entity, found_type}
 use Rattle.cq_rows.proofs.grow.begin.Goals as goal
 
 pub new-requires : goal.new-requires
-new-requires c = rw c.count_entities.ensures c.requires.range
+new-requires c = record { few = omega (arith, ap length c.requires.keys, c.requires.theory.few); range = rw c.count_entities.ensures c.requires.range }
 
 pub loop-generator-init : goal.loop-generator-init
 loop-generator-init c = HasRows-none (theory_of c.args.schema.now c.args.presentation.now) c.in_ok-tables.tables c.new-entries.result.items c.in_ok-tables.ensures.whole (c.in_ok-tables.ensures.keys ∙ c.requires.keys) (c.in_ok-tables.ensures.entities ∙ c.count_entities.ensures) c.in_ok-tables.ensures.empty c.new-entries.ensures.items
