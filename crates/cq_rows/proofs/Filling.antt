@@ -15,16 +15,6 @@ use Rattle.cq_tables.proofs.Placing.{goes_below, step_below}
 use Rattle.cq_tables.proofs.Starting.{next_key, listed_goes, at_first, at_next, at_end}
 use Rattle.cq_rows.proofs.Sorts.{sort-along, end_one}
 
--- a key from an entity
-pub step_at : (keys : List (ℕ × ℕ)) (e k : ℕ) (p : ℕ × ℕ) → slice_get keys k ≡ Some p → p.0 ≡ e → step_of keys e k ≡ Some p.1
-unfolding step_of
-step_at keys e k p h q = rw (h, eq-eqb p.0 e q) refl
-
--- a key from another entity
-pub step_other : (keys : List (ℕ × ℕ)) (e k d : ℕ) (p : ℕ × ℕ) → slice_get keys k ≡ Some p → p.0 ≢ e → step_of keys e k ≡ Some d → ⊥
-unfolding step_of
-step_other keys e k d p h n s = none-some d (rw (h, ne_eqb p.0 e n) at s)
-
 -- the new row
 pub added_live : (old mid : Content) (e n : ℕ) → AddsRow old mid e n → live_of mid n ≡ true
 added_live old mid e n a = a.live n ∙ rw (eq-eqb n n refl) refl
@@ -243,9 +233,6 @@ IsFilling-fill old m m' i l h w' f = record {
       (below_or_at r i b);
   sound = KeepsSound-then old m m' h.sound f.sound;
 }
-
-step_same : (a b : List (ℕ × ℕ)) (c d k : ℕ) (o : Option ℕ) → a ≡ b → c ≡ d → step_of b d k ≡ o → step_of a c k ≡ o
-step_same a b c d k o e f h = rw (e, f) h
 
 only_some : (b : Bool) (d : ℕ) → IsSome (cond b (Some d) None) → cond b (Some d) None ≡ Some d
 only_some true d h = refl

@@ -1,4 +1,4 @@
-use Rattle.std.proofs.Common.{ℕ, ◌≡◌, ◌∙◌, ◌+◌, ◌<◌, get_or, length, refl, ap, subst, sym, arith}
+use Rattle.std.proofs.Common.{ℕ, ◌∙◌, ◌+◌, ◌<◌, get_or, length, refl, ap, subst, sym, arith}
 use Rattle.cq_tables.specs.Content.{keys_of}
 use Rattle.cq_tables.specs.Places.{keys_from}
 use Rattle.cq_tables.proofs.Starting.{next_key}

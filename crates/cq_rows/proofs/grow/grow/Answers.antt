@@ -55,10 +55,10 @@ returns-then-count_live-gt-MOST_ROWS-2-clause-many c = λ _.
     (c.loop-stage._stage + 1, omega arith, wide_from_rows s c.settle-in-loop-stage.new.tables (rows_of c.settle-in-loop-stage.new.rows) (c.loop-stage._stage + 1) 200000 c.requires.theory h (omega (arith, c.count_live-in-loop-stage.ensures, c.if-count_live-gt-MOST_ROWS-2.true)))
 
 pub all_filled-requires : goal.all_filled-requires
-all_filled-requires c = c.loop-stage.invariant.stage.grown.whole
+all_filled-requires c = record { whole = c.loop-stage.invariant.stage.grown.whole }
 
 pub all_filled-closed-requires : goal.all_filled-closed-requires
-all_filled-closed-requires c = c.loop-stage.invariant.stage.grown.whole
+all_filled-closed-requires c = record { whole = c.loop-stage.invariant.stage.grown.whole }
 
 pub fill-requires : goal.fill-requires
 fill-requires c =
