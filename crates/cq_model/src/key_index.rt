@@ -86,8 +86,8 @@ impl KeyIndex {
         })
     }
 
-    /// The index of a path of foreign keys over the first `count` rows of the entity from which it leads. The empty path
-    /// leads from each row to itself.
+    /// The index of a path of foreign keys over the first `count` rows of the entity from which it leads. The empty
+    /// path leads from each row to itself.
     pub fn along(
         alloc: Global,
         instance: &Instance,

@@ -38,8 +38,8 @@ impl Model for Tables {
 }
 
 impl Tables {
-    /// No rows, over entities that are numbered from 0. Each key is given by the entity from which and the entity to
-    /// which it goes.
+    /// No rows, over entities that are numbered from 0. Each of at most 2^32 keys is given by the entity from which and
+    /// the entity to which it goes.
     pub fn new(alloc: Global, entities: u32, keys: &[(u32, u32)]) -> Result<Tables, AllocError>
         requires few { length keys.now ≤ 2 ^ 32 }
         requires range { All (λ k. (k.0 < entities) × (k.1 < entities)) keys.now }
