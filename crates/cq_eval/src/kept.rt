@@ -126,4 +126,25 @@ impl Kept {
         self.keep_keys(made)?;
         Ok(index)
     }
+
+    /// The index of a path over so many rows. That of one foreign key is kept.
+    pub(crate) fn along(
+        &mut self,
+        alloc: Global,
+        instance: &Instance,
+        path: &[u32],
+        count: u32,
+    ) -> Result<Rc<KeyIndex>, AllocError>
+        requires way { (row : ℕ) → row < count → (target : ℕ)
+            × IsOnWay instance.now.schema instance.now.tables path.now row target }
+        requires kept { AreKept instance.now.tables self.old }
+        ensures kept { OnOk result (AreKept instance.now.tables self.new) }
+        ensures index { IfOk result (λ index. (row : ℕ) → slice_index_or index.value row []
+            ≡ positions (map (λ start. row_from instance.now.tables start path.now) (below count)) row) }
+    {
+        match path {
+            [key] => self.of_keys(alloc, instance, *key, count),
+            _ => Rc::new(alloc, KeyIndex::along(alloc, instance, path, count)?),
+        }
+    }
 }
