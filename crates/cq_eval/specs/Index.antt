@@ -20,13 +20,13 @@ use Rattle.cq_eval.specs.declared.index.TestIndex.{TestIndex}
 
 -- the rows that are listed for a value
 abbrev pub rows_of_value : Lists → Value → List ℕ
-rows_of_value (Cells groups) v = indexed_rows groups v
-rows_of_value (Keys lists) v = []
+rows_of_value (Cells index) v = indexed_rows index.value v
+rows_of_value (Keys index) v = []
 
 -- the rows that are listed for a row
 abbrev pub rows_of_row : Lists → ℕ → List ℕ
-rows_of_row (Cells groups) row = []
-rows_of_row (Keys lists) row = slice_index_or lists row []
+rows_of_row (Cells index) row = []
+rows_of_row (Keys index) row = slice_index_or index.value row []
 
 -- the equation of two sides, or of these turned round
 abbrev pub sides : Bool → TypeTerm → TypeTerm → Equation
@@ -48,6 +48,17 @@ other_entity turned (Typ t u) = record { generator = 0; path = [] }
 abbrev pub listed_rows : Tables → List ℕ → Equation → TestIndex → List ℕ
 listed_rows M choice (Typ t u) index = rows_of_value index.lists (value_of M (map AtRow choice) (other_side index.turned (Typ t u)))
 listed_rows M choice (Ent t u) index = rows_of_row index.lists (row_of M (map AtRow choice) (other_entity index.turned (Ent t u)))
+
+-- the side is this attribute of this variable, the other side needs only variables before it, and the attribute has as many cells as there
+-- are rows for the variable
+pub record IsAttributeSide (M : Tables) (counts : List ℕ) (side other : TypeTerm) (found : ℕ × ℕ) : Type 0 where
+  pub term : EntTerm
+  pub side_is : side ≡ Att found.1 term
+  pub variable : term.generator ≡ found.0
+  pub alone : term.path ≡ []
+  pub within : found.0 < length counts
+  pub before : reach_of other ≤ found.0
+  pub column : length (slice_index_or M.sheet.cells found.1 []) ≡ slice_index counts found.0
 
 -- the where equation joins a variable by one attribute to a term over variables before it, and for each value the rows are
 -- listed at which it stands among the attribute's cells, of which there are as many as rows for the variable

@@ -1,5 +1,6 @@
 pub mod Testing
 pub mod Join
+pub mod Kept
 pub mod Index
 pub mod Made
 pub mod Refused

@@ -1,14 +1,16 @@
 //! The answers of a query for an entity.
-ghost use Rattle.std.specs.Prelude.{◌≡◌, ◌==◌, ◌<◌, ◌≤◌, All, IfOk, IfErr, length, map, vec_len};
+ghost use Rattle.std.specs.Prelude.{◌≡◌, ◌==◌, ◌<◌, ◌≤◌, All, IfOk, OnOk, IfErr, length, map, vec_len};
 ghost use Rattle.std.specs.List.{list_any};
 ghost use Rattle.cq_theory.specs.Tables.{count_of};
 ghost use Rattle.cq_query.specs.Answers.{AreAnswers};
 ghost use Rattle.cq_eval.specs.Join.{IsTested};
+ghost use Rattle.cq_eval.specs.Kept.{AreKept};
 ghost use Rattle.cq_eval.specs.Made.{answers_with, answers_of, StandOnce};
 ghost use Rattle.cq_eval.specs.Refused.{TellsMany, TellsOver};
 
 use crate::index::indexes;
 use crate::joining::Join;
+use crate::kept::Kept;
 use crate::reaches::stages;
 use crate::refusal::EvalRefusal;
 use crate::rows::Rows;
@@ -33,7 +35,8 @@ pub fn answers(
     ensures few { IfOk result (λ made. vec_len made ≤ 1000000) }
     ensures refused { IfErr result (TellsMany query.now instance.now.tables entity) }
 {
-    match found_answers(alloc, query, instance, entity) {
+    let mut kept = Kept::new(alloc);
+    match found_answers(alloc, query, instance, &mut kept, entity) {
         Ok(found) => match unwrapped(alloc, found) {
             Ok(lists) => Ok(lists),
             Err(_) => Err(EvalRefusal::Memory),
@@ -59,10 +62,13 @@ pub(crate) fn found_answers(
     alloc: Global,
     query: &Query,
     instance: &Instance,
+    kept: &mut Kept,
     entity: u32,
 ) -> Result<Vec<Rows>, EvalRefusal>
+    requires kept { AreKept instance.now.tables kept.old }
     requires over { instance.now.schema ≡ query.now.source }
     requires within { entity < length query.now.target.entities }
+    ensures kept { OnOk result (AreKept instance.now.tables kept.new) }
     ensures answers { IfOk result (λ found. found.items ≡ answers_of query.now instance.now.tables entity) }
     ensures few { IfOk result (λ found. length found.items ≤ 1000000) }
     ensures refused { IfErr result (TellsOver entity (length (answers_of query.now instance.now.tables entity))) }
@@ -71,7 +77,7 @@ pub(crate) fn found_answers(
     query.is_well_sorted();
     instance.is_instance();
     match query.block(entity as usize) {
-        Some(block) => block_answers(alloc, instance, block, entity),
+        Some(block) => block_answers(alloc, instance, kept, block, entity),
         None => unreachable!(),
     }
 }
@@ -103,11 +109,14 @@ fn has_none(counts: &[u32]) -> bool
 fn block_answers(
     alloc: Global,
     instance: &Instance,
+    kept: &mut Kept,
     block: &Block,
     entity: u32,
 ) -> Result<Vec<Rows>, EvalRefusal>
+    requires kept { AreKept instance.now.tables kept.old }
     requires entities { All (λ v. v.1 < length instance.now.schema.entities) block.now.vars }
     requires tested { IsTested instance.now.schema instance.now.tables block.now }
+    ensures kept { OnOk result (AreKept instance.now.tables kept.new) }
     ensures answers { IfOk result (λ found. found.items ≡ answers_with instance.now.tables block.now.tests
         (map (λ v. count_of instance.now.tables v.1) block.now.vars)) }
     ensures few { IfOk result (λ found. length found.items ≤ 1000000) }
@@ -120,7 +129,13 @@ fn block_answers(
         return Ok(Vec::new(alloc));
     }
     let stages = stages(alloc, block.tests.as_slice(), block.vars.len())?;
-    let indexes = indexes(alloc, instance, counts.as_slice(), block.tests.as_slice())?;
+    let indexes = indexes(
+        alloc,
+        instance,
+        kept,
+        counts.as_slice(),
+        block.tests.as_slice(),
+    )?;
     let join = Join {
         entity,
         instance,

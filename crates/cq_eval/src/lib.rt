@@ -7,6 +7,7 @@ mod choice;
 pub mod evaluating;
 mod index;
 mod joining;
+mod kept;
 mod keys;
 mod reaches;
 pub mod refusal;

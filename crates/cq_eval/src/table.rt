@@ -5,6 +5,7 @@ ghost use Rattle.cq_eval.specs.Made.{answers_of, place_in, StandOnce};
 ghost use Rattle.cq_eval.specs.Refused.{TellsFirst};
 
 use crate::answering::found_answers;
+use crate::kept::Kept;
 use crate::refusal::EvalRefusal;
 use crate::rows::Rows;
 use cq_model::Instance;
@@ -95,8 +96,9 @@ pub(crate) fn all_answers(
     query.target.is_well_sorted();
     let count = query.target.entities.len();
     let mut made = Vec::with_capacity(alloc, count)?;
+    let mut kept = Kept::new(alloc);
     for entity in 0..count as u32 {
-        match found_answers(alloc, query, instance, entity) {
+        match found_answers(alloc, query, instance, &mut kept, entity) {
             Ok(found) => push_answers(alloc, found, &mut made)?,
             Err(refusal) => return Err(refusal),
         }
