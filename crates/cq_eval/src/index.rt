@@ -72,6 +72,7 @@ fn cell_count(instance: &Instance, attribute: u32) -> Option<usize>
 }
 
 /// The sides of a where equation: the one that an index is for, the other one, and whether they are turned round.
+#[derive(Drop)]
 struct Sides<'a, T> {
     side: &'a T,
     other: &'a T,
@@ -86,7 +87,7 @@ fn attribute_of(
     side: &TypeTerm,
     other: &TypeTerm,
 ) -> Option<(usize, u32)>
-    ensures { IfSome result (IsAttributeSide instance.now.tables counts.now side.now other.now) }
+    ensures side { IfSome result (IsAttributeSide instance.now.tables counts.now side.now other.now) }
     ensures attribute { IfSome result (λ found. found.1 < length instance.now.schema.attributes) }
 {
     let TypeTerm::Att(attribute, term) = side else {

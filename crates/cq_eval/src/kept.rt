@@ -144,7 +144,7 @@ impl Kept {
     {
         match path {
             [key] => self.of_keys(alloc, instance, *key, count),
-            _ => Rc::new(alloc, KeyIndex::along(alloc, instance, path, count)?),
+            _ => Ok(Rc::new(alloc, KeyIndex::along(alloc, instance, path, count)?)?),
         }
     }
 }

@@ -1,6 +1,6 @@
-use Rattle.std.proofs.Common.{List, Option, None, Some, [], ◌∷◌, ◌++◌, ◌≡◌, ◌+◌, ◌≤◌, All, length, sym, ap, subst, ◌∙◌}
+use Rattle.std.proofs.Common.{List, Option, None, Some, [], ◌∷◌, ◌++◌, ◌≡◌, ◌+◌, ◌≤◌, All, length, sym, ap, subst, ◌∙◌, arith}
 use Rattle.std.proofs.lemmas.List.{length-append}
-use Rattle.std.proofs.ByRecursion.{All-push, All-set}
+use Rattle.std.proofs.lemmas.List.Elements.{All-push, All-set}
 use Rattle.cq_eval.specs.declared.kept.OfCells.{OfCells}
 use Rattle.cq_eval.specs.Kept.{IsOfCells}
 use Rattle.cq_eval.proofs.kept.Kept.keep_cells.Goals as goal
@@ -10,7 +10,7 @@ loop-slot-preserved c =
     let is = c.in_ok-push.ensures.items in
     let size : length c.push.new.self.items ≡ length c.loop-slot.self.cells.items + 1 = ap length is ∙ length-append c.loop-slot.self.cells.items (None ∷ []) in
     record {
-      size = omega (c.loop-slot.invariant.size, size);
+      size = omega (arith, c.loop-slot.invariant.size, size);
       kept = λ M before.
           let now = c.loop-slot.invariant.kept M before in
           record {
