@@ -5,6 +5,7 @@ pub mod Extended
 pub mod Filled
 pub mod Indexed
 pub mod Joined
+pub mod Keeping
 pub mod Placed
 pub mod Tested
 pub mod Told

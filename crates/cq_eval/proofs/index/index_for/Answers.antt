@@ -1,8 +1,8 @@
 use Rattle.cq_eval.proofs.Indexed.{left_way, right_way}
 use Rattle.cq_eval.proofs.index.index_for.Goals as goal
 
-pub path_index_of-requires : goal.path_index_of-requires
-path_index_of-requires c = left_way c.args.instance.now.schema c.args.instance.now.tables c.args.counts.now c.requires.some c.args.test.now c.requires.typed c.in-Ent.left c.in-Ent.right c.in-Ent.is
+pub path_index_of-requires-clause-way : goal.path_index_of-requires-clause-way
+path_index_of-requires-clause-way c = left_way c.args.instance.now.schema c.args.instance.now.tables c.args.counts.now c.requires.some c.args.test.now c.requires.typed c.in-Ent.left c.in-Ent.right c.in-Ent.is
 
-pub path_index_of-requires-in-None : goal.path_index_of-requires-in-None
-path_index_of-requires-in-None c = right_way c.args.instance.now.schema c.args.instance.now.tables c.args.counts.now c.requires.some c.args.test.now c.requires.typed c.in-Ent.left c.in-Ent.right c.in-Ent.is
+pub path_index_of-requires-in-None-clause-way : goal.path_index_of-requires-in-None-clause-way
+path_index_of-requires-in-None-clause-way c = right_way c.args.instance.now.schema c.args.instance.now.tables c.args.counts.now c.requires.some c.args.test.now c.requires.typed c.in-Ent.left c.in-Ent.right c.in-Ent.is
