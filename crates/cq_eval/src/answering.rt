@@ -35,14 +35,30 @@ pub fn answers(
     ensures few { IfOk result (λ made. vec_len made ≤ 1000000) }
     ensures refused { IfErr result (TellsMany query.now instance.now.tables entity) }
 {
-    let mut kept = Kept::new(alloc);
-    match found_answers(alloc, query, instance, &mut kept, entity) {
+    match lone_answers(alloc, query, instance, entity) {
         Ok(found) => match unwrapped(alloc, found) {
             Ok(lists) => Ok(lists),
             Err(_) => Err(EvalRefusal::Memory),
         },
         Err(refusal) => Err(refusal),
     }
+}
+
+/// The answers for an entity, by indexes that are made for them alone.
+fn lone_answers(
+    alloc: Global,
+    query: &Query,
+    instance: &Instance,
+    entity: u32,
+) -> Result<Vec<Rows>, EvalRefusal>
+    requires over { instance.now.schema ≡ query.now.source }
+    requires within { entity < length query.now.target.entities }
+    ensures answers { IfOk result (λ found. found.items ≡ answers_of query.now instance.now.tables entity) }
+    ensures few { IfOk result (λ found. length found.items ≤ 1000000) }
+    ensures refused { IfErr result (TellsOver entity (length (answers_of query.now instance.now.tables entity))) }
+{
+    let mut kept = Kept::new(alloc);
+    found_answers(alloc, query, instance, &mut kept, entity)
 }
 
 /// The same lists of rows.

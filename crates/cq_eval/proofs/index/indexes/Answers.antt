@@ -12,7 +12,7 @@ loop-test-preserved c =
     let is = c.in_ok-push.ensures.items in
     let size : length c.loop-test.made.items ≡ c.loop-test.test-index = c.loop-test.invariant.size in
     record {
-      kept = c.in_ok-index_for.ensures.kept tt;
+      kept = c.in_ok-index_for.ensures.kept;
       size = ap length is ∙ length-append made (new ∷ []) ∙ ap (λ n. n + 1) size;
       indexes = subst (AreIndexes c.args.instance.now.tables c.args.counts.now (take (c.loop-test.test-index + 1) c.args.tests.now)) (sym is)
           (indexes_more c.args.instance.now.tables c.args.counts.now c.args.tests.now made c.loop-test.test-index c.test-item.result new c.loop-test-test.true size c.test-item.is

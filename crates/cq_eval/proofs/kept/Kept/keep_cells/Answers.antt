@@ -1,7 +1,6 @@
-use Rattle.std.proofs.Common.{List, Option, None, Some, [], ◌∷◌, ◌++◌, ◌≡◌, ◌+◌, ◌≤◌, All, length, sym, ap, subst, ◌∙◌, arith}
+use Rattle.std.proofs.Common.{None, Some, [], ◌∷◌, ◌≡◌, ◌+◌, All, length, sym, ap, subst, ◌∙◌, arith}
 use Rattle.std.proofs.lemmas.List.{length-append}
 use Rattle.std.proofs.lemmas.List.Elements.{All-push, All-set}
-use Rattle.cq_eval.specs.declared.kept.OfCells.{OfCells}
 use Rattle.cq_eval.specs.Kept.{IsOfCells}
 use Rattle.cq_eval.proofs.kept.Kept.keep_cells.Goals as goal
 
