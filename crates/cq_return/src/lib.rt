@@ -1,0 +1,4 @@
+//! What is exported is read back.
+#![tactic(auto)]
+
+pub mod laws;
