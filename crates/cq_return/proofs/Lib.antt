@@ -1,1 +1,5 @@
 pub mod Written
+pub mod Utf8
+pub mod Given
+pub mod Values
+pub mod Reading
