@@ -5,3 +5,6 @@ pub mod Values
 pub mod Reading
 pub mod Ids
 pub mod Fields
+pub mod Said
+pub mod Sheets
+pub mod CellsSaid
