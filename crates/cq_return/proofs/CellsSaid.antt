@@ -106,7 +106,17 @@ module _ (dir : Name) (i : InstanceData) (is : IsInstance i) (returnable : IsRet
     field_says cell k target [] some = absurd (omega arith)
     field_says cell k target (b ∷ bs) some = refl
 
-    -- the row to which a key leads is found by its number
+    -- the row to which a key leads
+    pub key_bound : (k target : ℕ) → followed (slice_get i.schema.keys k) entity ≡ Some target → key_at i.tables k row < 16000000
+    key_bound k target leads =
+        let edge = led (slice_get i.schema.keys k) entity target leads in
+        let column = is.well_formed.key_columns k edge.0 edge.1 in
+        let here : row < length (slice_index_or i.tables.sheet.keys k []) = omega (arith, column.0, ap (count_of i.tables) edge.2) in
+        let next = column.1 row 0 here in
+        let few = count_fits edge.0.to in
+        omega arith
+
+    -- it is found by its number
     key_found : (k target : ℕ) → followed (slice_get i.schema.keys k) entity ≡ Some target
         → (row_with_id (sheets dir i) target (column_field i entity row (Key k target)) ≡ Some (key_at i.tables k row)) × (0 < length (column_field i entity row (Key k target)))
     key_found k target leads =
@@ -143,12 +153,12 @@ module _ (dir : Name) (i : InstanceData) (is : IsInstance i) (returnable : IsRet
               ∙ (λ j. Ent (record { generator = generator j; path = k ∷ [] }) (record { generator = start j + key_at i.tables k row; path = [] }) ∷ []);
         }
 
-    column_says : (file : List ℕ) (generator number : ℕ) → generator ≡ row_generator i.schema i.tables entity row → (c : Column) → IsColumnOf i.schema entity c
+    pub column_says : (file : List ℕ) (generator number : ℕ) → generator ≡ row_generator i.schema i.tables entity row → (c : Column) → IsColumnOf i.schema entity c
         → Says i.schema (sheets dir i) first labels file generator number (fields_of i entity row) (column_field i entity row) equation_of c
     column_says file generator number at (Attribute a type) leads cell g c f = attribute_said a type leads.0 cell (g ∙ at) c f
     column_says file generator number at (Key k target) leads cell g c f = key_said k target leads cell (g ∙ at) c f
 
-    equations_are : map equation_of (columns i entity) ≡ row_equations i.schema i.tables entity row
+    pub equations_are : map equation_of (columns i entity) ≡ row_equations i.schema i.tables entity row
     equations_are =
         map-append equation_of (import.attribute_columns i.schema.attributes entity) (map import.key_of (edges_from entity i.schema.keys))
         ∙ (λ j. attributes_are (edges_from entity i.schema.attributes) j ++ keys_are (edges_from entity i.schema.keys) j)

@@ -8,3 +8,5 @@ pub mod Fields
 pub mod Said
 pub mod Sheets
 pub mod CellsSaid
+pub mod AllSaid
+pub mod RowsPass
