@@ -10,3 +10,6 @@ pub mod Sheets
 pub mod CellsSaid
 pub mod AllSaid
 pub mod RowsPass
+pub mod Built
+pub mod Nulls
+pub mod Entries

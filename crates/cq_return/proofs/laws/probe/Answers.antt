@@ -1,6 +1,7 @@
 use Rattle.std.proofs.Common.{refl}
-use Rattle.cq_return.proofs.AllSaid as d
-use Rattle.cq_return.proofs.RowsPass as e
+use Rattle.cq_return.proofs.Built as d
+use Rattle.cq_return.proofs.Nulls as e
+use Rattle.cq_return.proofs.Entries as f
 use Rattle.cq_return.proofs.laws.probe.Goals as goal
 
 pub returns : goal.returns
