@@ -13,3 +13,5 @@ pub mod RowsPass
 pub mod Built
 pub mod Nulls
 pub mod Entries
+pub mod Files
+pub mod Returned
