@@ -13,7 +13,7 @@ use Rattle.cq_import.specs.Cells.{Cell, all_cells, entity_cells, file_in, row_ce
 use Rattle.cq_import.specs.Labels.{Labels}
 use Rattle.cq_import.specs.Records.{Record}
 use Rattle.cq_import.proofs.CellEquations.{IsColumnOf, columns_of}
-use Rattle.cq_return.specs.Return.{IsReturnable}
+use Rattle.cq_return.proofs.AllReadable.{AreReadable}
 use Rattle.cq_return.proofs.Fields.{column_field, columns, fields_of}
 use Rattle.cq_return.proofs.Given.{AreGiven}
 use Rattle.cq_return.proofs.Ids.{id_text}
@@ -21,7 +21,7 @@ use Rattle.cq_return.proofs.Said.{AreSaid, Says, row_said, rows_said, said-flat_
 use Rattle.cq_return.proofs.Sheets.{rows, rows_there, sheets, start_is}
 use Rattle.cq_return.proofs.CellsSaid.{column_says, equation_of, equations_are}
 
-module _ (dir : Name) (i : InstanceData) (is : IsInstance i) (returnable : IsReturnable dir i) (labels : Labels) (given : AreGiven i.tables.algebra.nulls labels) where
+module _ (dir : Name) (i : InstanceData) (is : IsInstance i) (returnable : AreReadable i) (labels : Labels) (given : AreGiven i.tables.algebra.nulls labels) where
   abbrev first : ℕ
   first = sum i.tables.sheet.counts
 

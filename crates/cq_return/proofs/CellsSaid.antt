@@ -32,7 +32,7 @@ use Rattle.cq_import.specs.Columns as import
 use Rattle.cq_import.specs.Labels.{Labels, uses_in, uses_trouble, with_uses, value_term}
 use Rattle.cq_import.proofs.CellEquations.{IsColumnOf, columns_of}
 use Rattle.cq_import.proofs.LabelPlaces.{given_uses}
-use Rattle.cq_return.specs.Return.{IsReturnable}
+use Rattle.cq_return.proofs.AllReadable.{AreReadable}
 use Rattle.cq_return.proofs.Fields.{column_field, columns, fields_of}
 use Rattle.cq_return.proofs.Given.{AreGiven}
 use Rattle.cq_return.proofs.Ids.{found_at, id_text, some_bytes}
@@ -46,7 +46,7 @@ led : (o : Option Edge) (entity to : ℕ) → followed o entity ≡ Some to → 
 led None entity to h = cc
 led (Some edge) entity to h = let parts = cond_some (edge.from == entity) edge.to to h in (edge, refl, eqb-true edge.from entity parts.0, parts.1)
 
-module _ (dir : Name) (i : InstanceData) (is : IsInstance i) (returnable : IsReturnable dir i) (labels : Labels) (given : AreGiven i.tables.algebra.nulls labels) where
+module _ (dir : Name) (i : InstanceData) (is : IsInstance i) (returnable : AreReadable i) (labels : Labels) (given : AreGiven i.tables.algebra.nulls labels) where
   abbrev first : ℕ
   first = sum i.tables.sheet.counts
 

@@ -27,7 +27,7 @@ use Rattle.cq_import.specs.Labels.{Labels, uses_in, uses_trouble, value_term}
 use Rattle.cq_import.specs.Records.{Record, field_in}
 use Rattle.cq_import.specs.Rows.{is_row}
 use Rattle.cq_csv.specs.Files.{entry_record}
-use Rattle.cq_return.specs.Return.{IsReadableEntry}
+use Rattle.cq_return.proofs.AllReadable.{IsReadableEntry}
 use Rattle.cq_return.proofs.Built.{application_built, built_read}
 use Rattle.cq_return.proofs.Given.{AreGiven}
 use Rattle.cq_return.proofs.Reading.{text_read}

@@ -7,7 +7,7 @@ use Rattle.cq_base.specs.declared.name.Name.{Name}
 use Rattle.cq_io.specs.Content.{File, find_file}
 use Rattle.cq_theory.specs.Canonical.{below}
 use Rattle.cq_theory.specs.Tables.{count_of}
-use Rattle.cq_theory.proofs.Every.{Every, Every-at, Every-from_All, Every-parts, Every-unmap, at_range}
+use Rattle.cq_theory.proofs.Every.{Every, Every-at, Every-parts, Every-unmap, at_range}
 use Rattle.cq_model.specs.InstanceData.{InstanceData, IsInstance}
 use Rattle.cq_text.specs.Grouped.{numbers_from}
 use Rattle.cq_text.specs.Transcript.{name_or_empty}
@@ -21,12 +21,16 @@ use Rattle.cq_import.specs.Rows.{rows_of, sheet_fault}
 use Rattle.cq_csv.specs.Files.{algebra_records, entity_file, entity_records, files_of, names_of, row_record}
 use Rattle.cq_csv.specs.Files as export
 use Rattle.cq_csv.specs.Records.{file_text}
-use Rattle.cq_return.specs.Return.{HoldsFiles, IsReturnable}
+use Rattle.cq_return.proofs.AllReadable.{AreReadable}
 use Rattle.cq_return.proofs.Fields.{fields_of, header_is, record_is}
 use Rattle.cq_return.proofs.Given.{AreGiven}
 use Rattle.cq_return.proofs.RowsPass.{entity_passes}
 use Rattle.cq_return.proofs.Sheets.{rows, sheet, sheets}
 use Rattle.cq_return.proofs.Written.{HaveFields, id_back}
+
+-- the files of the instance in this folder are found with their bytes
+abbrev pub HoldsAt : List File → Name → InstanceData → Type 0
+HoldsAt files dir i = Every (λ file. find_file file.0 files ≡ Some file.1) (files_of dir i)
 
 not_longer : (m n : ℕ) → n ≤ m → nat_lt m n ≡ false
 not_longer m n h = grind (arith, nat_tests)
@@ -70,13 +74,13 @@ module _ (dir : Name) (i : InstanceData) where
       (have_fields attributes keys 0 (count_of i.tables entity))
       ∙ (λ j. header j ∷ records j)
 
-module _ (dir : Name) (i : InstanceData) (files : List File) (holds : HoldsFiles files dir i) where
+module _ (dir : Name) (i : InstanceData) (files : List File) (holds : HoldsAt files dir i) where
   abbrev Found : File → Type 0
   Found file = find_file file.0 files ≡ Some file.1
 
   all_found : Every Found (map (entity_file dir i) (below (length i.schema.entities))) × Every Found ((export.file_name dir (codes "entries-2"), file_text (algebra_records i)) ∷ [])
   all_found = Every-parts Found (map (entity_file dir i) (below (length i.schema.entities))) ((export.file_name dir (codes "entries-2"), file_text (algebra_records i)) ∷ [])
-      (Every-from_All Found (files_of dir i) holds)
+      holds
 
   pub entity_found : (entity : ℕ) → entity < length i.schema.entities → find_file (file_of files dir i.schema entity) files ≡ Some (entity_text dir i entity)
   entity_found entity within =
@@ -89,31 +93,14 @@ module _ (dir : Name) (i : InstanceData) (files : List File) (holds : HoldsFiles
   pub entries_found : entries_text files dir ≡ Some (file_text (algebra_records i))
   entries_found = all_found.1.0
 
-module _ (dir : Name) (i : InstanceData) (is : IsInstance i) (returnable : IsReturnable dir i) (files : List File) (holds : HoldsFiles files dir i)
+module _ (dir : Name) (i : InstanceData) (is : IsInstance i) (returnable : AreReadable i) (files : List File) (holds : HoldsAt files dir i)
     (labels : Labels) (given : AreGiven i.tables.algebra.nulls labels) where
-  abbrev IsShort : File → Type 0
-  IsShort file = length file.1 ≤ most_bytes
-
-  all_short : Every IsShort (map (entity_file dir i) (below (length i.schema.entities))) × Every IsShort ((export.file_name dir (codes "entries-2"), file_text (algebra_records i)) ∷ [])
-  all_short = Every-parts IsShort (map (entity_file dir i) (below (length i.schema.entities))) ((export.file_name dir (codes "entries-2"), file_text (algebra_records i)) ∷ [])
-      (Every-from_All IsShort (files_of dir i) returnable.short)
-
-  entity_short : (entity : ℕ) → entity < length i.schema.entities → length (entity_text dir i entity) ≤ most_bytes
-  entity_short entity within =
-      let here : 0 + entity ≡ entity = omega arith in
-      Every-at (λ e. IsShort (entity_file dir i e)) (below (length i.schema.entities)) entity entity
-      (Every-unmap IsShort (entity_file dir i) (below (length i.schema.entities)) all_short.0)
-      (at_range 0 (length i.schema.entities) entity within ∙ ap (λ n. Some n) here)
-
-  pub entries_short : length (file_text (algebra_records i)) ≤ most_bytes
-  entries_short = all_short.1.0
-
   file_passes : (entity : ℕ) → entity < length i.schema.entities → file_fault files dir i.schema entity ≡ None
   file_passes entity within =
       let name = file_of files dir i.schema entity in
       let wanted = import.header i.schema entity in
       ap (λ o. or_else (reading_fault name o) (sheet_fault name wanted (records_of (unwrap_or o [])))) (entity_found dir i files holds entity within)
-      ∙ ap (λ f. or_else f (sheet_fault name wanted (records_of (entity_text dir i entity)))) (reading_passes name (entity_text dir i entity) (entity_short entity within))
+      ∙ ap (λ f. or_else f (sheet_fault name wanted (records_of (entity_text dir i entity)))) (reading_passes name (entity_text dir i entity) (returnable.short_entities entity within))
       ∙ ap (sheet_fault name wanted) (entity_read dir i entity) ∙ entity_passes dir i is returnable labels given name entity
 
   pub files_pass : files_fault files dir i.schema (length i.schema.entities) ≡ None

@@ -15,3 +15,7 @@ pub mod Nulls
 pub mod Entries
 pub mod Files
 pub mod Returned
+pub mod AllReadable
+pub mod Paths
+pub mod Answered
+pub mod Own

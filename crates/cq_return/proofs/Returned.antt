@@ -23,11 +23,11 @@ use Rattle.cq_import.specs.Rows.{rows_of}
 use Rattle.cq_import.proofs.Presented.{size_passes}
 use Rattle.cq_csv.specs.Files.{algebra_records, entry_record, entry_records, null_record, null_records}
 use Rattle.cq_csv.specs.Records.{file_text}
-use Rattle.cq_return.specs.Return.{HoldsFiles, IsReturnable}
+use Rattle.cq_return.proofs.AllReadable.{AreReadable}
 use Rattle.cq_return.proofs.AllSaid.{all_are}
 use Rattle.cq_return.proofs.Entries.{entries_pass, entries_say, entry_lines_pass, no_null_fault, no_nulls}
 use Rattle.cq_return.proofs.Fields.{same_header}
-use Rattle.cq_return.proofs.Files.{entries_found, entries_short, files_pass, reading_passes, sheets_are}
+use Rattle.cq_return.proofs.Files.{HoldsAt, entries_found, files_pass, reading_passes, sheets_are}
 use Rattle.cq_return.proofs.Given.{AreGiven, labels_for, labels_given, use_of}
 use Rattle.cq_return.proofs.Nulls.{entries_after, lines_pass, no_equations, nulls_pass, uses_are}
 use Rattle.cq_return.proofs.Said.{all_said, no_fault}
@@ -45,7 +45,7 @@ plain_uses : (f : ℕ → ℕ) (s n : ℕ) → map (λ (u : Use). Plain u.1) (ma
 plain_uses f s zero = refl
 plain_uses f s (suc n) = ap (λ l. Plain (f s) ∷ l) (plain_uses f (s + 1) n)
 
-module _ (dir : Name) (i : InstanceData) (is : IsInstance i) (returnable : IsReturnable dir i) where
+module _ (dir : Name) (i : InstanceData) (is : IsInstance i) (returnable : AreReadable i) where
   abbrev T : Typeside
   T = i.schema.typeside
 
@@ -146,7 +146,7 @@ module _ (dir : Name) (i : InstanceData) (is : IsInstance i) (returnable : IsRet
   lines_read : records_of (file_text (algebra_records i)) ≡ mark ∷ lines
   lines_read = mark_back (codes "left" ∷ codes "right" ∷ []) lines (have_lines (entry_records T i.tables.algebra.entries) 0 (length nulls) (have_entries i.tables.algebra.entries))
 
-  module _ (files : List File) (holds : HoldsFiles files dir i) where
+  module _ (files : List File) (holds : HoldsAt files dir i) where
     text_read : records_of (unwrap_or (entries_text files dir) []) ≡ mark ∷ lines
     text_read = ap (λ o. records_of (unwrap_or o [])) (entries_found dir i files holds) ∙ lines_read
 
@@ -158,7 +158,7 @@ module _ (dir : Name) (i : InstanceData) (is : IsInstance i) (returnable : IsRet
         let file = entries_file dir in
         let sheets_read = sheets_are dir i is returnable files holds labels are_given in
         let reading : reading_fault file (entries_text files dir) ≡ None =
-        ap (reading_fault file) (entries_found dir i files holds) ∙ reading_passes file (file_text (algebra_records i)) (entries_short dir i is returnable files holds labels are_given) in
+        ap (reading_fault file) (entries_found dir i files holds) ∙ reading_passes file (file_text (algebra_records i)) returnable.short_algebra in
         (λ j. or_else (files_pass dir i is returnable files holds labels are_given j)
         (or_else (reading j) (or_else (marked_fault file (text_read j)) (sheets2_fault i.schema (sheets_read j) (rest_read j) file))))
         ∙ ap (λ f. or_else f (sheets2_fault i.schema (sheets dir i) lines file)) (lines_are_fine file) ∙ sheets_are_fine file

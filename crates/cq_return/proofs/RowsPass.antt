@@ -30,7 +30,7 @@ use Rattle.cq_import.specs.Rows.{is_row, row_fault, rows_fault, sheet_fault, id_
 use Rattle.cq_import.proofs.CellEquations.{IsColumnOf, columns_of}
 use Rattle.cq_text.specs.Literal as literal
 use Rattle.cq_csv.specs.Files.{cell_field}
-use Rattle.cq_return.specs.Return.{IsReturnable}
+use Rattle.cq_return.proofs.AllReadable.{AreReadable}
 use Rattle.cq_return.proofs.CellsSaid.{cell_typed, count_fits, key_bound}
 use Rattle.cq_return.proofs.Fields.{column_field, columns, fields_of, is_whole, same_header}
 use Rattle.cq_return.proofs.Given.{AreGiven}
@@ -77,7 +77,7 @@ module _ (file : List ℕ) (width : ℕ) (r : ℕ → Record) (count : ℕ) (few
       ap (λ b. cond b (rows_fault file (length wanted) [] 1 (map r (below count))) (Some (BadHeader file))) (same_header wanted wanted refl)
       ∙ ap (λ w. rows_fault file w [] 1 (map r (below count))) is ∙ rows_pass 0 count 1 (omega arith) [] refl
 
-module _ (dir : Name) (i : InstanceData) (is : IsInstance i) (returnable : IsReturnable dir i) (labels : Labels) (given : AreGiven i.tables.algebra.nulls labels) where
+module _ (dir : Name) (i : InstanceData) (is : IsInstance i) (returnable : AreReadable i) (labels : Labels) (given : AreGiven i.tables.algebra.nulls labels) where
   column_text : (entity row : ℕ) → row < count_of i.tables entity → (c : Column) → IsColumnOf i.schema entity c → is_utf8 (column_field i entity row c) ≡ true
   column_text entity row inside (Attribute a type) leads =
       let at = cell_typed dir i is returnable labels given entity row inside a type leads.0 in

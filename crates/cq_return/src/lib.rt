@@ -1,4 +1,4 @@
-//! What is exported is read back.
+//! Exported files are read back.
 #![tactic(auto)]
 
 pub mod laws;
