@@ -1,12 +1,11 @@
 -- All values of an instance are readable at their places.
-use Rattle.std.proofs.Common.{ℕ, zero, suc, Bool, true, false, List, [], ◌∷◌, Option, Some, None, ◌≡◌, ◌<◌, ◌≤◌, ◌+◌, ◌^◌, ◌&&◌, map, sum, length, refl, sym, ap, subst, ◌∙◌, arith}
+use Rattle.std.proofs.Common.{ℕ, zero, suc, Bool, true, List, [], ◌∷◌, Option, Some, None, ◌≡◌, ◌<◌, ◌≤◌, ◌&&◌, map, sum, length, refl, sym, ap, ◌∙◌, arith}
 use Rattle.std.specs.Prelude.{All, max, slice_get, slice_index_or, option_map}
 use Rattle.std.specs.List.{list_all}
 use Rattle.std.proofs.lemmas.Bool.{and_parts}
 use Rattle.std.proofs.lemmas.List.Elements.{All-head, All-tail}
 use Rattle.std.proofs.lemmas.List.Sums.{sum_by-cons}
 use Rattle.std.proofs.lemmas.Option.{slice_get_within}
-use Rattle.cq_base.specs.declared.name.Name.{Name}
 use Rattle.cq_theory.specs.declared.constant.Con.{Con}
 use Rattle.cq_theory.specs.declared.constant.Con.TheVariants.{Named, Open}
 use Rattle.cq_theory.specs.declared.schema.Edge.{Edge}
@@ -31,7 +30,7 @@ use Rattle.cq_model.specs.Given.{size_of}
 use Rattle.cq_import.specs.Imports.{most_bytes, most_generators}
 use Rattle.cq_csv.specs.Files.{algebra_records, entity_records}
 use Rattle.cq_csv.specs.Records.{file_text}
-use Rattle.cq_return.specs.Return.{HasNames, IsReturnable, IsReturnableEntry, IsReturnableValue, greatest, has_name, has_names, has_names_step, levels_of, levels_step}
+use Rattle.cq_return.specs.Return.{HasNames, IsReturnable, IsReturnableEntry, greatest, has_name, has_names, has_names_step, levels_of, levels_step}
 
 -- both sides of the entry are readable at the type of its function
 abbrev pub IsReadableEntry : Typeside → Entry → Type 0
@@ -154,8 +153,7 @@ module _ (i : InstanceData) (is : IsInstance i) (returnable : IsReturnable i) wh
       let left_symbols : symbols_of (Fun e.function e.args) ≤ 1024 = omega (arith, fold-Fun ℕ symbols_step e.function e.args, all_symbols e.args sound.plain.0) in
       let right_levels : levels_of e.value ≤ 64 = omega (arith, plain_levels e.value sound.plain.1) in
       let right_symbols : symbols_of e.value ≤ 1024 = omega (arith, plain_symbols e.value sound.plain.1) in
-      let all_fit = fits i.schema returnable.names i.tables.algebra.nulls few_nulls in
-      (
+      let all_fit = fits i.schema returnable.names i.tables.algebra.nulls few_nulls in (
         record { within = all_fit (Fun e.function e.args) 64 f.result (sound.typed ∙ ap (λ (g : Function). Some g.result) same) named left_levels; symbols = left_symbols },
         record { within = all_fit e.value 64 f.result (sound.same_type ∙ ap (λ (g : Function). Some g.result) same) entry.1 right_levels; symbols = right_symbols },
       )

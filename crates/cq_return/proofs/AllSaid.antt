@@ -1,15 +1,15 @@
 -- All cells of an instance's files say the equations of its cells and keys, in their order.
-use Rattle.std.proofs.Common.{ℕ, List, [], ◌∷◌, ◌++◌, Option, Some, None, ◌≡◌, ◌<◌, ◌≤◌, ◌+◌, map, sum, take, length, refl, sym, ap, subst, ◌∙◌, arith}
+use Rattle.std.proofs.Common.{ℕ, List, ◌≡◌, ◌<◌, sum, take, length, refl, sym, subst, arith}
 use Rattle.std.specs.Prelude.{slice_get}
-use Rattle.std.specs.List.{flat_map, range_with_len}
+use Rattle.std.specs.List.{flat_map}
 use Rattle.cq_base.specs.declared.name.Name.{Name}
 use Rattle.cq_theory.specs.declared.presentation.Equation.{Equation}
 use Rattle.cq_theory.specs.Canonical.{below, entity_equations, row_equations, row_generator}
 use Rattle.cq_theory.specs.Tables.{count_of}
-use Rattle.cq_theory.proofs.Every.{Every, Every-weaker}
+use Rattle.cq_theory.proofs.Every.{Every-weaker}
 use Rattle.cq_model.specs.InstanceData.{InstanceData, IsInstance}
 use Rattle.cq_model.proofs.CanonicalHolds.{from_below}
-use Rattle.cq_import.specs.Cells.{Cell, all_cells, entity_cells, file_in, row_cells, rows_at, rows_cells, start_of}
+use Rattle.cq_import.specs.Cells.{Cell, all_cells, entity_cells, file_in, row_cells, rows_cells, start_of}
 use Rattle.cq_import.specs.Labels.{Labels}
 use Rattle.cq_import.specs.Records.{Record}
 use Rattle.cq_import.proofs.CellEquations.{IsColumnOf, columns_of}
@@ -18,7 +18,7 @@ use Rattle.cq_return.proofs.Fields.{column_field, columns, fields_of}
 use Rattle.cq_return.proofs.Given.{AreGiven}
 use Rattle.cq_return.proofs.Ids.{id_text}
 use Rattle.cq_return.proofs.Said.{AreSaid, Says, row_said, rows_said, said-flat_map}
-use Rattle.cq_return.proofs.Sheets.{rows, rows_there, sheets, start_is}
+use Rattle.cq_return.proofs.Sheets.{rows_there, sheets, start_is}
 use Rattle.cq_return.proofs.CellsSaid.{column_says, equation_of, equations_are}
 
 module _ (dir : Name) (i : InstanceData) (is : IsInstance i) (returnable : AreReadable i) (labels : Labels) (given : AreGiven i.tables.algebra.nulls labels) where

@@ -1,14 +1,13 @@
 -- The texts of built values are read back.
-use Rattle.std.proofs.Common.{ℕ, Bool, true, false, List, [], ◌∷◌, ◌++◌, Option, Some, None, ◌≡◌, ◌&&◌, cond, map, take, length, refl, sym, ap, subst, ◌∙◌, append_assoc}
+use Rattle.std.proofs.Common.{ℕ, Bool, true, false, List, [], ◌∷◌, ◌++◌, Some, None, ◌≡◌, cond, map, take, length, refl, sym, ap, ◌∙◌, append_assoc}
 use Rattle.std.specs.Prelude.{slice_get, not, ◌==◌, codes, option_map, option_and_then}
 use Rattle.std.specs.List.{list_all, prefix_len}
 use Rattle.std.proofs.lemmas.Bool.{and_parts}
-use Rattle.cq_base.specs.Names.{number_of}
 use Rattle.cq_theory.specs.declared.typeside.Fun.{Fun as Function}
 use Rattle.cq_theory.specs.declared.value.Value.{Value}
 use Rattle.cq_theory.specs.declared.value.Value.TheVariants as value
 use Rattle.cq_theory.specs.TypesideData.{TypesideData as Typeside}
-use Rattle.cq_theory.specs.Typeside.{IsTypeside, function_names}
+use Rattle.cq_theory.specs.Typeside.{IsTypeside}
 use Rattle.cq_theory.specs.ValueText.{application_text, function_name, is_word, is_word_byte, value_text, with_commas}
 use Rattle.cq_theory.proofs.Values.{value_text-at_Fun, fold-Const, fold-Null, fold-Fun}
 use Rattle.cq_values.specs.Built.{built_at, built_in, built_type, if_built, is_built, is_built_step, named_result, result_of}

@@ -1,7 +1,6 @@
 -- Each cell of an instance's files says the equation of the instance's cell or key.
-use Rattle.std.proofs.Common.{ℕ, zero, suc, Bool, true, false, List, [], ◌∷◌, ◌++◌, Option, Some, None, ◌≡◌, ◌<◌, ◌≤◌, ◌+◌, ◌^◌, cond, map, sum, take, length, refl, sym, ap, subst, ◌∙◌, arith}
-use Rattle.std.specs.Prelude.{slice_get, slice_index_or, if◌then◌else◌, ◌==◌}
-use Rattle.std.specs.List.{flat_map, range_with_len}
+use Rattle.std.proofs.Common.{ℕ, List, [], ◌∷◌, ◌++◌, Option, Some, None, ◌≡◌, ◌<◌, ◌≤◌, ◌+◌, map, sum, length, refl, sym, ap, subst, ◌∙◌, arith}
+use Rattle.std.specs.Prelude.{slice_get, slice_index_or, ◌==◌}
 use Rattle.std.proofs.lemmas.Bool.{eqb-true}
 use Rattle.std.proofs.lemmas.List.{map-append}
 use Rattle.std.proofs.lemmas.Option.{cond_some}
@@ -12,33 +11,29 @@ use Rattle.cq_theory.specs.declared.presentation.Equation.{Equation}
 use Rattle.cq_theory.specs.declared.presentation.Equation.TheVariants.{Ent, Typ}
 use Rattle.cq_theory.specs.declared.schema.Edge.{Edge}
 use Rattle.cq_theory.specs.declared.term.TypeTerm.TheVariants as term
-use Rattle.cq_theory.specs.declared.value.Value.{Value}
 use Rattle.cq_theory.specs.declared.value.Value.TheVariants.{Const}
-use Rattle.cq_theory.specs.SchemaData.{SchemaData as Schema}
 use Rattle.cq_theory.specs.Canonical.{below, edges_from, entity_equations, row_equations, row_generator, row_term}
 use Rattle.cq_theory.specs.Canonical as canonical
 use Rattle.cq_theory.specs.Sorts.{followed}
 use Rattle.cq_theory.specs.Tables.{cell_at, count_of, key_at, value_type}
-use Rattle.cq_theory.proofs.Every.{Every, Every-at, Every-from}
 use Rattle.cq_theory.proofs.OnValues.{All_at}
 use Rattle.cq_values.specs.Readable.{IsReadable}
 use Rattle.cq_model.specs.InstanceData.{InstanceData, IsInstance}
-use Rattle.cq_model.specs.Given.{size_of}
 use Rattle.cq_import.specs.declared.columns.Column.{Column}
 use Rattle.cq_import.specs.declared.columns.Column.TheVariants.{Attribute, Key}
 use Rattle.cq_import.specs.declared.content.Content.TheVariants.{Means}
-use Rattle.cq_import.specs.Cells.{Cell, all_cells, column_equations, column_fault, column_uses, content_equations, content_fault, content_of, entity_cells, key_equations, key_fault, key_field_equations, missing_id, row_with_id, rows_cells, start_of, trouble_fault, uses_of}
+use Rattle.cq_import.specs.Cells.{Cell, column_equations, column_fault, column_uses, content_equations, content_fault, content_of, key_equations, key_fault, key_field_equations, missing_id, row_with_id, trouble_fault, uses_of}
 use Rattle.cq_import.specs.Columns as import
 use Rattle.cq_import.specs.Labels.{Labels, uses_in, uses_trouble, with_uses, value_term}
-use Rattle.cq_import.proofs.CellEquations.{IsColumnOf, columns_of}
+use Rattle.cq_import.proofs.CellEquations.{IsColumnOf}
 use Rattle.cq_import.proofs.LabelPlaces.{given_uses}
 use Rattle.cq_return.proofs.AllReadable.{AreReadable}
 use Rattle.cq_return.proofs.Fields.{column_field, columns, fields_of}
 use Rattle.cq_return.proofs.Given.{AreGiven}
 use Rattle.cq_return.proofs.Ids.{found_at, id_text, some_bytes}
 use Rattle.cq_return.proofs.Reading.{cell_read}
-use Rattle.cq_return.proofs.Said.{AreSaid, IsSaid, Says, row_said, rows_said, said-flat_map}
-use Rattle.cq_return.proofs.Sheets.{counts_are, ids_there, part_fits, rows_there, sheet, sheets, start_is, there}
+use Rattle.cq_return.proofs.Said.{IsSaid, Says}
+use Rattle.cq_return.proofs.Sheets.{ids_there, part_fits, sheets, start_is}
 use Rattle.cq_return.proofs.Values.{has_term, has_uses, no_troubles}
 
 -- an edge that leads from an entity
@@ -129,10 +124,9 @@ module _ (dir : Name) (i : InstanceData) (is : IsInstance i) (returnable : AreRe
         let inside_target : target < length i.schema.entities = subst (λ t. t < length i.schema.entities) edge.3 ends.1 in
         let few = count_fits target in
         let none : 0 + key_at i.tables k row ≡ key_at i.tables k row = omega arith in
-        let found = found_at 0 (count_of i.tables target) (key_at i.tables k row) within (omega arith) in
-        (
+        let found = found_at 0 (count_of i.tables target) (key_at i.tables k row) within (omega arith) in (
           ap (λ ids. number_of ids (id_text (key_at i.tables k row))) (ids_there dir i target inside_target)
-          ∙ ap (λ n. number_of (map id_text (below (count_of i.tables target))) (id_text n)) (sym none) ∙ found,
+              ∙ ap (λ n. number_of (map id_text (below (count_of i.tables target))) (id_text n)) (sym none) ∙ found,
           some_bytes (key_at i.tables k row) (omega arith),
         )
 
@@ -170,4 +164,3 @@ module _ (dir : Name) (i : InstanceData) (is : IsInstance i) (returnable : AreRe
         keys_are : (edges : List (ℕ × Edge)) → map equation_of (map import.key_of edges) ≡ map (canonical.key_equation i.schema i.tables entity row) edges
         keys_are [] = refl
         keys_are (k ∷ edges) = ap (λ l. canonical.key_equation i.schema i.tables entity row k ∷ l) (keys_are edges)
-

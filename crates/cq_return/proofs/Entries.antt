@@ -1,11 +1,10 @@
 -- The records of entries.
-use Rattle.std.proofs.Common.{ℕ, zero, suc, Bool, true, false, List, [], ◌∷◌, ◌++◌, Option, Some, None, ◌≡◌, ◌<◌, ◌≤◌, ◌+◌, ◌&&◌, cond, filter, map, sum, length, refl, sym, ap, subst, ◌∙◌, arith}
-use Rattle.std.specs.Prelude.{codes, slice_get, All}
+use Rattle.std.proofs.Common.{ℕ, true, List, [], ◌∷◌, ◌++◌, Some, None, ◌≡◌, ◌+◌, ◌&&◌, cond, filter, map, sum, refl, sym, ap, ◌∙◌}
+use Rattle.std.specs.Prelude.{codes, All}
 use Rattle.std.specs.List.{flat_map}
 use Rattle.std.specs.Str.{is_utf8}
 use Rattle.std.proofs.lemmas.List.Elements.{All-head, All-tail}
 use Rattle.std.proofs.lemmas.Str.{is_utf8-from_IsUtf8}
-use Rattle.cq_theory.specs.declared.presentation.Equation.{Equation}
 use Rattle.cq_theory.specs.declared.presentation.Equation.TheVariants.{Typ}
 use Rattle.cq_theory.specs.declared.term.TypeTerm.{TypeTerm}
 use Rattle.cq_theory.specs.declared.value.Entry.{Entry}
@@ -16,15 +15,15 @@ use Rattle.cq_theory.specs.TypesideData.{TypesideData as Typeside}
 use Rattle.cq_theory.specs.Typeside.{IsTypeside}
 use Rattle.cq_theory.specs.Canonical as canonical
 use Rattle.cq_theory.specs.Tables.{IsSoundEntry, Tables, value_type}
-use Rattle.cq_theory.specs.ValueText.{application_text, function_name, value_text}
+use Rattle.cq_theory.specs.ValueText.{value_text}
 use Rattle.cq_theory.proofs.Values.{fold-Fun, value_text-at_Fun}
 use Rattle.cq_values.specs.Built.{built_in}
 use Rattle.cq_values.specs.Readable.{IsReadable}
 use Rattle.cq_values.specs.Reading.{value_in}
-use Rattle.cq_import.specs.Entries.{entries_fault, entry_equations, entry_fault, is_entry, is_null, lines_fault, null_use, nulls_fault, right_equations, right_fault, sides_equations, sides_fault, trouble_in, uses_fault}
-use Rattle.cq_import.specs.Faults.{BadCell, Fault, NotCsv, or_else}
-use Rattle.cq_import.specs.Labels.{Labels, uses_in, uses_trouble, value_term}
-use Rattle.cq_import.specs.Records.{Record, field_in}
+use Rattle.cq_import.specs.Entries.{entries_fault, entry_equations, entry_fault, is_null, lines_fault, null_use, nulls_fault, right_equations, right_fault, sides_equations, sides_fault, trouble_in, uses_fault}
+use Rattle.cq_import.specs.Faults.{BadCell, NotCsv, or_else}
+use Rattle.cq_import.specs.Labels.{Labels, uses_in, value_term}
+use Rattle.cq_import.specs.Records.{field_in}
 use Rattle.cq_import.specs.Rows.{is_row}
 use Rattle.cq_csv.specs.Files.{entry_record}
 use Rattle.cq_return.proofs.AllReadable.{IsReadableEntry}

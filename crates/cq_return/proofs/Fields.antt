@@ -1,15 +1,13 @@
 -- The records of an entity's file by the columns of the entity.
-use Rattle.std.proofs.Common.{ℕ, zero, suc, Bool, true, false, List, [], ◌∷◌, ◌++◌, Option, Some, None, ◌≡◌, ◌<◌, ◌≤◌, ◌+◌, ◌^◌, ◌&&◌, cond, map, length, refl, sym, ap, ◌∙◌, append_assoc, arith}
-use Rattle.std.specs.Prelude.{codes, decimal, slice_get, ◌==◌}
-use Rattle.std.specs.List.{range_with_len, list_all}
+use Rattle.std.proofs.Common.{ℕ, suc, true, List, [], ◌∷◌, ◌++◌, Option, Some, None, ◌≡◌, ◌&&◌, map, length, refl, sym, ap, ◌∙◌}
+use Rattle.std.specs.Prelude.{codes, slice_get}
+use Rattle.std.specs.List.{list_all}
 use Rattle.std.specs.Str.{is_utf8}
 use Rattle.std.specs.Cmp.Lexicographic.{nat_list_eq_equiv}
 use Rattle.std.proofs.lemmas.Bool.{eq-eqb}
 use Rattle.std.proofs.lemmas.List.{length-map, map-append}
-use Rattle.cq_base.specs.declared.name.Name.{Name}
-use Rattle.cq_base.specs.Names.{same_name}
 use Rattle.cq_theory.specs.declared.schema.Edge.{Edge}
-use Rattle.cq_theory.specs.Canonical.{below, edges_from}
+use Rattle.cq_theory.specs.Canonical.{edges_from}
 use Rattle.cq_model.specs.InstanceData.{InstanceData}
 use Rattle.cq_text.specs.Grouped.{numbers_from}
 use Rattle.cq_text.specs.Transcript as transcript

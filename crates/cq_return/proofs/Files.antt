@@ -1,6 +1,6 @@
 -- The files of the entities in a folder that holds the files of an instance.
-use Rattle.std.proofs.Common.{ℕ, zero, suc, Bool, true, false, List, [], ◌∷◌, ◌++◌, Option, Some, None, ◌≡◌, ◌<◌, ◌≤◌, ◌+◌, cond, drop, map, length, refl, sym, ap, subst, ◌∙◌, arith}
-use Rattle.std.specs.Prelude.{All, codes, nat_lt, slice_get, unwrap_or}
+use Rattle.std.proofs.Common.{ℕ, zero, suc, false, List, [], ◌∷◌, ◌++◌, Option, Some, None, ◌≡◌, ◌<◌, ◌≤◌, ◌+◌, cond, drop, map, length, refl, sym, ap, ◌∙◌, arith}
+use Rattle.std.specs.Prelude.{codes, nat_lt, slice_get, unwrap_or}
 use Rattle.std.specs.List.{range_with_len}
 use Rattle.std.proofs.lemmas.Bool.Decides.{nat_tests}
 use Rattle.cq_base.specs.declared.name.Name.{Name}
@@ -12,11 +12,11 @@ use Rattle.cq_model.specs.InstanceData.{InstanceData, IsInstance}
 use Rattle.cq_text.specs.Grouped.{numbers_from}
 use Rattle.cq_text.specs.Transcript.{name_or_empty}
 use Rattle.cq_import.specs.Columns as import
-use Rattle.cq_import.specs.Entries.{entries_file, entries_text}
+use Rattle.cq_import.specs.Entries.{entries_text}
 use Rattle.cq_import.specs.Faults.{Fault, TooLong, first_fault, or_else}
 use Rattle.cq_import.specs.Imports.{file_fault, file_name, file_of, files_fault, most_bytes, name_at, reading_fault, sheet_of, sheets_of}
 use Rattle.cq_import.specs.Labels.{Labels}
-use Rattle.cq_import.specs.Records.{Record, records_of}
+use Rattle.cq_import.specs.Records.{records_of}
 use Rattle.cq_import.specs.Rows.{rows_of, sheet_fault}
 use Rattle.cq_csv.specs.Files.{algebra_records, entity_file, entity_records, files_of, names_of, row_record}
 use Rattle.cq_csv.specs.Files as export

@@ -1,13 +1,13 @@
 -- Labels that are given in order, each with its type.
-use Rattle.std.proofs.Common.{ℕ, zero, suc, List, [], ◌∷◌, ◌++◌, Option, Some, None, ◌≡◌, ◌<◌, ◌≤◌, ◌+◌, cond, map, length, refl, sym, ap, ◌∙◌, arith}
-use Rattle.std.specs.Prelude.{slice_get, slice_index, nat_eq, unwrap_or, position, option_map, ◌==◌}
+use Rattle.std.proofs.Common.{ℕ, zero, suc, List, ◌∷◌, Some, None, ◌≡◌, ◌<◌, ◌≤◌, ◌+◌, cond, map, length, refl, sym, ap, ◌∙◌, arith}
+use Rattle.std.specs.Prelude.{slice_get, slice_index, nat_eq, unwrap_or, position, option_map}
 use Rattle.std.specs.List.{range_with_len}
 use Rattle.std.specs.Map.{lookup}
 use Rattle.std.proofs.lemmas.Bool.{eq-eqb, ne_eqb}
 use Rattle.std.proofs.lemmas.Option.{slice_get_within, get_or_from_slice_get}
 use Rattle.cq_base.proofs.Numbers.{position-cons}
 use Rattle.cq_theory.specs.Canonical.{below}
-use Rattle.cq_import.specs.Labels.{Use, Labels, place_of_label, type_of_label}
+use Rattle.cq_import.specs.Labels.{Use, Labels, place_of_label}
 use Rattle.cq_import.proofs.LabelPlaces.{Has}
 
 module _ (f : ℕ → ℕ) where

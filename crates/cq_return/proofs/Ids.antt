@@ -1,10 +1,9 @@
 -- Rows by their numbers from 1.
-use Rattle.std.proofs.Common.{ℕ, zero, suc, Bool, true, false, List, [], ◌∷◌, ◌++◌, Option, Some, None, ◌≡◌, ◌<◌, ◌≤◌, ◌+◌, ◌^◌, cond, map, length, refl, sym, ap, ◌∙◌, arith}
-use Rattle.std.specs.Prelude.{decimal, position, option_map}
+use Rattle.std.proofs.Common.{ℕ, zero, suc, Bool, true, false, List, Some, None, ◌≡◌, ◌<◌, ◌≤◌, ◌+◌, ◌^◌, cond, map, length, refl, sym, ap, ◌∙◌, arith}
+use Rattle.std.specs.Prelude.{decimal, option_map}
 use Rattle.std.specs.List.{range_with_len}
 use Rattle.std.specs.Cmp.Lexicographic.{nat_list_eq_equiv, same_text}
 use Rattle.std.proofs.lemmas.Fmt.{decimal_injective, decimal_nonempty}
-use Rattle.cq_base.specs.declared.name.Name.{Name}
 use Rattle.cq_base.specs.Names.{number_of, same_name}
 use Rattle.cq_base.proofs.Numbers.{position-cons}
 

@@ -1,5 +1,5 @@
 -- The records of nulls.
-use Rattle.std.proofs.Common.{ℕ, zero, suc, Bool, true, false, List, [], ◌∷◌, ◌++◌, Option, Some, None, ◌≡◌, ◌<◌, ◌≤◌, ◌+◌, ◌^◌, ◌&&◌, cond, filter, map, length, refl, sym, ap, subst, ◌∙◌, arith}
+use Rattle.std.proofs.Common.{ℕ, zero, suc, true, List, [], ◌∷◌, ◌++◌, Some, None, ◌≡◌, ◌<◌, ◌≤◌, ◌+◌, ◌&&◌, cond, filter, map, length, refl, sym, ap, ◌∙◌, arith}
 use Rattle.std.specs.Prelude.{codes, slice_get, slice_index, is_some, option_and_then, All}
 use Rattle.std.specs.List.{flat_map, range_with_len}
 use Rattle.std.specs.Str.{is_utf8}
@@ -8,7 +8,6 @@ use Rattle.std.proofs.lemmas.Option.{slice_get-get_or}
 use Rattle.std.proofs.lemmas.Str.{is_utf8-from_IsUtf8}
 use Rattle.cq_base.specs.declared.name.Name.{Name}
 use Rattle.cq_base.specs.Names.{number_of}
-use Rattle.cq_theory.specs.declared.presentation.Equation.{Equation}
 use Rattle.cq_theory.specs.TypesideData.{TypesideData as Typeside}
 use Rattle.cq_theory.specs.Typeside.{IsTypeside}
 use Rattle.cq_theory.specs.ValueText.{null_text}
@@ -16,19 +15,18 @@ use Rattle.cq_theory.specs.Canonical.{below}
 use Rattle.cq_theory.proofs.OnValues.{All_at}
 use Rattle.cq_values.specs.Built.{label_in}
 use Rattle.cq_values.specs.Readable.{is_name}
-use Rattle.cq_values.specs.Reading.{as_name, label_of}
 use Rattle.cq_values.proofs.Naming.{named}
 use Rattle.cq_values.proofs.Numbers.{label_written}
 use Rattle.cq_values.proofs.Tabled.{number_of-at}
 use Rattle.cq_text.specs.Transcript.{name_or_empty}
-use Rattle.cq_import.specs.Entries.{entries_fault, entry_equations, entry_fault, is_entry, is_new, is_null, kind_fault, line_fault, lines_fault, null_fault, null_use, nulls_fault, type_named, with_null}
-use Rattle.cq_import.specs.Faults.{Fault, NotCsv, or_else}
-use Rattle.cq_import.specs.Labels.{Labels, Use, type_of_label}
+use Rattle.cq_import.specs.Entries.{entries_fault, entry_equations, is_new, is_null, kind_fault, lines_fault, null_use, nulls_fault, type_named, with_null}
+use Rattle.cq_import.specs.Faults.{NotCsv, or_else}
+use Rattle.cq_import.specs.Labels.{Labels, type_of_label}
 use Rattle.cq_import.specs.Records.{Record, field_in}
 use Rattle.cq_import.specs.Rows.{is_row}
 use Rattle.cq_import.proofs.NullLines.{null_is, null_passes}
 use Rattle.cq_csv.specs.Files.{null_record}
-use Rattle.cq_return.proofs.Given.{labels_for, not_yet, use_of}
+use Rattle.cq_return.proofs.Given.{not_yet, use_of}
 use Rattle.cq_return.proofs.Utf8.{ascii_text, label_text, name_text}
 
 module _ (T : Typeside) (made : IsTypeside T) (names : All (λ name. is_name name ≡ true) T.types)

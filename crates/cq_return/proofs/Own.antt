@@ -1,5 +1,5 @@
 -- The files of an instance are a folder that holds them, where the names of the files are distinct.
-use Rattle.std.proofs.Common.{ℕ, zero, suc, Bool, true, false, List, [], ◌∷◌, ◌++◌, Option, Some, None, ◌≡◌, ◌<◌, ◌≤◌, ◌+◌, cond, map, length, inl, inr, refl, sym, ap, subst, ◌∙◌, arith}
+use Rattle.std.proofs.Common.{ℕ, zero, suc, Bool, true, false, List, [], ◌∷◌, ◌++◌, Some, ◌≡◌, ◌<◌, ◌≤◌, ◌+◌, cond, map, length, inl, inr, refl, sym, ap, subst, ◌∙◌, arith}
 use Rattle.std.specs.Prelude.{All, codes, get_or, slice_get}
 use Rattle.std.specs.List.{IsDistinct, range_with_len}
 use Rattle.std.specs.Str.{bytes_eq}
@@ -18,7 +18,7 @@ use Rattle.cq_values.proofs.Tabled.{number_of-at}
 use Rattle.cq_model.specs.InstanceData.{InstanceData}
 use Rattle.cq_model.proofs.CanonicalHolds.{from_below}
 use Rattle.cq_text.specs.Transcript.{name_or_empty}
-use Rattle.cq_csv.specs.Files.{algebra_records, entity_file, entity_records, file_name, files_of}
+use Rattle.cq_csv.specs.Files.{algebra_records, entity_file, file_name, files_of}
 use Rattle.cq_csv.specs.Records.{file_text}
 use Rattle.cq_return.specs.Return.{HoldsFiles}
 

@@ -1,6 +1,6 @@
 -- What stands in an attribute's column is read back.
-use Rattle.std.proofs.Common.{ℕ, Bool, true, false, List, [], ◌∷◌, ◌++◌, Option, Some, None, ◌≡◌, ◌&&◌, ◌||◌, ◌<◌, ◌^◌, cond, map, length, refl, sym, ap, subst, ◌∙◌}
-use Rattle.std.specs.Prelude.{slice_get, ◌==◌, codes, decimal, is_some, option_map, All, if◌then◌else◌}
+use Rattle.std.proofs.Common.{ℕ, Bool, true, false, List, [], ◌∷◌, Option, Some, None, ◌≡◌, ◌||◌, cond, refl, sym, ap, ◌∙◌}
+use Rattle.std.specs.Prelude.{slice_get, ◌==◌, is_some, option_map}
 use Rattle.std.proofs.lemmas.Bool.{eq-eqb}
 use Rattle.cq_base.specs.Names.{number_of}
 use Rattle.cq_theory.specs.declared.constant.Con.{Con}
@@ -12,13 +12,12 @@ use Rattle.cq_theory.specs.Sorts.{is_type}
 use Rattle.cq_theory.specs.Typeside.{IsTypeside, constant_names, constant_type, is_reserved}
 use Rattle.cq_theory.specs.ValueText.{constant_name, value_text}
 use Rattle.cq_theory.proofs.OnValues.{All_at}
-use Rattle.cq_theory.proofs.Values.{value_text-at_Null, value_text-at_Fun}
+use Rattle.cq_theory.proofs.Values.{value_text-at_Null}
 use Rattle.cq_values.specs.Readable.{IsRead, IsReadable, IsWithin, constant, null, application, is_name}
 use Rattle.cq_values.specs.Readable as readable
 use Rattle.cq_values.specs.Reading.{value_in}
 use Rattle.cq_values.proofs.Exactness.{exact, one_value}
 use Rattle.cq_values.proofs.Tabled.{number_of-part}
-use Rattle.cq_import.specs.declared.content.Content.{Content}
 use Rattle.cq_import.specs.declared.content.Content.TheVariants.{Wrong, Means}
 use Rattle.cq_import.specs.Cells.{constant_content, constant_of_name, content_of, found, named_constant, typed_constant}
 use Rattle.cq_text.specs.Literal as literal

@@ -1,27 +1,25 @@
 -- The files of an instance are read back as the canonical presentation of its tables.
-use Rattle.std.proofs.Common.{ℕ, zero, suc, Bool, true, false, List, [], ◌∷◌, ◌++◌, Option, Some, None, ◌≡◌, ◌<◌, ◌≤◌, ◌+◌, append-nil, cond, drop, filter, map, sum, length, refl, sym, ap, subst, ◌∙◌, arith}
-use Rattle.std.specs.Prelude.{codes, replicate, slice_get, slice_index, unwrap_or}
+use Rattle.std.proofs.Common.{ℕ, zero, suc, List, [], ◌∷◌, ◌++◌, Some, None, ◌≡◌, ◌<◌, ◌≤◌, ◌+◌, append-nil, cond, drop, filter, map, sum, length, refl, sym, ap, ◌∙◌, arith}
+use Rattle.std.specs.Prelude.{codes, replicate, slice_index, unwrap_or}
 use Rattle.std.specs.List.{flat_map, range_with_len}
 use Rattle.std.proofs.lemmas.List.{length-map}
 use Rattle.std.proofs.lemmas.List.FromFn.{length-range_with_len}
 use Rattle.cq_base.specs.declared.name.Name.{Name}
 use Rattle.cq_io.specs.Content.{File}
-use Rattle.cq_theory.specs.declared.presentation.Sort.{Sort}
 use Rattle.cq_theory.specs.declared.presentation.Sort.TheVariants.{Plain, Entity}
 use Rattle.cq_theory.specs.TypesideData.{TypesideData as Typeside}
 use Rattle.cq_theory.specs.Canonical.{below, canonical, entity_equations, named}
 use Rattle.cq_theory.specs.Canonical as canonical
-use Rattle.cq_theory.specs.Tables.{count_of}
 use Rattle.cq_model.specs.InstanceData.{InstanceData, IsInstance}
-use Rattle.cq_import.specs.Cells.{Sheet, all_cells, cells_fault, equations_from, rows_at}
-use Rattle.cq_import.specs.Entries.{contents2_fault, entries_fault, entries_file, entries_text, entry_equations, equations2_of, fault2_of, given, imported2, is_null, labels2_of, lines_fault, mark, marked_fault, null_use, nulls_fault, presented2, rest_fault, sheets2_fault, size2_fault}
-use Rattle.cq_import.specs.Faults.{BadHeader, Fault, or_else}
-use Rattle.cq_import.specs.Imports.{entity_sorts, files_fault, reading_fault, row_sorts, sheets_of, size_fault, total}
+use Rattle.cq_import.specs.Cells.{all_cells, cells_fault, equations_from}
+use Rattle.cq_import.specs.Entries.{contents2_fault, entries_fault, entries_file, entries_text, entry_equations, equations2_of, fault2_of, given, imported2, is_null, labels2_of, lines_fault, mark, marked_fault, null_use, presented2, rest_fault, sheets2_fault, size2_fault}
+use Rattle.cq_import.specs.Faults.{BadHeader, or_else}
+use Rattle.cq_import.specs.Imports.{entity_sorts, reading_fault, row_sorts, total}
 use Rattle.cq_import.specs.Labels.{Labels, Use}
 use Rattle.cq_import.specs.Records.{Record, records_of}
 use Rattle.cq_import.specs.Rows.{rows_of}
 use Rattle.cq_import.proofs.Presented.{size_passes}
-use Rattle.cq_csv.specs.Files.{algebra_records, entry_record, entry_records, null_record, null_records}
+use Rattle.cq_csv.specs.Files.{algebra_records, entry_records, null_record, null_records}
 use Rattle.cq_csv.specs.Records.{file_text}
 use Rattle.cq_return.proofs.AllReadable.{AreReadable}
 use Rattle.cq_return.proofs.AllSaid.{all_are}
@@ -122,7 +120,7 @@ module _ (dir : Name) (i : InstanceData) (is : IsInstance i) (returnable : AreRe
       let first = total_is dir i is.well_formed in
       let cells : equations_from (sheets dir i) T (sum i.tables.sheet.counts) labels (all_cells i.schema (sheets dir i)) ≡ flat_map (entity_equations i.schema i.tables) (below (length i.schema.entities)) =
       all_said i.schema (sheets dir i) (sum i.tables.sheet.counts) labels (all_cells i.schema (sheets dir i)) (flat_map (entity_equations i.schema i.tables) (below (length i.schema.entities)))
-          (all_are dir i is returnable labels are_given) in
+      (all_are dir i is returnable labels are_given) in
       let entries : flat_map (entry_equations T (sum i.tables.sheet.counts) labels) lines ≡ map (canonical.entry_equation i.schema i.tables) i.tables.algebra.entries =
       no_equations T returnable.schema.typeside returnable.types nulls is.well_formed.nulls few_nulls (sum i.tables.sheet.counts) labels (entry_records T i.tables.algebra.entries) 0 (length nulls)
       ∙ entries_say i.schema i.tables returnable.schema.typeside labels are_given i.tables.algebra.entries is.well_formed.entries returnable.entries in

@@ -1,11 +1,11 @@
 -- The records of an entity's file pass.
-use Rattle.std.proofs.Common.{ℕ, zero, suc, Bool, true, false, not, List, [], ◌∷◌, ◌++◌, Option, Some, None, ◌≡◌, ◌<◌, ◌≤◌, ◌+◌, ◌^◌, cond, map, length, refl, sym, ap, subst, ◌∙◌, arith, IsUtf8}
-use Rattle.std.specs.Prelude.{is_some, ◌==◌, slice_get, codes}
+use Rattle.std.proofs.Common.{ℕ, zero, suc, true, false, not, List, [], ◌∷◌, ◌++◌, Some, None, ◌≡◌, ◌<◌, ◌≤◌, ◌+◌, ◌^◌, cond, map, length, refl, sym, ap, subst, ◌∙◌, arith, IsUtf8}
+use Rattle.std.specs.Prelude.{is_some, ◌==◌}
 use Rattle.std.specs.List.{range_with_len}
 use Rattle.std.specs.Str.{is_utf8}
 use Rattle.std.proofs.lemmas.Bool.{ne_eqb}
 use Rattle.std.proofs.lemmas.List.FromFn.{map-range_with_len_more}
-use Rattle.std.proofs.lemmas.Str.{IsUtf8-append, is_utf8-from_IsUtf8}
+use Rattle.std.proofs.lemmas.Str.{is_utf8-from_IsUtf8}
 use Rattle.cq_base.specs.declared.name.Name.{Name}
 use Rattle.cq_base.specs.Names.{number_of}
 use Rattle.cq_theory.specs.TypesideData.{TypesideData as Typeside}
@@ -14,19 +14,18 @@ use Rattle.cq_theory.specs.declared.value.Value.{Value}
 use Rattle.cq_theory.specs.declared.constant.Con.{Con}
 use Rattle.cq_theory.specs.declared.constant.Con.TheVariants.{Named, Open}
 use Rattle.cq_theory.specs.Canonical.{below}
-use Rattle.cq_theory.specs.Sorts.{followed}
-use Rattle.cq_theory.specs.Tables.{cell_at, count_of, key_at}
-use Rattle.cq_theory.proofs.Every.{Every, Every-weaker}
+use Rattle.cq_theory.specs.Tables.{count_of, key_at}
+use Rattle.cq_theory.proofs.Every.{Every-weaker}
 use Rattle.cq_values.specs.Readable.{IsWithin, constant, null, application, is_name}
 use Rattle.cq_values.specs.Readable as readable
 use Rattle.cq_model.specs.InstanceData.{InstanceData, IsInstance}
 use Rattle.cq_import.specs.declared.columns.Column.{Column}
 use Rattle.cq_import.specs.declared.columns.Column.TheVariants.{Attribute, Key}
 use Rattle.cq_import.specs.Columns as import
-use Rattle.cq_import.specs.Faults.{Fault, NotCsv, BadCell, DoubleId, BadHeader, or_else}
+use Rattle.cq_import.specs.Faults.{NotCsv, BadCell, DoubleId, BadHeader, or_else}
 use Rattle.cq_import.specs.Labels.{Labels}
 use Rattle.cq_import.specs.Records.{Record}
-use Rattle.cq_import.specs.Rows.{is_row, row_fault, rows_fault, sheet_fault, id_of, same_record}
+use Rattle.cq_import.specs.Rows.{is_row, row_fault, rows_fault, sheet_fault, id_of}
 use Rattle.cq_import.proofs.CellEquations.{IsColumnOf, columns_of}
 use Rattle.cq_text.specs.Literal as literal
 use Rattle.cq_csv.specs.Files.{cell_field}

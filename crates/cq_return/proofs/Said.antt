@@ -1,5 +1,5 @@
 -- What cells say, where each says one equation and adds no label.
-use Rattle.std.proofs.Common.{ℕ, zero, suc, List, [], ◌∷◌, ◌++◌, Option, Some, None, ◌≡◌, ◌<◌, ◌≤◌, ◌+◌, ◌-◌, map, length, refl, sym, ap, subst, ◌∙◌, append_assoc, arith}
+use Rattle.std.proofs.Common.{ℕ, zero, suc, List, [], ◌∷◌, ◌++◌, Some, None, ◌≡◌, ◌<◌, ◌≤◌, ◌+◌, ◌-◌, map, length, refl, sym, ap, ◌∙◌, append_assoc, arith}
 use Rattle.std.specs.Prelude.{slice_get, slice_index_or}
 use Rattle.std.specs.List.{flat_map, enumerate_from, range_with_len}
 use Rattle.cq_theory.specs.declared.presentation.Equation.{Equation}
@@ -66,8 +66,7 @@ module _ (S : Schema) (sheets : List Sheet) (first : ℕ) (labels : Labels) wher
     columns_said s front (c ∷ cs) at are each =
         let place : s - 1 ≡ length front = omega arith in
         let here : field_in fields (s - 1) ≡ field_of c = ap (field_in fields) place ∙ ap (λ l. slice_index_or l (length front) []) are ∙ at_end front (field_of c) (map field_of cs) in
-        let longer : length (front ++ field_of c ∷ []) ≡ length front + 1 = one_longer front (field_of c) in
-        (
+        let longer : length (front ++ field_of c ∷ []) ≡ length front + 1 = one_longer front (field_of c) in (
           each.0 (cell_in file generator number fields (s, c)) refl refl here,
           columns_said (s + 1) (front ++ field_of c ∷ []) cs (omega arith) (are ∙ sym (append_assoc front (field_of c ∷ []) (map field_of cs))) each.1,
         )

@@ -1,5 +1,5 @@
 -- The sheets that an instance's files are.
-use Rattle.std.proofs.Common.{ℕ, zero, suc, List, [], ◌∷◌, ◌++◌, Option, Some, None, ◌≡◌, ◌<◌, ◌≤◌, ◌+◌, ◌^◌, map, sum, take, length, refl, sym, ap, ◌∙◌, arith}
+use Rattle.std.proofs.Common.{ℕ, zero, suc, List, [], ◌∷◌, Some, ◌≡◌, ◌<◌, ◌≤◌, ◌+◌, map, sum, take, length, refl, sym, ap, ◌∙◌, arith}
 use Rattle.std.specs.Prelude.{slice_get, slice_index}
 use Rattle.std.specs.List.{range_with_len}
 use Rattle.std.proofs.lemmas.List.{length-map}
@@ -10,7 +10,7 @@ use Rattle.cq_theory.specs.Canonical.{below}
 use Rattle.cq_theory.specs.Tables.{IsWellFormed, count_of}
 use Rattle.cq_theory.proofs.Every.{at_range}
 use Rattle.cq_model.specs.InstanceData.{InstanceData}
-use Rattle.cq_import.specs.Cells.{Sheet, counts, file_in, rows_at, rows_in, start_of}
+use Rattle.cq_import.specs.Cells.{Sheet, counts, rows_at, rows_in, start_of}
 use Rattle.cq_import.specs.Imports.{file_of, total}
 use Rattle.cq_import.specs.Records.{Record}
 use Rattle.cq_import.specs.Rows.{ids_of}

@@ -8,9 +8,7 @@ use Rattle.std.proofs.lemmas.Fmt.{IsAscii-decimal}
 use lib.Utf8.{scalar, scalars, encode, encodes, low_scalar}
 use Rattle.cq_theory.specs.declared.constant.Con.{Con}
 use Rattle.cq_theory.specs.declared.constant.Con.TheVariants.{Named, Open}
-use Rattle.cq_theory.specs.declared.typeside.Fun.{Fun as Function}
 use Rattle.cq_theory.specs.declared.value.Value.{Value}
-use Rattle.cq_theory.specs.declared.value.Value.TheVariants as value
 use Rattle.cq_theory.specs.TypesideData.{TypesideData as Typeside}
 use Rattle.cq_theory.specs.ValueText.{after_commas, application_text, con_text, constant_name, escape, function_name, is_word, null_text, quoted, value_text, with_commas}
 use Rattle.cq_theory.proofs.Values.{value_text-at_Const, value_text-at_Null, value_text-at_Fun}

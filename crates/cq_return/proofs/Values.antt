@@ -1,13 +1,11 @@
 -- Values over labels that are given: the uses in them, and the terms that they are.
-use Rattle.std.proofs.Common.{ℕ, Bool, true, false, List, [], ◌∷◌, ◌++◌, Option, Some, None, ◌≡◌, ◌+◌, ◌&&◌, cond, map, sum, length, refl, sym, ap, subst, ◌∙◌}
-use Rattle.std.specs.Prelude.{slice_get, if◌then◌else◌, ◌==◌}
+use Rattle.std.proofs.Common.{ℕ, Bool, true, List, [], ◌∷◌, Option, Some, None, ◌≡◌, ◌+◌, map, sum, refl, sym, ap, subst, ◌∙◌}
+use Rattle.std.specs.Prelude.{slice_get, if◌then◌else◌}
 use Rattle.std.proofs.lemmas.Bool.{and_parts, eq-eqb}
-use Rattle.cq_theory.specs.declared.constant.Con.{Con}
-use Rattle.cq_theory.specs.declared.typeside.Fun.{Fun as Function}
 use Rattle.cq_theory.specs.declared.term.TypeTerm.{TypeTerm}
 use Rattle.cq_theory.specs.declared.term.TypeTerm.TheVariants as term
 use Rattle.cq_theory.specs.declared.value.Value.{Value}
-use Rattle.cq_theory.specs.declared.value.Value.TheVariants.{Const, Null, Fun}
+use Rattle.cq_theory.specs.declared.value.Value.TheVariants.{Fun}
 use Rattle.cq_theory.specs.SchemaData.{SchemaData as Schema}
 use Rattle.cq_theory.specs.Sorts.{have_types, is_type}
 use Rattle.cq_theory.specs.Tables.{Tables, value_type, value_type_step}
@@ -16,9 +14,8 @@ use Rattle.cq_theory.proofs.Every.{Every, Every-append}
 use Rattle.cq_theory.proofs.OnValues.{Each, on_values}
 use Rattle.cq_theory.proofs.Sound.{applied_type_some, is_type_some}
 use Rattle.cq_theory.proofs.Values as values
-use Rattle.cq_import.specs.declared.labels.Trouble.{Trouble}
 use Rattle.cq_import.specs.declared.labels.Trouble.TheVariants.{Wrong}
-use Rattle.cq_import.specs.Labels.{Use, Labels, function_types, known_trouble, then_trouble, trouble_at, type_of_label, use_trouble, uses_args, uses_in, uses_step, uses_trouble, value_term, value_term_step, with_new, with_use}
+use Rattle.cq_import.specs.Labels.{Use, Labels, function_types, then_trouble, trouble_at, use_trouble, uses_args, uses_in, uses_step, uses_trouble, value_term, value_term_step, with_new, with_use}
 use Rattle.cq_import.proofs.LabelPlaces.{Has}
 use Rattle.cq_import.proofs.Uses.{uses_at}
 use Rattle.cq_return.proofs.Given.{AreGiven}

@@ -1,10 +1,9 @@
 -- What is read of a file of records is these records.
-use Rattle.std.specs.Prelude.{length, map, Option, None}
-use Rattle.std.proofs.Common.{◌≡◌, ◌++◌, ◌∷◌, ◌∙◌, [], ℕ, List, Some, refl, sym, ap, subst, codes}
-use Rattle.std.specs.List.{flat_map}
+use Rattle.std.specs.Prelude.{map, None}
+use Rattle.std.proofs.Common.{◌≡◌, ◌∷◌, ◌∙◌, [], ℕ, List, Some, refl, sym, ap, codes}
 use Rattle.csv.specs.Machine.{Read, next_record}
 use Rattle.csv.specs.Reading.{AreRecords, Reached, default_config, records, strip_bom}
-use Rattle.csv.specs.Writing.{default_writer, fields_text, is_blank, read_back, row_text}
+use Rattle.csv.specs.Writing.{fields_text, is_blank, read_back}
 use Rattle.csv.specs.declared.parser.Config.{Config}
 use Rattle.csv.specs.declared.parser.State.{State}
 use Rattle.csv.specs.declared.parser.State.TheVariants as st

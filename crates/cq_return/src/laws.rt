@@ -19,8 +19,9 @@ ghost use Rattle.cq_return.specs.Return.{HoldsFiles, IsNoFault, IsReturnable};
 /// What is asked for beyond what each instance has is named by `IsReturnable`. The schema is well sorted, as each
 /// `Schema` is. Types, constants and functions have names of at most 255 bytes of UTF-8, and so has an open constant,
 /// as each `Name` has; the name of a function is a word, as the language has it. There are at most 16,000,000 rows and
-/// nulls together, and a value has at most 1,024 symbols, as in each instance that the program makes. A value has at
-/// most 64 levels: each constant and null has one, and a query that is answered over built values may give more. Each
+/// nulls together: `build` makes at most 200,000 rows, a file of at most 64 MiB has under 7,500,000 nulls, and `delta`
+/// and `eval` refuse more. A value has at most 1,024 symbols: `build` puts constants and nulls into cells, and `delta`
+/// and `eval` refuse more. A value has at most 64 levels; only `delta` and `eval` of built values may give more. Each
 /// file has at most 64 MiB.
 pub fn files_return()
     ensures reads { (i : InstanceData) (path name : Name) (files : List File) → IsInstance i → IsReturnable i
