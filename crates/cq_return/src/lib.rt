@@ -1,0 +1,4 @@
+//! Exported files are read back.
+#![tactic(auto)]
+
+pub mod laws;
