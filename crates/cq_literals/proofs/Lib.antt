@@ -1,3 +1,6 @@
 pub mod Symbols
 pub mod Terms
 pub mod Parts
+pub mod Prints
+pub mod Pieces
+pub mod PrintedTerms
