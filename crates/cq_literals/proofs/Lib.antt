@@ -4,3 +4,5 @@ pub mod Parts
 pub mod Prints
 pub mod Pieces
 pub mod PrintedTerms
+pub mod Lines
+pub mod Declared
