@@ -6,3 +6,4 @@ pub mod Pieces
 pub mod PrintedTerms
 pub mod Lines
 pub mod Declared
+pub mod Whole

@@ -7,6 +7,7 @@ use Rattle.cq_literals.proofs.Pieces as e
 use Rattle.cq_literals.proofs.PrintedTerms as f
 use Rattle.cq_literals.proofs.Lines as g
 use Rattle.cq_literals.proofs.Declared as h
+use Rattle.cq_literals.proofs.Whole as i
 use Rattle.cq_literals.proofs.laws.probe.Goals as goal
 
 pub returns : goal.returns
