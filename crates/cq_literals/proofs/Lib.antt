@@ -7,3 +7,5 @@ pub mod PrintedTerms
 pub mod Lines
 pub mod Declared
 pub mod Whole
+pub mod Sides
+pub mod Returned
