@@ -1,22 +1,18 @@
 -- The literal of a presentation is one declaration.
-use Rattle.std.proofs.Common.{ℕ, zero, suc, Bool, true, false, List, [], ◌∷◌, ◌++◌, Option, Some, ◌≡◌, ◌<◌, ◌≤◌, ◌⊎◌, inl, inr, append_assoc, append-nil, map, length, refl, sym, ap, subst, ◌∙◌, arith}
-use Rattle.std.specs.Prelude.{All, codes, slice_get}
-use Rattle.std.specs.List.{flat_map}
+use Rattle.std.proofs.Common.{ℕ, List, [], ◌++◌, ◌≡◌, inl, inr, refl, arith}
+use Rattle.std.specs.Prelude.{codes}
 use Rattle.cq_base.specs.declared.name.Name.{Name}
-use Rattle.cq_base.specs.declared.place.Place.{Place}
-use Rattle.cq_lex.specs.Tokens.{Lexes}
 use Rattle.cq_lex.specs.declared.token.Mark.TheVariants as marks
 use Rattle.cq_lex.specs.declared.token.Token.{Token}
 use Rattle.cq_rules.specs.declared.class.Class.{Class}
 use Rattle.cq_rules.specs.declared.class.Class.TheVariants as classes
-use Rattle.cq_rules.specs.Class.{is, is_name, same, word_class}
+use Rattle.cq_rules.specs.Class.{is, is_name, word_class}
 use Rattle.cq_rules.specs.Outcome.{nothing_kept}
-use Rattle.cq_rules.specs.Relations.{Both, Each, Either, Made, None, One, Placed}
-use Rattle.cq_rules.specs.Rule.{Before, Behind, FitEach, Fits, OrEmpty, Spells, first_of, most_levels, or_none, second, set}
+use Rattle.cq_rules.specs.Relations.{Both, Each, None, One, Placed}
+use Rattle.cq_rules.specs.Rule.{Before, Behind, OrEmpty, Spells, first_of, set}
 use Rattle.cq_syntax.specs.Expressions as exps
-use Rattle.cq_syntax.specs.Grammar.{declaration, equation, group, instance, instance_literal, name, options, placed_term, setting, spot, spot_of}
+use Rattle.cq_syntax.specs.Grammar.{declaration, equation, group, instance, instance_literal, options, spot, spot_of}
 use Rattle.cq_syntax.specs.Parts as parts
-use Rattle.cq_syntax.specs.Terms.{tree_of}
 use Rattle.cq_syntax.specs.declared.literal.InstanceLit.{InstanceLit}
 use Rattle.cq_syntax.specs.declared.part.EqSyn.{EqSyn}
 use Rattle.cq_syntax.specs.declared.part.GroupSyn.{GroupSyn}
@@ -26,11 +22,10 @@ use Rattle.cq_syntax.specs.declared.program.Body.TheVariants.{Instance}
 use Rattle.cq_syntax.specs.declared.program.Decl.{Decl}
 use Rattle.cq_syntax.specs.declared.program.InstanceExp.{InstanceExp}
 use Rattle.cq_syntax.specs.declared.program.InstanceExp.TheVariants.{Literal}
-use Rattle.cq_text.specs.Transcript.{line}
 use Rattle.cq_literals.specs.Written.{IsPlainName}
-use Rattle.cq_literals.proofs.Lines.{colon_printed, equals_printed, no_more, skipped, spot_printed}
+use Rattle.cq_literals.proofs.Lines.{colon_printed, equals_printed, skipped, spot_printed}
 use Rattle.cq_literals.proofs.Pieces.{keyword_printed, mark_printed}
-use Rattle.cq_literals.proofs.Prints.{Any, IsPrinted, Prints, Stop, before_blank, behind_blank, both, each, made, nothing, placed, recast, same_bytes, weaker}
+use Rattle.cq_literals.proofs.Prints.{Any, Prints, Stop, before_blank, behind_blank, both, made, nothing, placed, recast, weaker}
 
 -- a word of the language, and a blank behind it
 word_blank : (c : Class) (word : List ℕ) → Prints Stop (One nothing_kept (set (is c))) (λ u. Unit {0}) word → Prints Any (One nothing_kept (set (is c))) (λ u. Unit {0}) (word ++ codes " ")

@@ -1,5 +1,5 @@
 -- The lines of generators and equations.
-use Rattle.std.proofs.Common.{ℕ, zero, suc, Bool, true, false, List, [], ◌∷◌, ◌++◌, Option, Some, ◌≡◌, ◌<◌, ◌≤◌, ◌⊎◌, inl, inr, append_assoc, append-nil, map, length, refl, sym, ap, subst, ◌∙◌}
+use Rattle.std.proofs.Common.{ℕ, Bool, List, [], ◌∷◌, ◌++◌, ◌≡◌, append_assoc, append-nil, map, refl, sym, ap, ◌∙◌}
 use Rattle.std.specs.Prelude.{codes}
 use Rattle.cq_base.specs.declared.name.Name.{Name}
 use Rattle.cq_base.specs.declared.raw.Raw.{Raw}
@@ -13,17 +13,14 @@ use Rattle.cq_rules.specs.Rule.{Behind, Spells, joined, second, set}
 use Rattle.cq_syntax.specs.Grammar.{equation, group, name, placed_term, spot, spot_of}
 use Rattle.cq_syntax.specs.Parts as parts
 use Rattle.cq_syntax.specs.Terms.{raw_of, term_of}
-use Rattle.cq_syntax.specs.declared.part.EqSyn.{EqSyn}
-use Rattle.cq_syntax.specs.declared.part.GroupSyn.{GroupSyn}
 use Rattle.cq_syntax.specs.declared.part.Spot.{Spot}
-use Rattle.cq_syntax.specs.declared.part.TermSyn.{TermSyn}
 use Rattle.cq_text.specs.Literal.{equals_line}
 use Rattle.cq_text.specs.Transcript.{line}
 use Rattle.cq_literals.specs.Literals.{group_parts}
 use Rattle.cq_literals.specs.Written.{IsPlainName}
 use Rattle.cq_literals.proofs.Pieces.{mark_printed, name_printed}
 use Rattle.cq_literals.proofs.PrintedTerms.{IsTerm, PrintsTerm}
-use Rattle.cq_literals.proofs.Prints.{Any, IsPrinted, Prints, Stop, before_blank, behind_blank, both, made, nothing, placed, recast, same_bytes, weaker}
+use Rattle.cq_literals.proofs.Prints.{Any, Prints, Stop, before_blank, behind_blank, both, made, nothing, placed, recast, same_bytes, weaker}
 
 -- no more members
 pub no_more : {A : Type 0} (P : List Token → A → Type 0) → Prints Any (Each P) (λ xs. xs ≡ []) []
@@ -73,7 +70,7 @@ group_printed n sort plain plain_sort =
     skipped Any Stop (set (is classes.Colon)) (One name_of (set is_name)) (λ x. x ≡ sort) (codes " : ") sort (λ after stops. tt) colon_printed
     (name_printed name_of (λ x. x ≡ sort) sort plain_sort (λ before. refl)) in
     let whole : Prints Stop (Both (Made joined (Both (One spot_of (set is_name)) (Each (One spot_of (set is_name))))) (Behind (is classes.Colon) (One name_of (set is_name))))
-        (λ p. (map (λ s. s.name) p.0 ≡ n ∷ []) × (p.1 ≡ sort)) (n ++ (codes " : " ++ sort)) =
+    (λ p. (map (λ s. s.name) p.0 ≡ n ∷ []) × (p.1 ≡ sort)) (n ++ (codes " : " ++ sort)) =
     both Stop Stop (Made joined (Both (One spot_of (set is_name)) (Each (One spot_of (set is_name))))) (λ xs. map (λ (s : Spot). s.name) xs ≡ n ∷ []) (Behind (is classes.Colon) (One name_of (set is_name)))
     (λ x. x ≡ sort) n (codes " : " ++ sort) (λ after stops. refl) spots of_sort in
     let grouped : Prints Stop (Spells group) (λ g. group_parts g ≡ (n, sort) ∷ []) (n ++ (codes " : " ++ sort)) =

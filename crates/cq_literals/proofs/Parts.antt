@@ -1,6 +1,6 @@
 -- A presentation whose generators are numbered is what its parts, as they are written, give.
 use Rattle.std.proofs.Common.{ℕ, zero, suc, Bool, true, false, not, List, [], ◌∷◌, ◌++◌, Option, Some, None, ◌≡◌, ◌<◌, ◌≤◌, ◌+◌, ◌^◌, ◌||◌, cond, drop, map, length, refl, sym, ap, subst, ◌∙◌, arith}
-use Rattle.std.specs.Prelude.{All, codes, decimal, is_none, is_some, nat_le, nat_lt, option_map, position, slice_get, ◌==◌}
+use Rattle.std.specs.Prelude.{codes, decimal, is_none, is_some, nat_le, nat_lt, option_map, slice_get}
 use Rattle.std.specs.List.{enumerate_from, range_with_len}
 use Rattle.std.specs.Cmp.Lexicographic.{nat_list_eq_equiv, same_text}
 use Rattle.std.proofs.lemmas.Bool.{eq-eqb}
@@ -13,7 +13,6 @@ use Rattle.cq_base.specs.declared.name.Name.{Name}
 use Rattle.cq_base.specs.declared.raw.Raw.{Raw}
 use Rattle.cq_base.specs.Names.{number_of, same_name}
 use Rattle.cq_base.proofs.Numbers.{position-cons}
-use Rattle.cq_theory.specs.declared.lookup.TermRefusal.{TermRefusal}
 use Rattle.cq_theory.specs.declared.lookup.TermRefusal.TheVariants as refusal
 use Rattle.cq_theory.specs.declared.lookup.TheoryRefusal.TheVariants as theory_refusal
 use Rattle.cq_theory.specs.declared.presentation.Equation.{Equation}
@@ -24,10 +23,10 @@ use Rattle.cq_theory.specs.declared.presentation.Sort.TheVariants.{Plain, Entity
 use Rattle.cq_theory.specs.declared.term.Term.{Term}
 use Rattle.cq_theory.specs.declared.term.Term.TheVariants.{Ent, Typ}
 use Rattle.cq_theory.specs.Canonical.{below, named}
-use Rattle.cq_theory.specs.Declaring.{duplicate_or, first_part_fault}
-use Rattle.cq_theory.specs.Parts.{equation_of, first_generator_fault, generator_fault, generator_names, generator_sorts, presentation_fault, presented, sort_or_first}
+use Rattle.cq_theory.specs.Declaring.{first_part_fault}
+use Rattle.cq_theory.specs.Parts.{equation_of, generator_fault, generator_names, generator_sorts, presentation_fault, presented, sort_or_first}
 use Rattle.cq_theory.specs.Presentation.{IsEquation, IsPresentation, IsSort, term_symbols}
-use Rattle.cq_theory.specs.Resolve.{are_of_one_sort, equation_fault, first_fault, has_reserved, has_unknown, has_wrong_count, in_part, is_too_large, or_else, raw_sort, raw_symbols, same_sort, sort_named}
+use Rattle.cq_theory.specs.Resolve.{are_of_one_sort, equation_fault, first_fault, in_part, is_too_large, or_else, raw_sort, raw_symbols, same_sort, sort_named}
 use Rattle.cq_theory.specs.Resolved.{resolved}
 use Rattle.cq_theory.specs.Schema.{IsSchema}
 use Rattle.cq_theory.specs.SchemaData.{SchemaData as Schema}
@@ -144,12 +143,11 @@ module _ (S : Schema) (schema : IsSchema S) where
       found n g at =
           let within : n < length sorts = omega (arith, slice_get_within (named sorts) n g at, length-map (enumerate_from 1 sorts) numbered, length-enumerate_from 1 sorts) in
           let small = few in
-          let here : 0 + n ≡ n = omega arith in
-          (
+          let here : 0 + n ≡ n = omega arith in (
             ap (λ l. number_of l (generator_text n)) (names_are sorts 0)
-            ∙ ap (λ k. number_of (map generator_text (below (length sorts))) (generator_text k)) (sym here) ∙ generator_at 0 (length sorts) n within (omega arith),
+                ∙ ap (λ k. number_of (map generator_text (below (length sorts))) (generator_text k)) (sym here) ∙ generator_at 0 (length sorts) n within (omega arith),
             get-map (λ part. sort_or_first (sort_named S part.1)) parts n (generator_part S g) (get-map (generator_part S) (named sorts) n g at)
-            ∙ ap (λ o. Some (sort_or_first o)) (sort_read g.1 (Every-at IsSorted (named sorts) n g sorted at)),
+                ∙ ap (λ o. Some (sort_or_first o)) (sort_read g.1 (Every-at IsSorted (named sorts) n g sorted at)),
           )
 
       abbrev Written : Raw → Term → Sort → Type 0
@@ -176,10 +174,10 @@ module _ (S : Schema) (schema : IsSchema S) where
           let right_short : is_too_large raws.1 ≡ false = not_longer 1024 (raw_symbols raws.1) (let fits = sides.right_fits in omega (arith, sides.right.symbols)) in
           let one : are_of_one_sort (raw_sort S names kinds raws.0) (raw_sort S names kinds raws.1) ≡ true = (λ j. are_of_one_sort (sides.left.sorted j) (sides.right.sorted j)) ∙ same_itself sides.sort in
           (λ j. cond (sides.left.known j || sides.right.known j) (Some refusal.Unknown)
-              (cond (sides.left.counted j || sides.right.counted j) (Some refusal.WrongCount)
-              (cond (not (one j)) (Some refusal.WrongSort)
-              (cond (sides.left.unreserved j || sides.right.unreserved j) (Some refusal.Reserved)
-              (cond (left_short j || right_short j) (Some refusal.TooLarge) None)))))
+          (cond (sides.left.counted j || sides.right.counted j) (Some refusal.WrongCount)
+          (cond (not (one j)) (Some refusal.WrongSort)
+          (cond (sides.left.unreserved j || sides.right.unreserved j) (Some refusal.Reserved)
+          (cond (left_short j || right_short j) (Some refusal.TooLarge) None)))))
 
       sides_give : (raws : Raw × Raw) (t u : Term) → AreSides raws t u
           → equation_of (resolved S (generator_names (map (generator_part S) (named sorts))) (generator_sorts S (map (generator_part S) (named sorts))) raws.0)

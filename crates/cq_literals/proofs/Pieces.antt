@@ -1,22 +1,21 @@
 -- Words, texts and marks of a literal.
-use Rattle.std.proofs.Common.{ℕ, zero, suc, Bool, true, false, List, [], ◌∷◌, ◌++◌, Option, Some, None, ◌≡◌, ◌<◌, ◌≤◌, ◌+◌, ◌^◌, ◌&&◌, ◌||◌, ◌⊎◌, inl, inr, cond, length, refl, sym, ap, subst, ◌∙◌, arith}
-use Rattle.std.specs.Prelude.{codes, decimal, nat_eq, nat_le, ◌==◌}
-use Rattle.std.specs.Char.{is_ascii_alphanumeric, is_ascii_digit}
+use Rattle.std.proofs.Common.{ℕ, Bool, true, false, List, [], ◌∷◌, ◌++◌, ◌≡◌, ◌<◌, ◌≤◌, ◌+◌, ◌&&◌, length, refl, sym, subst, arith}
+use Rattle.std.specs.Prelude.{decimal, nat_eq, nat_le, ◌==◌}
+use Rattle.std.specs.Char.{is_ascii_digit}
 use Rattle.std.specs.List.{flat_map, list_all}
-use Rattle.std.specs.Str.{IsUtf8}
-use Rattle.std.proofs.lemmas.Bool.{and_parts, ne_eqb}
+use Rattle.std.proofs.lemmas.Bool.{and_parts}
 use Rattle.std.proofs.lemmas.Bool.Decides.{nat_tests}
 use Rattle.std.proofs.lemmas.Fmt.{decimal_nonempty, length-decimal-le}
 use Rattle.std.proofs.lemmas.Str.{IsUtf8-from_is_utf8}
-use Rattle.cq_lex.specs.Bytes.{escape, is_word_byte, mark_bytes}
-use Rattle.cq_lex.specs.Tokens.{StopsAt, Writes, escaped, itself, nothing, token_behind}
+use Rattle.cq_lex.specs.Bytes.{is_word_byte, mark_bytes}
+use Rattle.cq_lex.specs.Tokens.{Writes, escaped, itself, nothing, token_behind}
 use Rattle.cq_lex.specs.declared.token.Kind.TheVariants as kinds
 use Rattle.cq_lex.specs.declared.token.Mark.{Mark}
 use Rattle.cq_lex.specs.declared.token.Token.{Token}
 use Rattle.cq_rules.specs.declared.class.Class.{Class}
 use Rattle.cq_rules.specs.declared.class.Class.TheVariants as classes
-use Rattle.cq_rules.specs.Class.{class_of, is, is_name, mark_class, same, word_class}
-use Rattle.cq_rules.specs.Outcome.{name_of, nothing_kept}
+use Rattle.cq_rules.specs.Class.{is, is_name, mark_class, same, word_class}
+use Rattle.cq_rules.specs.Outcome.{nothing_kept}
 use Rattle.cq_rules.specs.Relations.{One}
 use Rattle.cq_rules.specs.Rule.{set}
 use Rattle.cq_theory.specs.ValueText as written

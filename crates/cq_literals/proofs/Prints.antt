@@ -1,13 +1,9 @@
 -- Bytes that are, wherever they stand, tokens of a relation.
-use Rattle.std.proofs.Common.{ℕ, zero, suc, Bool, true, false, List, [], ◌∷◌, ◌++◌, Option, Some, ◌≡◌, ◌<◌, ◌≤◌, ◌⊎◌, inl, inr, append_assoc, append-nil, map, length, refl, sym, ap, subst, ◌∙◌}
-use Rattle.std.specs.List.{flat_map, list_all}
-use Rattle.std.specs.Str.{IsUtf8}
-use Rattle.cq_base.specs.declared.place.Place.{Place}
-use Rattle.cq_lex.specs.Bytes.{is_blank, is_word_byte, mark_bytes, quote}
-use Rattle.cq_lex.specs.Tokens.{IsGap, Lexes, Spells, StopsAt, Writes, blank, gap, token, token_behind}
+use Rattle.std.proofs.Common.{ℕ, Bool, true, false, List, [], ◌∷◌, ◌++◌, ◌≡◌, append_assoc, append-nil, refl, sym, subst}
+use Rattle.std.specs.List.{flat_map}
+use Rattle.cq_lex.specs.Bytes.{is_blank, is_word_byte}
+use Rattle.cq_lex.specs.Tokens.{Lexes, Spells, StopsAt, blank, gap, token, token_behind}
 use Rattle.cq_lex.specs.declared.token.Kind.{Kind}
-use Rattle.cq_lex.specs.declared.token.Kind.TheVariants as kinds
-use Rattle.cq_lex.specs.declared.token.Mark.{Mark}
 use Rattle.cq_lex.specs.declared.token.Token.{Token}
 use Rattle.cq_rules.specs.Outcome.{first_place}
 use Rattle.cq_rules.specs.Relations.{Both, Each, Made, None, One, Placed}

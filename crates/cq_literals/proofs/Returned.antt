@@ -1,6 +1,5 @@
 -- The literal of an instance is one declaration, whose parts give the canonical presentation of its tables.
-use Rattle.std.proofs.Common.{ℕ, List, ◌++◌, None, ◌≡◌, ◌≤◌, map, length, sym, ap, ◌∙◌, arith}
-use Rattle.std.specs.Prelude.{slice_get}
+use Rattle.std.proofs.Common.{ℕ, List, ◌++◌, None, ◌≡◌, map, length, ◌∙◌}
 use Rattle.std.specs.List.{flat_map}
 use Rattle.cq_base.specs.declared.name.Name.{Name}
 use Rattle.cq_syntax.specs.declared.program.Decl.{Decl}

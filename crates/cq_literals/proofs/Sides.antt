@@ -1,5 +1,5 @@
 -- The sides of canonical equations: their constants and their levels.
-use Rattle.std.proofs.Common.{ℕ, zero, suc, Bool, true, false, List, [], ◌∷◌, ◌++◌, Option, Some, None, ◌≡◌, ◌<◌, ◌≤◌, ◌+◌, ◌&&◌, map, length, refl, sym, ap, subst, ◌∙◌, arith}
+use Rattle.std.proofs.Common.{ℕ, suc, Bool, true, List, [], ◌∷◌, Option, Some, None, ◌≡◌, ◌<◌, ◌≤◌, ◌+◌, ◌&&◌, map, length, refl, sym, ap, ◌∙◌, arith}
 use Rattle.std.specs.Prelude.{All, max, option_map, slice_get, slice_index_or}
 use Rattle.std.specs.List.{list_all}
 use Rattle.std.proofs.lemmas.Bool.{and_parts}
@@ -8,13 +8,12 @@ use Rattle.std.proofs.lemmas.Option.{slice_get_within}
 use Rattle.cq_base.specs.declared.name.Name.{Name}
 use Rattle.cq_base.specs.declared.raw.Raw.{Raw}
 use Rattle.cq_base.specs.declared.raw.Raw.TheVariants as raw
-use Rattle.cq_rules.specs.Tree.{App, Text, Tree, Trees, Word, deepest, levels, trees}
+use Rattle.cq_rules.specs.Tree.{Tree, deepest, levels, trees}
 use Rattle.cq_syntax.specs.Terms.{tree_of, tree_step}
 use Rattle.cq_theory.specs.declared.constant.Con.{Con}
 use Rattle.cq_theory.specs.declared.constant.Con.TheVariants.{Named, Open}
 use Rattle.cq_theory.specs.declared.presentation.Equation.{Equation}
 use Rattle.cq_theory.specs.declared.schema.Edge.{Edge}
-use Rattle.cq_theory.specs.declared.term.EntTerm.{EntTerm}
 use Rattle.cq_theory.specs.declared.term.TypeTerm.{TypeTerm}
 use Rattle.cq_theory.specs.declared.term.TypeTerm.TheVariants as term
 use Rattle.cq_theory.specs.declared.value.Entry.{Entry}
@@ -23,7 +22,7 @@ use Rattle.cq_theory.specs.declared.value.Value.TheVariants.{Const, Null, Fun}
 use Rattle.cq_theory.specs.Canonical.{canonical, cell_equation, entry_equation, key_equation, null_generator, row_term, value_term, value_term_step}
 use Rattle.cq_theory.specs.SchemaData.{SchemaData as Schema}
 use Rattle.cq_theory.specs.Sorts.{have_types, is_type}
-use Rattle.cq_theory.specs.Tables.{IsPlain, IsSoundEntry, IsWellFormed, Tables, cell_at, count_of, key_at, value_type, value_type_step}
+use Rattle.cq_theory.specs.Tables.{IsPlain, IsSoundEntry, Tables, cell_at, count_of, key_at, value_type, value_type_step}
 use Rattle.cq_theory.specs.Typeside.{constant_type}
 use Rattle.cq_theory.specs.ValueText.{constant_name}
 use Rattle.cq_theory.proofs.Every.{Every, Every-at}
@@ -167,10 +166,11 @@ module _ (i : InstanceData) (is : IsInstance i) (writable : IsWritable i) where
       let cell = cell_value e row a edge inside at from in
       let left = attribute_levels (row_term i.schema i.tables e row).generator a in
       let right = value_levels i.schema i.tables (cell_at i.tables a row) in
-      let levels_fit = cell.value.levels in
-      (
-        (terms.fold-Att Bool (has_contents_step i.schema) a (row_term i.schema i.tables e row),
-        value_fits i.schema i.tables writable.constants (cell_at i.tables a row) edge.to cell.typed cell.value.names),
+      let levels_fit = cell.value.levels in (
+        (
+          terms.fold-Att Bool (has_contents_step i.schema) a (row_term i.schema i.tables e row),
+          value_fits i.schema i.tables writable.constants (cell_at i.tables a row) edge.to cell.typed cell.value.names,
+        ),
         (omega (arith, left), omega (arith, right, levels_fit)),
       )
 

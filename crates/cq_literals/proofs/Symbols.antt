@@ -1,15 +1,12 @@
 -- Names that are looked up: those of functions, keys and attributes, and those of types and entities.
-use Rattle.std.proofs.Common.{ℕ, zero, suc, Bool, true, false, List, [], ◌∷◌, ◌++◌, Option, Some, None, ◌≡◌, ◌<◌, ◌≤◌, ◌+◌, cond, map, length, refl, sym, ap, ◌∙◌, arith}
+use Rattle.std.proofs.Common.{ℕ, zero, suc, Bool, true, false, List, [], ◌∷◌, ◌++◌, Option, Some, None, ◌≡◌, ◌+◌, cond, map, length, refl, sym, ap, ◌∙◌, arith}
 use Rattle.std.specs.Prelude.{slice_get, option_map}
 use Rattle.std.specs.List.{AllByRecursion, IsDistinct}
-use Rattle.std.proofs.lemmas.List.{length-map}
-use Rattle.std.proofs.lemmas.Option.{slice_get-map, slice_get_within}
+use Rattle.std.proofs.lemmas.Option.{slice_get-map}
 use Rattle.cq_base.specs.declared.name.Name.{Name}
 use Rattle.cq_base.specs.Names.{AreDistinct, number_of, same_name}
 use Rattle.cq_base.proofs.Numbers.{number_of-within, position-cons}
-use Rattle.cq_theory.specs.declared.lookup.Symbol.{Symbol}
 use Rattle.cq_theory.specs.declared.lookup.Symbol.TheVariants.{Function, Key, Attribute}
-use Rattle.cq_theory.specs.declared.presentation.Sort.{Sort}
 use Rattle.cq_theory.specs.declared.presentation.Sort.TheVariants.{Plain, Entity}
 use Rattle.cq_theory.specs.declared.schema.Edge.{Edge}
 use Rattle.cq_theory.specs.declared.typeside.Fun.{Fun}

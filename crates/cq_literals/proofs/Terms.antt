@@ -1,11 +1,11 @@
 -- Terms that are written stand for themselves, and break no rule.
-use Rattle.std.proofs.Common.{ℕ, zero, suc, Bool, true, false, not, List, [], ◌∷◌, ◌++◌, Option, Some, None, ◌≡◌, ◌<◌, ◌≤◌, ◌+◌, ◌&&◌, ◌||◌, cond, map, sum, length, refl, sym, ap, subst, ◌∙◌, append_assoc, append-nil, arith}
-use Rattle.std.specs.Prelude.{All, codes, fold, is_none, is_some, option_and_then, option_map, slice_get, ◌==◌, if◌then◌else◌}
+use Rattle.std.proofs.Common.{ℕ, suc, Bool, true, false, not, List, [], ◌∷◌, ◌++◌, Option, Some, None, ◌≡◌, ◌+◌, ◌&&◌, ◌||◌, cond, map, sum, length, refl, sym, ap, subst, ◌∙◌, append_assoc, append-nil, arith}
+use Rattle.std.specs.Prelude.{fold, is_none, is_some, option_map, slice_get, ◌==◌}
 use Rattle.std.specs.List.{list_any}
 use Rattle.std.proofs.lemmas.Bool.{and_parts, eq-eqb}
 use Rattle.std.proofs.lemmas.List.{length-map}
 use Rattle.std.proofs.lemmas.List.Sums.{sum_by-cons}
-use Rattle.std.proofs.lemmas.Option.{cond_some, option_and_then_some}
+use Rattle.std.proofs.lemmas.Option.{option_and_then_some}
 use Rattle.cq_base.specs.declared.name.Name.{Name}
 use Rattle.cq_base.specs.declared.raw.Raw.{Raw}
 use Rattle.cq_base.specs.declared.raw.Raw.TheVariants.{Word, Text, App}
@@ -17,7 +17,6 @@ use Rattle.cq_theory.specs.declared.lookup.Symbol.TheVariants as symbol
 use Rattle.cq_theory.specs.declared.presentation.Sort.{Sort}
 use Rattle.cq_theory.specs.declared.presentation.Sort.TheVariants.{Plain, Entity}
 use Rattle.cq_theory.specs.declared.schema.Edge.{Edge}
-use Rattle.cq_theory.specs.declared.typeside.Fun.{Fun as Function}
 use Rattle.cq_theory.specs.declared.term.EntTerm.{EntTerm}
 use Rattle.cq_theory.specs.declared.term.TypeTerm.{TypeTerm}
 use Rattle.cq_theory.specs.declared.term.TypeTerm.TheVariants as term
@@ -26,10 +25,10 @@ use Rattle.cq_theory.specs.declared.term.Term.TheVariants.{Ent, Typ}
 use Rattle.cq_theory.specs.EntTerm as ent
 use Rattle.cq_theory.specs.Presentation.{term_symbols}
 use Rattle.cq_theory.specs.Resolve.{are_plain_of, argument_count, constant_of, function_arguments, function_sort, has_reserved, has_unknown, has_wrong_count, is_plain_of, or_else, raw_sort, raw_sort_step, raw_symbols, raw_symbols_step, reserved_step, symbol_of, symbol_sort, takes_another_count, text_constant, text_sort, unknown_step, word_constant, word_sort, wrong_count_step}
-use Rattle.cq_theory.specs.Resolved.{constant_term, first_entity_term, generator_term, resolved, resolved_step, symbol_term, type_term_in, word_term}
+use Rattle.cq_theory.specs.Resolved.{constant_term, generator_term, resolved, resolved_step, symbol_term, type_term_in, word_term}
 use Rattle.cq_theory.specs.Schema.{IsSchema}
 use Rattle.cq_theory.specs.SchemaData.{SchemaData as Schema}
-use Rattle.cq_theory.specs.Sorts.{Generators, applied_type, entity_at, entity_of, followed, have_types, is_type, target_of, type_at, type_of, type_step}
+use Rattle.cq_theory.specs.Sorts.{Generators, entity_at, entity_of, followed, have_types, is_type, target_of, type_at, type_of, type_step}
 use Rattle.cq_theory.specs.Typeside.{constant_names, constant_type, is_reserved}
 use Rattle.cq_theory.specs.TypeTerm as typ
 use Rattle.cq_theory.specs.ValueText.{constant_name, function_name}
@@ -158,8 +157,7 @@ module _ (S : Schema) (schema : IsSchema S) (G : Generators) (names : List Name)
       at_constant (Some x) e h =
           let number : constant_of S (constant_name (slice_get S.typeside.constants c)) ≡ Some c =
           ap (λ o. constant_of S (constant_name o)) e ∙ number_of-part (λ y. y.0) S.typeside.constants c x schema.typeside.distinct_constants e in
-          let same : x.1 ≡ type = cc in
-          (
+          let same : x.1 ≡ type = cc in (
             ap (λ o. or_else (option_map Named o) (option_map (λ type. Open (constant_name (slice_get S.typeside.constants c))) S.typeside.open_type)) number,
             ap (text_sort S) number ∙ ap (option_map (λ y. Plain y.1)) e ∙ ap (λ n. Some (Plain n)) same,
             ap (λ o. is_reserved (constant_name o)) e ∙ All_at (λ y. is_reserved y.0 ≡ false) S.typeside.constants c x schema.typeside.unreserved e,
@@ -170,8 +168,7 @@ module _ (S : Schema) (schema : IsSchema S) (G : Generators) (names : List Name)
           → cond (r || is_some o) None opened ≡ Some type
           → (text_constant S text ≡ Some (Open text)) × (text_sort S (constant_of S text) ≡ Some (Plain type)) × (is_reserved text ≡ false)
       at_tests false None (Some t) e f g h =
-          let same : t ≡ type = cc in
-          (
+          let same : t ≡ type = cc in (
             (λ j. or_else (option_map Named (f j)) (option_map (λ type. Open text) (g j))),
             ap (text_sort S) f ∙ ap (option_map Plain) g ∙ ap (λ n. Some (Plain n)) same,
             e,
@@ -245,8 +242,13 @@ module _ (S : Schema) (schema : IsSchema S) (G : Generators) (names : List Name)
         sorted = ap (λ o. is_plain_of o type && are_plain_of (map (raw_sort S names sorts) (map (type_raw S) ts)) types) one.sorted
             ∙ ap (λ b. b && are_plain_of (map (raw_sort S names sorts) (map (type_raw S) ts)) types) (eq-eqb type type refl) ∙ rest.sorted;
         unreserved = (λ j. one.unreserved j || rest.unreserved j);
-        symbols = omega (arith, sum_by-cons (λ (m : ℕ). m) (raw_symbols (type_raw S t)) (map raw_symbols (map (type_raw S) ts)), sum_by-cons (λ (m : ℕ). m) (typ.symbols_of t) (map typ.symbols_of ts),
-            one.symbols, rest.symbols);
+        symbols = omega (
+          arith,
+          sum_by-cons (λ (m : ℕ). m) (raw_symbols (type_raw S t)) (map raw_symbols (map (type_raw S) ts)),
+          sum_by-cons (λ (m : ℕ). m) (typ.symbols_of t) (map typ.symbols_of ts),
+          one.symbols,
+          rest.symbols,
+        );
         stands = (λ j. type_term_in (one.stands j) ∷ rest.stands j);
         number = ap suc rest.number;
       }

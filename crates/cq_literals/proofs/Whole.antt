@@ -1,12 +1,11 @@
 -- The literal of a presentation with numbered generators is one declaration, whose parts are those of the presentation.
-use Rattle.std.proofs.Common.{ℕ, zero, suc, Bool, true, false, List, [], ◌∷◌, ◌++◌, Option, Some, None, ◌≡◌, ◌<◌, ◌≤◌, ◌+◌, ◌⊎◌, inl, inr, append_assoc, append-nil, map, length, refl, sym, ap, subst, ◌∙◌, arith}
-use Rattle.std.specs.Prelude.{All, codes, decimal, option_map, slice_get}
+use Rattle.std.proofs.Common.{ℕ, suc, List, [], ◌∷◌, ◌++◌, Option, Some, None, ◌≡◌, ◌≤◌, ◌+◌, append_assoc, append-nil, map, length, refl, sym, ap, subst, ◌∙◌, arith}
+use Rattle.std.specs.Prelude.{codes, decimal, option_map, slice_get}
 use Rattle.std.specs.List.{enumerate_from, flat_map}
 use Rattle.std.proofs.lemmas.List.{length-map}
 use Rattle.std.proofs.lemmas.List.FromFn.{length-enumerate_from}
 use Rattle.std.proofs.lemmas.Option.{slice_get-get_or}
 use Rattle.cq_base.specs.declared.name.Name.{Name}
-use Rattle.cq_lex.specs.declared.token.Token.{Token}
 use Rattle.cq_rules.specs.Relations.{Each}
 use Rattle.cq_rules.specs.Rule.{FitEach, Fits, Spells, most_levels}
 use Rattle.cq_rules.specs.Tree.{levels}
@@ -33,7 +32,7 @@ use Rattle.cq_theory.proofs.Every.{Every, Every-from_All}
 use Rattle.cq_theory.proofs.OnValues.{All_at}
 use Rattle.cq_text.specs.Literal.{equation_line, generator_line, generator_text, presentation_lines, sort_text}
 use Rattle.cq_text.specs.Transcript.{line, name_or_empty}
-use Rattle.cq_literals.specs.Literals.{Declares, HasContents, HasFewLevels, IsDeclaration, equation_part, group_parts}
+use Rattle.cq_literals.specs.Literals.{HasContents, HasFewLevels, IsDeclaration, equation_part, group_parts}
 use Rattle.cq_literals.specs.Written.{ArePlainNames, IsPlainName, entity_raw, equation_raws, generator_part, type_raw}
 use Rattle.cq_literals.proofs.Declared.{IsDecl, declaration_printed}
 use Rattle.cq_literals.proofs.Lines.{equation_printed, group_printed}

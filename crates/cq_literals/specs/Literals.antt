@@ -1,5 +1,5 @@
 -- What the literal of a presentation is: one declaration, whose parts are those of the presentation.
-use Rattle.std.specs.Prelude.{ℕ, Bool, true, List, [], ◌∷◌, ◌++◌, ◌≡◌, ◌≤◌, All, map}
+use Rattle.std.specs.Prelude.{ℕ, true, List, ◌++◌, ◌≡◌, ◌≤◌, map}
 use Rattle.std.specs.List.{flat_map}
 use Rattle.cq_base.specs.declared.name.Name.{Name}
 use Rattle.cq_base.specs.declared.raw.Raw.{Raw}

@@ -1,5 +1,5 @@
 -- Instances whose literals the language accepts.
-use Rattle.std.specs.Prelude.{ℕ, true, List, ◌≡◌, ◌≤◌, All}
+use Rattle.std.specs.Prelude.{true, ◌≡◌, ◌≤◌, All}
 use Rattle.cq_theory.specs.Schema.{IsSchema}
 use Rattle.cq_values.specs.Readable.{is_name}
 use Rattle.cq_model.specs.InstanceData.{InstanceData}

@@ -1,5 +1,5 @@
 -- Terms and presentations as a literal writes them.
-use Rattle.std.specs.Prelude.{ℕ, Bool, true, All, List, [], ◌∷◌, ◌≡◌, ◌<◌, ◌≤◌, fold, length, map, slice_get}
+use Rattle.std.specs.Prelude.{ℕ, Bool, true, All, List, [], ◌∷◌, ◌≡◌, ◌<◌, ◌≤◌, fold, length, slice_get}
 use Rattle.std.specs.List.{list_all}
 use Rattle.cq_base.specs.declared.name.Name.{Name}
 use Rattle.cq_base.specs.declared.raw.Raw.{Raw}
