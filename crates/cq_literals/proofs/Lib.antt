@@ -1,0 +1,11 @@
+pub mod Symbols
+pub mod Terms
+pub mod Parts
+pub mod Prints
+pub mod Pieces
+pub mod PrintedTerms
+pub mod Lines
+pub mod Declared
+pub mod Whole
+pub mod Sides
+pub mod Returned

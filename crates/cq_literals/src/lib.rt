@@ -1,0 +1,4 @@
+//! Literals are read back.
+#![tactic(auto)]
+
+pub mod laws;
