@@ -1,11 +1,14 @@
 //! Why an equation holds in an instance, or that it doesn't.
-ghost use Rattle.std.specs.Prelude.{IfOk};
+ghost use Rattle.std.specs.Prelude.{◌↔◌, IfOk, IsTrue};
 ghost use Rattle.cq_theory.specs.Presentation.{IsEquation};
-ghost use Rattle.cq_proof.specs.Answers.{IsInitial, Explains};
+ghost use Rattle.cq_proof.specs.Answers.{IsInitial, AreOne, Proves, Explains};
 
+use crate::enumeration::{proves, sought_among_all};
+use crate::sought::sought;
 use cq_model::Instance;
+use cq_model::values::is_same as is_same_value;
 use cq_steps::Step;
-use cq_theory::Equation;
+use cq_theory::{Equation, Presentation, Schema};
 use std::alloc::{AllocError, Global};
 
 /// A derivation whose last step has the equation, or that the two sides are different in the instance.
@@ -27,14 +30,43 @@ pub fn explain(
     requires equation { IsEquation instance.now.schema instance.now.presentation equation.now }
     ensures { IfOk result (λ answer. Explains instance.now equation.now answer) }
 {
-    let places: Vec<u64> = Vec::with_capacity(alloc, instance.presentation().generators.len())?;
-    let _counts = (places.len(), is_of_entity(equation));
-    Err(AllocError)
+    if !are_one(alloc, instance, equation)? {
+        return Ok(Answer::Different);
+    }
+    let schema = instance.schema();
+    let steps = derivation(alloc, schema, instance.presentation(), equation)?;
+    Ok(Answer::Steps(steps))
 }
 
-fn is_of_entity(equation: &Equation) -> bool {
+/// Whether both sides have one row or one value in the instance.
+fn are_one(alloc: Global, instance: &Instance, equation: &Equation) -> Result<bool, AllocError>
+    requires { IsEquation instance.now.schema instance.now.presentation equation.now }
+    ensures { IfOk result (λ one. IsTrue one ↔ AreOne instance.now equation.now) }
+{
     match equation {
-        Equation::Ent(_, _) => true,
-        Equation::Typ(_, _) => false,
+        Equation::Ent(left, right) => Ok(instance.row_of(left) == instance.row_of(right)),
+        Equation::Typ(left, right) => {
+            let first = instance.value_of(alloc, left)?;
+            let second = instance.value_of(alloc, right)?;
+            Ok(is_same_value(&first, &second))
+        }
     }
+}
+
+/// A list of steps that proves the equation: the one that is found fast, if the checker passes it, or else the first
+/// one of all there are. Where none proves it, memory runs out.
+fn derivation(
+    alloc: Global,
+    schema: &Schema,
+    presentation: &Presentation,
+    equation: &Equation,
+) -> Result<Vec<Step>, AllocError>
+    ensures { IfOk result (λ steps. Proves schema.now presentation.now steps.items equation.now) }
+{
+    if let Some(steps) = sought(alloc, schema, presentation, equation)? {
+        if proves(alloc, schema, presentation, steps.as_slice(), equation)? {
+            return Ok(steps);
+        }
+    }
+    sought_among_all(alloc, schema, presentation, equation)
 }

@@ -2,5 +2,11 @@
 #![tactic(auto)]
 
 pub mod answer;
+pub mod counter;
+pub mod draft;
+pub mod enumeration;
+pub mod same;
+pub mod sought;
+pub mod stack;
 
 pub use answer::{Answer, explain};
