@@ -1,7 +1,9 @@
 -- Lists of digits, and the list that comes next.
-use Rattle.std.proofs.Common.{ℕ, zero, suc, List, [], ◌∷◌, ◌++◌, ◌≡◌, ◌<◌, ◌≤◌, ◌+◌, ◌-◌, ◌*◌, length, take, drop, get_or, set, replicate, refl, sym, ap, ◌∙◌, subst, arith, add-one, drop-cons, inl, inr}
+use Rattle.std.proofs.Common.{ℕ, zero, suc, List, [], ◌∷◌, ◌++◌, ◌≡◌, ◌<◌, ◌≤◌, ◌+◌, ◌-◌, ◌*◌, length, take, drop, get_or, set, replicate, refl, sym, ap, ◌∙◌, subst, arith, add-one, drop-cons}
 use Rattle.std.specs.Prelude.{All}
-use Rattle.std.proofs.lemmas.Bool.{cases_lt}
+use Rattle.std.proofs.Math.ListN.{drop_of_length-le}
+use Rattle.std.proofs.lemmas.List.{append-nil}
+use Rattle.std.proofs.lemmas.List.Elements.{All-set}
 use Rattle.cq_proof.specs.Counting.{AreDigits, behind}
 
 abbrev MOST : ℕ
@@ -16,11 +18,11 @@ same_behind [] [] len below below' e = refl
 same_behind [] (y ∷ ys) len below below' e = absurd (omega arith)
 same_behind (x ∷ xs) [] len below below' e = absurd (omega arith)
 same_behind (x ∷ xs) (y ∷ ys) len below below' e =
-    let x_below : x < 18446744073709551616 = below.0 in
-    let y_below : y < 18446744073709551616 = below'.0 in
+    let x_below : x < 18446744073709551616 = below 0 0 (omega arith) in
+    let y_below : y < 18446744073709551616 = below' 0 0 (omega arith) in
     let same_head : x ≡ y = omega arith in
     let same_rest : behind xs ≡ behind ys = omega arith in
-    let same_tail : xs ≡ ys = same_behind xs ys (omega (arith, len)) below.1 below'.1 same_rest in
+    let same_tail : xs ≡ ys = same_behind xs ys (omega (arith, len)) (λ k d h. below (suc k) d (omega (arith, h))) (λ k d h. below' (suc k) d (omega (arith, h))) same_rest in
     cc
 
 -- most lists are behind the zeros
@@ -75,3 +77,18 @@ module _ (old digits : List ℕ) (i : ℕ) (within : i < length digits) (carried
   raised_by v is below =
       ap behind old_is ∙ raised i (get_or digits i 0) (drop (suc i) digits) below
       ∙ ap (λ xs. behind xs + 1) (ap (λ w. replicate i 0 ++ w ∷ drop (suc i) digits) (sym is) ∙ sym (set_is v))
+
+  pub carried_on : get_or digits i 0 ≡ MOST → AreCarried old (set digits i 0) (i + 1)
+  carried_on most =
+      let rest : List ℕ = drop (suc i) digits in
+      let after : drop (suc i) (set digits i 0) ≡ drop (suc i) digits = ap (drop (suc i)) (set_is 0) ∙ drop_behind i 0 0 (drop (suc i) digits) in
+      subst (AreCarried old (set digits i 0)) (sym (add-one i)) (record {
+        before = old_is ∙ ap (λ d. replicate i 18446744073709551615 ++ d ∷ drop (suc i) digits) most ∙ one_more i 18446744073709551615 (drop (suc i) digits)
+            ∙ ap (λ xs. replicate (suc i) 18446744073709551615 ++ xs) (sym after);
+        now = set_is 0 ∙ one_more i 0 (drop (suc i) digits) ∙ ap (λ xs. replicate (suc i) 0 ++ xs) (sym after);
+        below = All-set (λ d. d < 18446744073709551616) digits i 0 (omega arith) carried.below;
+      })
+
+pub carried_all : (old digits : List ℕ) (i : ℕ) → length digits ≤ i → AreCarried old digits i → behind old ≡ 0
+carried_all old digits i all carried =
+    ap behind (carried.before ∙ ap (λ xs. replicate i 18446744073709551615 ++ xs) (drop_of_length-le digits all) ∙ append-nil (replicate i 18446744073709551615)) ∙ none_behind i

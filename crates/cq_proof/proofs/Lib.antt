@@ -1,2 +1,4 @@
 pub mod Digits
 pub mod Ends
+pub mod Passing
+pub mod Explaining

@@ -1,6 +1,6 @@
 //! The search for a list of steps among all there are.
-ghost use Rattle.std.specs.Prelude.{ℕ, List, ◌≡◌, ◌↔◌, ⊥, IsTrue, IfOk, IfSome, IfNone, All, length};
-ghost use Rattle.cq_proof.specs.Answers.{Proves};
+ghost use Rattle.std.specs.Prelude.{ℕ, List, ◌≡◌, ◌↔◌, IsTrue, IfOk, IfSome, IfNone};
+ghost use Rattle.cq_proof.specs.Answers.{last_of, Proves};
 ghost use Rattle.cq_proof.specs.Counting.{AreDigits};
 ghost use Rattle.cq_proof.specs.Drafts.{spelled as spelled_by};
 
@@ -10,6 +10,16 @@ use crate::same::is_same;
 use cq_steps::{Step, check_steps};
 use cq_theory::{Equation, Presentation, Schema};
 use std::alloc::{AllocError, Global};
+
+/// Whether the last step has this equation.
+fn ends_with(steps: &[Step], equation: &Equation) -> bool
+    ensures { IsTrue result ↔ (last_of steps.now ≡ Some equation.now) }
+{
+    match steps.last() {
+        Some(step) => is_same(&step.equation, equation),
+        None => false,
+    }
+}
 
 /// Whether the steps are a right list that ends with the equation, as the checker says.
 pub(crate) fn proves(
@@ -21,16 +31,7 @@ pub(crate) fn proves(
 ) -> Result<bool, AllocError>
     ensures { IfOk result (λ proves. IsTrue proves ↔ Proves schema.now presentation.now steps.now equation.now) }
 {
-    match steps.last() {
-        Some(step) => {
-            if is_same(&step.equation, equation) {
-                check_steps(alloc, schema, presentation, steps)
-            } else {
-                Ok(false)
-            }
-        }
-        None => Ok(false),
-    }
+    Ok(ends_with(steps, equation) && check_steps(alloc, schema, presentation, steps)?)
 }
 
 /// The list of steps that the numbers spell, if it proves the equation.
@@ -70,11 +71,13 @@ pub(crate) fn sought_among(
 {
     let mut digits = zeros(alloc, count)?;
     loop {
-        if let Some(steps) = tried(alloc, schema, presentation, equation, digits.as_slice())? {
-            return Ok(Some(steps));
-        }
-        if !next(digits.as_mut_slice()) {
-            return Ok(None);
+        match tried(alloc, schema, presentation, equation, digits.as_slice())? {
+            Some(steps) => return Ok(Some(steps)),
+            None => {
+                if !next(digits.as_mut_slice()) {
+                    return Ok(None);
+                }
+            }
         }
     }
 }
