@@ -1,4 +1,6 @@
 pub mod Digits
 pub mod Ends
-pub mod Passing
 pub mod Explaining
+pub mod Listing
+pub mod Passing
+pub mod Writing

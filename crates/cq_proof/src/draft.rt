@@ -177,7 +177,10 @@ impl Draft {
         ensures { IfOk result (λ _. seen self.new ≡ with_function number (seen self.old)) }
     {
         let args = replace(&mut self.args, Vec::new(alloc));
-        put(&mut self.types, TypeTerm::Fun(word(number), Seq::from_vec(args)))
+        put(
+            &mut self.types,
+            TypeTerm::Fun(word(number), Seq::from_vec(args)),
+        )
     }
 
     /// One more byte of the text.

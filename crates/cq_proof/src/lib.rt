@@ -5,6 +5,7 @@ pub mod answer;
 pub mod counter;
 pub mod draft;
 pub mod enumeration;
+pub mod laws;
 pub mod same;
 pub mod sought;
 pub mod stack;
