@@ -1,7 +1,7 @@
 -- Each derivable equation is the last of some right list.
-use Rattle.std.proofs.Common.{ℕ, zero, suc, List, [], ◌∷◌, ◌++◌, Option, Some, None, ◌≡◌, ◌<◌, ◌≤◌, length, take, refl, sym, ap, ◌∙◌, subst, arith, append_assoc}
+use Rattle.std.proofs.Common.{ℕ, zero, suc, List, [], ◌∷◌, ◌++◌, Some, None, ◌≡◌, ◌<◌, length, take, refl, sym, ap, ◌∙◌, subst, arith, append_assoc}
 use Rattle.std.specs.Prelude.{slice_get, option_map}
-use Rattle.std.proofs.lemmas.List.{append-nil, length-append}
+use Rattle.std.proofs.lemmas.List.{append-nil}
 use Rattle.cq_theory.specs.SchemaData.{SchemaData as Schema}
 use Rattle.cq_theory.specs.declared.presentation.Equation.{Equation}
 use Rattle.cq_theory.specs.declared.presentation.Equation.TheVariants.{Ent as EntEquation, Typ as TypEquation}
@@ -18,7 +18,7 @@ use Rattle.cq_theory.specs.Derivation.{Derivation, Derivations, reflexivity, sym
 use Rattle.cq_steps.specs.declared.step.Rule.{Rule}
 use Rattle.cq_steps.specs.declared.step.Rule.TheVariants.{Reflexivity, Symmetry, Transitivity, Key, Attribute, Function, Given, Path, Obs}
 use Rattle.cq_steps.specs.declared.step.Step.{Step}
-use Rattle.cq_steps.specs.Right.{equation_at, equations_at, AreBetween, IsTurned, IsJoined, IsByKey, IsByAttribute, Follows, IsRight}
+use Rattle.cq_steps.specs.Right.{equation_at, equations_at, AreBetween, IsTurned, IsJoined, Follows, IsRight}
 use Rattle.cq_proof.specs.Answers.{last_of, IsDerivable, Proves}
 
 -- the equation with its sides exchanged

@@ -7,7 +7,7 @@ use Rattle.cq_theory.specs.declared.term.EntTerm.{EntTerm}
 use Rattle.cq_theory.specs.declared.term.TypeTerm.{TypeTerm}
 use Rattle.cq_theory.specs.declared.term.TypeTerm.TheVariants.{Gen, Const, Att, Fun}
 use Rattle.cq_steps.specs.declared.step.Rule.{Rule}
-use Rattle.cq_steps.specs.declared.step.Rule.TheVariants.{Reflexivity, Symmetry, Transitivity, Key, Attribute, Function, Given, Path, Obs}
+use Rattle.cq_steps.specs.declared.step.Rule.TheVariants.{Key, Attribute, Function, Given, Path, Obs}
 use Rattle.cq_steps.specs.declared.step.Step.{Step}
 
 -- a number of 32 bits, and one that no list in memory is as long as
