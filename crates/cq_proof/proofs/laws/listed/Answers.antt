@@ -1,4 +1,4 @@
-use Rattle.cq_proof.proofs.Listing.{right_list}
+use Rattle.cq_proof.proofs.RightLists.{right_list}
 use Rattle.cq_proof.proofs.laws.listed.Goals as goal
 
 pub returns : goal.returns
