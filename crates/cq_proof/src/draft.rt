@@ -3,7 +3,7 @@ ghost use Rattle.std.specs.Prelude.{◌≡◌, ◌∷◌, [], IfOk};
 ghost use Rattle.cq_theory.specs.EntTerm.{extended};
 ghost use Rattle.cq_proof.specs.Drafts.{text_of, word as word_of, numbered_rule as rule_numbered};
 ghost use Rattle.cq_proof.specs.Drafts.{generator_term as generator};
-ghost use Rattle.cq_proof.specs.Drafts.{blank, seen, obeyed as made_obeyed, all_obeyed, spelled as spelled_by};
+ghost use Rattle.cq_proof.specs.Drafts.{blank, seen, obeyed as made_obeyed, spelled as spelled_by};
 ghost use Rattle.cq_proof.specs.Drafts.{with_generator, with_key, with_type_generator, with_constant, with_text};
 ghost use Rattle.cq_proof.specs.Drafts.{with_attribute, with_function, with_byte, with_argument, with_premise};
 ghost use Rattle.cq_proof.specs.Drafts.{with_entity_equation, with_type_equation, with_step};
