@@ -1,0 +1,72 @@
+//! Why an equation holds in an instance, or that it doesn't.
+ghost use Rattle.std.specs.Prelude.{◌↔◌, IfOk, IsTrue};
+ghost use Rattle.cq_theory.specs.Presentation.{IsEquation};
+ghost use Rattle.cq_proof.specs.Answers.{IsInitial, AreOne, Proves, Explains};
+
+use crate::enumeration::{proves, sought_among_all};
+use crate::sought::sought;
+use cq_model::Instance;
+use cq_model::values::is_same as is_same_value;
+use cq_steps::Step;
+use cq_theory::{Equation, Presentation, Schema};
+use std::alloc::{AllocError, Global};
+
+/// A derivation whose last step has the equation, or that the two sides are different in the instance.
+#[derive(Drop)]
+pub enum Answer {
+    Steps(Vec<Step>),
+    Different,
+}
+
+/// A derivation of the equation from the instance's presentation, exactly where both sides have one row or one value in
+/// the instance; `Different` exactly where not, and then the equation isn't derivable. The steps are a right list whose
+/// last equation is this one. The equation is one over the presentation. The only refusal is want of memory.
+pub fn explain(
+    alloc: Global,
+    instance: &Instance,
+    equation: &Equation,
+) -> Result<Answer, AllocError>
+    requires initial { IsInitial instance.now }
+    requires equation { IsEquation instance.now.schema instance.now.presentation equation.now }
+    ensures { IfOk result (λ answer. Explains instance.now equation.now answer) }
+{
+    if !are_one(alloc, instance, equation)? {
+        return Ok(Answer::Different);
+    }
+    let schema = instance.schema();
+    let steps = derivation(alloc, schema, instance.presentation(), equation)?;
+    Ok(Answer::Steps(steps))
+}
+
+/// Whether both sides have one row or one value in the instance.
+fn are_one(alloc: Global, instance: &Instance, equation: &Equation) -> Result<bool, AllocError>
+    requires { IsEquation instance.now.schema instance.now.presentation equation.now }
+    ensures { IfOk result (λ one. IsTrue one ↔ AreOne instance.now equation.now) }
+{
+    match equation {
+        Equation::Ent(left, right) => Ok(instance.row_of(left) == instance.row_of(right)),
+        Equation::Typ(left, right) => {
+            let first = instance.value_of(alloc, left)?;
+            let second = instance.value_of(alloc, right)?;
+            Ok(is_same_value(&first, &second))
+        }
+    }
+}
+
+/// A list of steps that proves the equation: the one that is found fast, if the checker passes it, or else the first
+/// one of all there are. Where none proves it, memory runs out.
+fn derivation(
+    alloc: Global,
+    schema: &Schema,
+    presentation: &Presentation,
+    equation: &Equation,
+) -> Result<Vec<Step>, AllocError>
+    ensures { IfOk result (λ steps. Proves schema.now presentation.now steps.items equation.now) }
+{
+    if let Some(steps) = sought(alloc, schema, presentation, equation)? {
+        if proves(alloc, schema, presentation, steps.as_slice(), equation)? {
+            return Ok(steps);
+        }
+    }
+    sought_among_all(alloc, schema, presentation, equation)
+}
