@@ -7,7 +7,6 @@ pub mod draft;
 pub mod enumeration;
 pub mod laws;
 pub mod same;
-pub mod sought;
 pub mod stack;
 
 pub use answer::{Answer, explain};

@@ -1,0 +1,22 @@
+//! Why two terms are equal: derivations that are found.
+#![tactic(auto)]
+
+mod classes;
+mod expanding;
+mod forest;
+mod graph;
+mod groups;
+mod halt;
+mod listing;
+mod needed;
+mod node;
+mod pruning;
+mod putting;
+mod reading;
+mod roots;
+mod sought;
+mod steps;
+mod terms;
+mod ways;
+
+pub use sought::sought;
