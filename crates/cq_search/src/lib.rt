@@ -14,9 +14,7 @@ mod pruning;
 mod putting;
 mod reading;
 mod roots;
-mod sought;
+pub mod sought;
 mod steps;
 mod terms;
 mod ways;
-
-pub use sought::sought;
