@@ -1,5 +1,6 @@
 -- What is answered to a question about an instance of a program.
-use Rattle.std.specs.Prelude.{◌≡◌, ◌⊎◌, ℕ, List, Some, slice_get}
+use Rattle.std.specs.Prelude.{◌≡◌, ◌⊎◌, ℕ, List, [], ◌∷◌, Option, Some, None, if◌then◌else◌}
+use Rattle.std.specs.Str.{bytes_eq}
 use Rattle.cq_theory.specs.declared.presentation.Equation.{Equation}
 use Rattle.cq_explain.specs.Explained.{Explains}
 use Rattle.cq_explain.specs.Question.{Asks}
@@ -11,10 +12,9 @@ use Rattle.cq_run.specs.declared.status.Status.{Status}
 use Rattle.cq_run.specs.declared.status.Status.TheVariants as status
 
 -- the instance of a name among those of a program
-pub record IsNamed (name : List ℕ) (listings : List Listing) (found : Listing) : Type 0 where
-  pub number : ℕ
-  pub there : slice_get listings number ≡ Some found
-  pub named : found.name ≡ name
+abbrev pub instance_named : List ℕ → List Listing → Option Listing
+instance_named name [] = None
+instance_named name (L ∷ Ls) = if bytes_eq L.name name then Some L else instance_named name Ls
 
 -- the instance is one that a declaration stands for
 abbrev pub IsMade : Listing → Type 0
@@ -34,18 +34,18 @@ module _ (name left right : List ℕ) (listings : List Listing) where
   -- the text explains whether the equation holds in the instance of the name
   pub record IsExplained (text : List ℕ) : Type 0 where
     pub found : Listing
-    pub is_named : IsNamed name listings found
+    pub is_named : instance_named name listings ≡ Some found
     pub explains : Explains found.instance left right text
 
   -- no instance has the name, and the line says so
   pub record LacksInstance (line : List ℕ) : Type 0 where
-    pub none : (found : Listing) → IsNamed name listings found → ⊥
+    pub none : instance_named name listings ≡ None
     pub line_is : line ≡ no_instance_line
 
   -- the instance of the name is there, the texts ask about no equation over its presentation, and the line says so
   pub record LacksEquation (line : List ℕ) : Type 0 where
     pub found : Listing
-    pub is_named : IsNamed name listings found
+    pub is_named : instance_named name listings ≡ Some found
     pub none : (e : Equation) → AsksOf found left right e → ⊥
     pub line_is : line ≡ bad_term_line
 

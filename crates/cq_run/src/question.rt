@@ -1,8 +1,7 @@
 //! The answer to a question about an instance of a program.
-ghost use Rattle.std.specs.Prelude.{◌≡◌, IfOk, MatchOption, map};
+ghost use Rattle.std.specs.Prelude.{◌≡◌, IfOk, map, option_map};
 ghost use Rattle.cq_program.specs.Named.{listed_as};
-ghost use Rattle.cq_program.specs.Program.{Listing};
-ghost use Rattle.cq_run.specs.Asked.{IsMade, IsNamed, IsReply, IsReplyAbout};
+ghost use Rattle.cq_run.specs.Asked.{IsMade, IsReply, IsReplyAbout, instance_named};
 ghost use Rattle.cq_run.specs.Writing.{IsMeant};
 
 use crate::status::Status;
@@ -23,7 +22,7 @@ const FIRST_PLACE: Place = Place { line: 1, col: 1 };
 
 /// The answer to a question about the instance of a name: the text that explains whether two terms are equal in it, or
 /// the line that says why there is none: no instance has the name, or the two texts make no equation.
-pub fn reply(
+pub fn reply_to(
     alloc: Global,
     instances: &[Named],
     name: &str,
@@ -48,9 +47,7 @@ pub fn reply(
 
 /// The instance of a name.
 fn find_instance<'a>(instances: &'a [Named], name: &str) -> Option<&'a Named>
-    ensures { MatchOption result
-        ((found : Listing) → IsNamed name.now (map listed_as instances.now) found → ⊥)
-        (λ named. IsNamed name.now (map listed_as instances.now) (listed_as named.now)) }
+    ensures { option_map (λ named. listed_as named.now) result ≡ instance_named name.now (map listed_as instances.now) }
 {
     for named in instances {
         if named.name.as_str() == name {

@@ -13,7 +13,7 @@ ghost use Rattle.cq_words.specs.Reads.{reads};
 use crate::answer::{Answer, answer_to};
 use crate::choice::{keep_format, only_of};
 use crate::output::{Output, View, output_of};
-use crate::question::reply;
+use crate::question::reply_to;
 use crate::status::Status;
 use cq_export::{Handed, hand_over};
 use cq_io::{Exporter, Folder, Sink};
@@ -173,7 +173,7 @@ fn answer_question<K: Sink>(
         (record { held = K.held out.new; faults = K.faults out.new; spare = K.spare out.new })
         result }
 {
-    match reply(alloc, instances, name, left, right) {
+    match reply_to(alloc, instances, name, left, right) {
         Ok(reply) => tell(out, reply.line.as_slice(), reply.status),
         Err(_) => Status::Memory,
     }
