@@ -33,7 +33,7 @@ pub broken_makes_none : (S : Schema) (G : Generators) (left right : Raw) (names 
     → Makes S G left right e → ⊥
 broken_makes_none S G left right names sorts broken e names_are sorts_are is true_is makes =
     let some : is_some (equation_fault S (names_of G) (sorts_of G) (left, right)) ≡ true =
-        ap is_some (fault_over S G left right names sorts names_are sorts_are) ∙ sym is ∙ true_is in
+    ap is_some (fault_over S G left right names sorts names_are sorts_are) ∙ sym is ∙ true_is in
     let none = makes.faultless in
     let bad : is_some (equation_fault S (names_of G) (sorts_of G) (left, right)) ≡ false = ap is_some none in
     absurd (cc (some, bad))

@@ -30,10 +30,10 @@ pub numbered_more : {X : Type 0} (f : ℕ × X → List ℕ) (before old new : L
 numbered_more {X = X} f before old new xs i x within at are is =
     let here : 0 + length (take i xs) ≡ i = omega (arith, length-take-le i xs (omega (arith, within))) in
     let longer : enumerate_from 0 (take (i + 1) xs) ≡ enumerate_from 0 (take i xs) ++ (i, x) ∷ [] =
-        ap (enumerate_from 0) (take_more xs i x within)
-        ∙ enumerate_from-append 0 (take i xs) (get_or xs i x)
-        ∙ ap (λ (p : ℕ × X). enumerate_from 0 (take i xs) ++ p ∷ []) (λ k. (here k, sym at k)) in
+    ap (enumerate_from 0) (take_more xs i x within)
+    ∙ enumerate_from-append 0 (take i xs) (get_or xs i x)
+    ∙ ap (λ (p : ℕ × X). enumerate_from 0 (take i xs) ++ p ∷ []) (λ k. (here k, sym at k)) in
     let told : flat_map f (enumerate_from 0 (take i xs)) ++ f (i, x) ≡ flat_map f (enumerate_from 0 (take (i + 1) xs)) =
-        sym (ap (flat_map f) longer ∙ flat_map-append f (enumerate_from 0 (take i xs)) ((i, x) ∷ [])
-        ∙ ap (λ l. flat_map f (enumerate_from 0 (take i xs)) ++ l) (append-nil (f (i, x)))) in
+    sym (ap (flat_map f) longer ∙ flat_map-append f (enumerate_from 0 (take i xs)) ((i, x) ∷ [])
+    ∙ ap (λ l. flat_map f (enumerate_from 0 (take i xs)) ++ l) (append-nil (f (i, x)))) in
     is ∙ ap (λ l. l ++ f (i, x)) are ∙ append_assoc before (flat_map f (enumerate_from 0 (take i xs))) (f (i, x)) ∙ ap (λ l. before ++ l) told

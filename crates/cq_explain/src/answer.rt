@@ -50,7 +50,12 @@ fn explained(alloc: Global, instance: &Instance, equation: &Equation) -> Result<
 {
     match explain(alloc, instance, equation)? {
         Answer::Steps(steps) => {
-            equal_text(alloc, instance.schema(), instance.presentation(), steps.as_slice())
+            equal_text(
+                alloc,
+                instance.schema(),
+                instance.presentation(),
+                steps.as_slice(),
+            )
         }
         Answer::Different => different_text(alloc, instance, equation),
     }

@@ -57,7 +57,13 @@ pub fn question(
 {
     let left = term_of(alloc, left)?;
     let right = term_of(alloc, right)?;
-    equation_over(alloc, schema, presentation.generators.as_slice(), &left, &right)
+    equation_over(
+        alloc,
+        schema,
+        presentation.generators.as_slice(),
+        &left,
+        &right,
+    )
 }
 
 /// The term that a text spells.

@@ -60,11 +60,7 @@ pub fn push_generator(
 }
 
 /// Appends the name of a function.
-pub fn push_function(
-    typeside: &Typeside,
-    number: u32,
-    text: &mut Vec<u8>,
-) -> Result<(), AllocError>
+pub fn push_function(typeside: &Typeside, number: u32, text: &mut Vec<u8>) -> Result<(), AllocError>
     ensures { OnOk result (text.new.items ≡ text.old.items
         ++ function_name (slice_get typeside.now.functions number)) }
 {

@@ -17,7 +17,7 @@ use Rattle.cq_run.specs.Lines.{usage_line}
 use Rattle.cq_run.specs.Meaning.{Means, RefusesText, transcripts_of}
 use Rattle.cq_run.specs.Summary.{summary_of}
 use Rattle.cq_run.specs.Scene.{Drain, Outlets, Scene}
-use Rattle.cq_run.specs.Writing.{Publishes, Replied, Stage, Tells, handed_over, no_memory, no_room, no_sink, status_of, told}
+use Rattle.cq_run.specs.Writing.{Publishes, Replied, Stage, Tells, handed_over, no_memory, no_room, no_sink, status_of, was_told}
 use Rattle.cq_run.specs.declared.status.Status.{Status}
 use Rattle.cq_run.specs.declared.status.Status.TheVariants as status
 use Rattle.cq_words.specs.Ask.{Ask, run, example, explain}
@@ -139,7 +139,7 @@ reply_gives : (file name left right : List ℕ) (depth : ℕ) (before after : Sc
     → IsTextOf (explain file name left right depth) before.folder.files text → Means before.folder.files text listings
     → Replied (IsReply name left right listings) before.out after.out result → after.outlets ≡ before.outlets
     → RunGives (Some (explain file name left right depth)) before after result
-reply_gives file name left right depth before after text listings result is_text means (told wanted line reply tells) outlets =
+reply_gives file name left right depth before after text listings result is_text means (was_told wanted line reply tells) outlets =
     answered_gives file name left right depth before after text listings wanted result line is_text means reply tells
     (record { exporters = ap (λ (o : Outlets). o.exporters) outlets; spoiled = ap (λ (o : Outlets). o.spoiled) outlets })
 reply_gives file name left right depth before after text listings result is_text means (no_memory is out) outlets =

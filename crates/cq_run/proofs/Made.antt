@@ -51,21 +51,24 @@ listed_stated name (instance n i) found is stated =
     let same : record { name = name; schema = n; instance = i } ≡ found = cc in
     subst IsMade same stated
 
+-- the listing of a name, where an entry has none, or one that may have the name
+listing_chosen : (entry : Name × Meant) (name : List ℕ) (found first : Listing) (rest : Option Listing) (b : Bool) → IsStated entry.1 → (rest ≡ Some found → IsMade found)
+    → listing_of entry ≡ Some first → cond b (Some first) rest ≡ Some found → IsMade found
+listing_chosen entry name found first rest true stated more listed is = listed_stated entry.0 entry.1 found (listed ∙ is) stated
+listing_chosen entry name found first rest false stated more listed is = more is
+
+listing_made : (entry : Name × Meant) (name : List ℕ) (found : Listing) (rest : List Listing) (o : Option Listing) → IsStated entry.1
+    → (instance_named name rest ≡ Some found → IsMade found) → listing_of entry ≡ o → instance_named name (cons_option o rest) ≡ Some found → IsMade found
+listing_made entry name found rest None stated more listed is = more is
+listing_made entry name found rest (Some first) stated more listed is =
+    listing_chosen entry name found first (instance_named name rest) (bytes_eq first.name name) stated more listed is
+
 -- the listing of a name among those of entries
 listings_made : (env : Environment) → AreStated env → (name : List ℕ) (found : Listing) → instance_named name (filter_map listing_of env) ≡ Some found → IsMade found
 listings_made [] stated name found is = absurd (cc is)
-listings_made (entry ∷ env) stated name found is = by_listing (listing_of entry) refl is
-  where
-    rest : instance_named name (filter_map listing_of env) ≡ Some found → IsMade found
-    rest is = listings_made env (All-tail (λ (e : Name × Meant). IsStated e.1) entry env stated) name found is
-
-    chosen : (b : Bool) (first : Listing) → listing_of entry ≡ Some first → cond b (Some first) (instance_named name (filter_map listing_of env)) ≡ Some found → IsMade found
-    chosen true first listed is = listed_stated entry.0 entry.1 found (listed ∙ is) (All-head (λ (e : Name × Meant). IsStated e.1) entry env stated)
-    chosen false first listed is = rest is
-
-    by_listing : (o : Option Listing) → listing_of entry ≡ o → instance_named name (cons_option o (filter_map listing_of env)) ≡ Some found → IsMade found
-    by_listing None listed is = rest is
-    by_listing (Some first) listed is = chosen (bytes_eq first.name name) first listed is
+listings_made (entry ∷ env) stated name found is =
+    listing_made entry name found (filter_map listing_of env) (listing_of entry) (All-head (λ (e : Name × Meant). IsStated e.1) entry env stated)
+    (λ more. listings_made env (All-tail (λ (e : Name × Meant). IsStated e.1) entry env stated) name found more) refl is
 
 no_entries : AreStated []
 no_entries n d within = absurd (omega (arith, within))

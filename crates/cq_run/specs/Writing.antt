@@ -42,7 +42,7 @@ IsMeant listings = (told : Told) × (text : List ℕ) × Means told text listing
 
 -- one of the lines that may be due for a status was told, or memory was wanting before
 pub data Replied (IsDue : Status → List ℕ → Type 0) (out new_out : Drain) (result : Status) : Type 0 where
-  told : (wanted : Status) (line : List ℕ) → IsDue wanted line → Tells wanted result out new_out line → Replied IsDue out new_out result
+  was_told : (wanted : Status) (line : List ℕ) → IsDue wanted line → Tells wanted result out new_out line → Replied IsDue out new_out result
   no_memory : result ≡ status.Memory → new_out ≡ out → Replied IsDue out new_out result
 
 -- what becomes of the instances that a text means: they are exported, or what is asked of one of them is answered

@@ -58,12 +58,7 @@ fn find_instance<'a>(instances: &'a [Named], name: &str) -> Option<&'a Named>
 }
 
 /// The answer to a question about this instance.
-fn reply_about(
-    alloc: Global,
-    named: &Named,
-    left: &str,
-    right: &str,
-) -> Result<Reply, AllocError>
+fn reply_about(alloc: Global, named: &Named, left: &str, right: &str) -> Result<Reply, AllocError>
     requires { IsMade (listed_as named.now) }
     ensures { IfOk result (λ reply. IsReplyAbout (listed_as named.now) left.now right.now reply.status
         reply.line.items) }

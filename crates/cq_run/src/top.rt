@@ -111,7 +111,14 @@ pub fn run<F: Folder, K: Sink>(
                 Answer::Refused(line) => tell(out, line.as_slice(), Status::Refused),
                 Answer::Unread(line) => tell(out, line.as_slice(), Status::Read),
                 Answer::Accepted(instances) => {
-                    publish(alloc, request, instances.as_slice(), exporters, spoiled, out)
+                    publish(
+                        alloc,
+                        request,
+                        instances.as_slice(),
+                        exporters,
+                        spoiled,
+                        out,
+                    )
                 }
             }
         }
@@ -147,7 +154,14 @@ fn publish<K: Sink>(
         result }
 {
     match request {
-        Request::Run { .. } => export_all(alloc, View::Transcripts, instances, exporters, spoiled, out),
+        Request::Run { .. } => export_all(
+            alloc,
+            View::Transcripts,
+            instances,
+            exporters,
+            spoiled,
+            out,
+        ),
         Request::Example(_) => export_all(alloc, View::Summary, instances, exporters, spoiled, out),
         Request::Explain {
             instance,

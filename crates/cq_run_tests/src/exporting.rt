@@ -22,7 +22,11 @@ end
 ";
 
 /// An exporter of each format, whose puts with these numbers fail.
-pub(crate) fn both(alloc: Global, csv: &[u64], cql: &[u64]) -> Result<Vec<Box<dyn Exporter>>, AllocError> {
+pub(crate) fn both(
+    alloc: Global,
+    csv: &[u64],
+    cql: &[u64],
+) -> Result<Vec<Box<dyn Exporter>>, AllocError> {
     let csv = MemExporter::new(alloc, Format::Csv, Vec::from_slice(alloc, csv)?)?;
     let cql = MemExporter::new(alloc, Format::Cql, Vec::from_slice(alloc, cql)?)?;
     let mut exporters: Vec<Box<dyn Exporter>> = Vec::new(alloc);

@@ -13,7 +13,8 @@ instance I = literal : S { generators a b : E }
 ";
 
 /// Open constants, an attribute of another type, and values of functions.
-const OPEN: &str = "typeside T = literal { types s n literals s constants Al : s one : n functions h : s -> s }
+const OPEN: &str =
+    "typeside T = literal { types s n literals s constants Al : s one : n functions h : s -> s }
 schema S = literal : T { entities E D attributes x : E -> s y : E -> n }
 instance I = literal : S { generators a b : E d : D k : s equations x(a) = h(k) x(b) = Al }
 instance J = literal : S { generators a : E }
@@ -26,7 +27,8 @@ instance I = literal : S { generators a : E }
 ";
 
 /// Each rule of derivation gives some equation.
-const RULES: &str = "typeside T = literal { types n constants zero : n functions s : n -> n plus : n, n -> n }
+const RULES: &str =
+    "typeside T = literal { types n constants zero : n functions s : n -> n plus : n, n -> n }
 schema S = literal : T { entities E D foreign_keys f : E -> E g : E -> D path_equations f.f = f attributes v : E -> n w : D -> n observation_equations forall e. v(e) = s(w(g(e))) }
 instance I = literal : S { generators a b : E d : D k : n equations f(a) = b g(b) = d w(d) = k plus(k, zero) = k }
 ";
@@ -243,8 +245,8 @@ static ASKED: [Asked; 10] = [
         written: "different 1 2\n",
     },
     Asked {
-        words: &["explain", "--depth", "0", "p.cql", "I", "a", "b"],
-        text: FIRST,
+        words: &["explain", "--depth", "0", "p.cql", "I", "a", "a"],
+        text: LARGE,
         room: 100,
         status: Status::Refused,
         written: "refused 3:1 61 Depth\n",
