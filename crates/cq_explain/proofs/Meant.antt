@@ -1,5 +1,5 @@
 -- What a term means in an instance has a text.
-use Rattle.std.proofs.Common.{ℕ, Some, true, ◌≡◌}
+use Rattle.std.proofs.Common.{true, ◌≡◌}
 use Rattle.cq_theory.specs.declared.presentation.Sort.TheVariants.{Plain}
 use Rattle.cq_theory.specs.declared.term.TypeTerm.{TypeTerm}
 use Rattle.cq_theory.specs.declared.term.Term.TheVariants.{Typ}

@@ -1,6 +1,6 @@
 -- The equation that two faultless terms make is one over the presentation.
-use Rattle.std.proofs.Common.{ℕ, Bool, true, false, not, List, Option, Some, None, ◌≡◌, ◌≤◌, ◌+◌, ◌||◌, map, refl, sym, ap, subst, ◌∙◌, arith}
-use Rattle.std.specs.Prelude.{slice_get, option_map}
+use Rattle.std.proofs.Common.{ℕ, true, false, not, Option, Some, None, ◌≡◌, ◌≤◌, ◌||◌, refl, sym, ap, subst, ◌∙◌, arith}
+use Rattle.std.specs.Prelude.{slice_get}
 use Rattle.std.proofs.lemmas.Option.{slice_get-map}
 use Rattle.std.proofs.lemmas.Bool.{eqb-true}
 use Rattle.cq_base.specs.declared.name.Name.{Name}

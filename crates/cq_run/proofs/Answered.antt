@@ -1,5 +1,5 @@
 -- From what became of the file to the answer.
-use Rattle.std.proofs.Common.{◌≡◌, ◌∙◌, ◌≤◌, ℕ, List, Option, Some, Err, IfSome, inl, inr, map, refl, sym, subst, arith}
+use Rattle.std.proofs.Common.{◌≡◌, ◌∙◌, ◌≤◌, ℕ, List, Some, Err, IfSome, inl, inr, map, refl, sym, subst, arith}
 use Rattle.cq_import.specs.Folders.{FolderData, Keeps}
 use Rattle.cq_io.specs.Counts.{Rose}
 use Rattle.cq_io.specs.Reads.{IsReadOf}

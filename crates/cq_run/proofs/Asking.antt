@@ -1,5 +1,5 @@
 -- From the answer about one instance to the answer to the question.
-use Rattle.std.proofs.Common.{◌≡◌, ℕ, List, Option, Some, None, inl, inr, sym, subst}
+use Rattle.std.proofs.Common.{◌≡◌, ℕ, List, Some, inr, sym, subst}
 use Rattle.std.specs.Prelude.{IfOk, Result, Ok, Err}
 use Rattle.cq_explain.specs.Question.{Asks}
 use Rattle.cq_model.specs.InstanceData.{InstanceData}

@@ -17,7 +17,7 @@ use Rattle.cq_program.specs.declared.reason.ReadCause.TheVariants.{Absent, TooLo
 use Rattle.cq_run.proofs.OneTranscript.{one_tree}
 use Rattle.cq_run.specs.Ask.{depth_asked, only_asked}
 use Rattle.cq_run.specs.Choice.{is_of, kept_by}
-use Rattle.cq_run.specs.Clause.{AreSteady, CanSucceed, Exports, ExportsSome, FailsToWrite, HasRoom, HasText, HasToWrite, IsCauseOf, IsRefusedLine, IsTextIn, IsTextOf, IsToldWithin, IsUnread, IsUnreadLine, LacksAnswer, LacksText, RunGives, Shows, Succeeds, TakesAll, file_limit, kept_of}
+use Rattle.cq_run.specs.Clause.{AreSteady, CanSucceed, Exports, ExportsSome, FailsToWrite, HasRoom, HasText, HasToWrite, IsCauseOf, IsRefusedLine, IsTextIn, IsTextOf, IsToldWithin, IsUnread, IsUnreadLine, LacksAnswer, LacksText, RunGives, Succeeds, TakesAll, file_limit}
 use Rattle.cq_run.specs.Meaning.{IsAcceptable, IsTreeOf, Means, MissesFile}
 use Rattle.cq_run.specs.Scene.{Scene}
 use Rattle.cq_run.specs.declared.status.Status.{Status}

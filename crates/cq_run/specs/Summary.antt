@@ -1,5 +1,5 @@
 -- The summary of instances, and what is written of them.
-use Rattle.std.specs.Prelude.{ℕ, List, [], ◌++◌, codes, decimal, length, sum}
+use Rattle.std.specs.Prelude.{ℕ, List, ◌++◌, codes, decimal, length, sum}
 use Rattle.std.specs.List.{flat_map}
 use Rattle.cq_base.specs.declared.name.Name.{Name}
 use Rattle.cq_model.specs.InstanceData.{InstanceData}
