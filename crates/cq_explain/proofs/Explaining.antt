@@ -12,7 +12,7 @@ use Rattle.cq_proof.specs.Answers as answers
 use Rattle.cq_proof.specs.declared.answer.Answer.{Answer}
 use Rattle.cq_proof.specs.declared.answer.Answer.TheVariants.{Steps, Different}
 use Rattle.cq_steps.specs.declared.step.Step.{Step}
-use Rattle.cq_explain.specs.Explained.{Explains, IsExplanation, equal, different}
+use Rattle.cq_explain.specs.Explained.{IsExplanation, equal, different}
 use Rattle.cq_explain.specs.Explanation.{different_text, equal_text}
 use Rattle.cq_explain.specs.Question.{Asks}
 use Rattle.cq_explain.proofs.Sided.{made_is}
