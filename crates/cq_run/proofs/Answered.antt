@@ -1,23 +1,22 @@
 -- From what became of the file to the answer.
-use Rattle.std.proofs.Common.{◌≡◌, ◌∙◌, ◌≤◌, ℕ, List, Option, Err, IfSome, inl, inr, map, refl, sym, subst, arith}
+use Rattle.std.proofs.Common.{◌≡◌, ◌∙◌, ◌≤◌, ℕ, List, Some, Err, IfSome, inl, inr, map, refl, sym, subst, arith}
 use Rattle.cq_import.specs.Folders.{FolderData, Keeps}
 use Rattle.cq_io.specs.Counts.{Rose}
 use Rattle.cq_io.specs.Reads.{IsReadOf}
 use Rattle.cq_io.specs.declared.folder.ReadRefusal.{ReadRefusal}
-use Rattle.cq_io.specs.declared.format.Format.{Format}
 use Rattle.cq_program.specs.Folders.{Raised, Told}
 use Rattle.cq_program.specs.Named.{listed_as}
 use Rattle.cq_program.specs.Program.{Lacks}
 use Rattle.cq_program.specs.declared.reason.ReadCause.{ReadCause}
 use Rattle.cq_program.specs.declared.reason.ReadCause.TheVariants.{Absent, TooLong, Failed}
-use Rattle.cq_run.specs.Ask.{depth_asked}
+use Rattle.cq_run.specs.Ask.{depth_asked, file_asked}
 use Rattle.cq_run.specs.Answer.{Answers, IsRefusalOf, Judges, SaysUnread}
-use Rattle.cq_run.specs.Clause.{IsCauseOf, IsTextOf, file_limit}
+use Rattle.cq_run.specs.Clause.{IsCauseOf, IsTextIn, IsTextOf, IsUnread, LacksText, file_limit}
 use Rattle.cq_run.specs.Meaning.{Means, MissesFile}
 use Rattle.cq_run.specs.declared.answer.Answer.{Answer}
 use Rattle.cq_run.specs.declared.answer.Answer.TheVariants as answer
 use Rattle.cq_syntax.specs.declared.program.Program.{Program}
-use Rattle.cq_words.specs.Ask.{Ask, run}
+use Rattle.cq_words.specs.Ask.{Ask, run, example, explain}
 
 -- what a refused read says of the files
 abbrev pub IsTold : List ℕ → Told → ReadRefusal → Type 0
@@ -74,11 +73,38 @@ untouched at = record {
   calm = λ steady. refl;
 }
 
+-- the text of the file that is named is that of the run
+pub text_asked : (ask : Ask) (file : List ℕ) (told : Told) (text : List ℕ) → file_asked ask ≡ Some file → IsTextIn file told text → IsTextOf ask told text
+text_asked (run name depth only) file told text is text_is =
+    let same : name ≡ file = cc in
+    subst (λ (f : List ℕ). IsTextIn f told text) (sym same) text_is
+text_asked (example size) file told text is text_is = absurd (cc is)
+text_asked (explain name instance left right depth) file told text is text_is =
+    let same : name ≡ file = cc in
+    subst (λ (f : List ℕ). IsTextIn f told text) (sym same) text_is
+
+lacks_asked : (ask : Ask) (file : List ℕ) (before after : FolderData) (line : List ℕ) → file_asked ask ≡ Some file → IsUnread file before after line
+    → LacksText ask before after line
+lacks_asked (run name depth only) file before after line is unread =
+    let same : name ≡ file = cc in
+    subst (λ (f : List ℕ). IsUnread f before after line) (sym same) unread
+lacks_asked (example size) file before after line is unread = absurd (cc is)
+lacks_asked (explain name instance left right depth) file before after line is unread =
+    let same : name ≡ file = cc in
+    subst (λ (f : List ℕ). IsUnread f before after line) (sym same) unread
+
+-- the text of the file was judged to the depth that is asked for
+pub answered_file : (ask : Ask) (file : List ℕ) (depth : ℕ) (before read after : FolderData) (text slice : List ℕ) (a : Answer) → file_asked ask ≡ Some file
+    → depth_asked ask ≡ depth → IsTextIn file before.files text → Keeps before read → slice ≡ text → Judges depth read after slice a → Answers ask before after a
+answered_file ask file depth before read after text slice a is depth_is is_text keeps same judged =
+    answered ask before read after text slice a (text_asked ask file before.files text is is_text) keeps same
+    (subst (λ (k : ℕ). Judges k read after slice a) (sym depth_is) judged)
+
 -- it was not read
-pub unread : (file : List ℕ) (depth : ℕ) (only : Option Format) (before after : FolderData) (cause : ReadCause) (a : Answer)
-    → IsCauseOf cause file before.files → Raised cause before after → SaysUnread file cause a → Answers (run file depth only) before after a
-unread file depth only before after cause (answer.Accepted instances) holds raised bad = absurd bad
-unread file depth only before after cause (answer.Refused line) holds raised bad = absurd bad
-unread file depth only before after cause (answer.Unread line) holds raised says =
-    inl (record { cause = cause; holds = holds; raised = raised; line_is = says })
-unread file depth only before after cause answer.Memory holds raised says = tt
+pub unread : (ask : Ask) (file : List ℕ) (before after : FolderData) (cause : ReadCause) (a : Answer) → file_asked ask ≡ Some file
+    → IsCauseOf cause file before.files → Raised cause before after → SaysUnread file cause a → Answers ask before after a
+unread ask file before after cause (answer.Accepted instances) is holds raised bad = absurd bad
+unread ask file before after cause (answer.Refused line) is holds raised bad = absurd bad
+unread ask file before after cause (answer.Unread line) is holds raised says =
+    inl (lacks_asked ask file before after line.items is (record { cause = cause; holds = holds; raised = raised; line_is = says }))
+unread ask file before after cause answer.Memory is holds raised says = tt

@@ -7,3 +7,5 @@ mod Complete
 mod Judging
 mod Answered
 mod OneTranscript
+mod Made
+mod Asking

@@ -14,13 +14,14 @@ use Rattle.cq_run.specs.Meaning.{Means, IsAcceptable, IsTreeOf, MissesFile, Refu
 use Rattle.cq_run.specs.declared.answer.Answer.{Answer}
 use Rattle.cq_run.specs.declared.answer.Answer.TheVariants as answer
 use Rattle.cq_run.specs.declared.output.Output.{Output}
-use Rattle.cq_run.specs.Summary.{shown_of}
+use Rattle.cq_run.specs.Summary.{shown_in}
+use Rattle.cq_run.specs.declared.output.View.{View}
 use Rattle.cq_syntax.specs.declared.program.Program.{Program}
 use Rattle.cq_words.specs.Ask.{Ask}
 
 -- the output is that of these instances
-pub record Prints (ask : Ask) (listings : List Listing) (output : Output) : Type 0 where
-  pub shown : output.shown.items ≡ shown_of ask listings
+pub record Prints (view : View) (listings : List Listing) (output : Output) : Type 0 where
+  pub shown : output.shown.items ≡ shown_in view listings
   pub files : files_held output.files ≡ files_of listings
 
 -- the text is refused, with this line

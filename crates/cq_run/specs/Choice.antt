@@ -1,5 +1,5 @@
 -- A choice of format.
-use Rattle.std.specs.Prelude.{Bool, true, false, Some, None}
+use Rattle.std.specs.Prelude.{Bool, true, false, List, Some, None, filter}
 use Rattle.std.specs.declared.option.Option.{Option}
 use Rattle.cq_io.specs.Account.{Account}
 use Rattle.cq_io.specs.declared.format.Format.{Format}
@@ -11,7 +11,11 @@ same_format Csv Cql = false
 same_format Cql Csv = false
 same_format Cql Cql = true
 
--- the choice keeps this exporter
-abbrev pub is_kept : Option Format → Account → Bool
-is_kept None exporter = true
-is_kept (Some format) exporter = same_format format exporter.format
+-- the exporter is one of this format
+abbrev pub is_of : Format → Account → Bool
+is_of format exporter = same_format format exporter.format
+
+-- the exporters that the choice keeps, in their order: those of the format that is chosen, and all where none is
+abbrev pub kept_by : Option Format → List Account → List Account
+kept_by None exporters = exporters
+kept_by (Some format) exporters = filter (is_of format) exporters

@@ -6,6 +6,7 @@ pub mod Files
 pub mod Choice
 pub mod Meaning
 pub mod Summary
+pub mod Asked
 pub mod Clause
 pub mod Writing
 pub mod Answer

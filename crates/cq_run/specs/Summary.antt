@@ -1,11 +1,12 @@
--- The summary of instances, and what a run writes of them.
-use Rattle.std.specs.Prelude.{ℕ, List, [], ◌++◌, codes, decimal, length, sum}
+-- The summary of instances, and what is written of them.
+use Rattle.std.specs.Prelude.{ℕ, List, ◌++◌, codes, decimal, length, sum}
 use Rattle.std.specs.List.{flat_map}
 use Rattle.cq_base.specs.declared.name.Name.{Name}
 use Rattle.cq_model.specs.InstanceData.{InstanceData}
 use Rattle.cq_program.specs.Program.{Listing}
 use Rattle.cq_run.specs.Meaning.{transcripts_of}
-use Rattle.cq_words.specs.Ask.{Ask, run, example, explain}
+use Rattle.cq_run.specs.declared.output.View.{View}
+use Rattle.cq_run.specs.declared.output.View.TheVariants.{Transcripts, Summary}
 
 -- how many rows an instance has, of all entities
 abbrev pub row_count : InstanceData → ℕ
@@ -26,8 +27,7 @@ summary_line L = line_of L.name L.instance
 unfoldable pub summary_of : List Listing → List ℕ
 summary_of L = flat_map summary_line L
 
--- what a run writes of the instances: of a file their transcripts, of an example their summary
-abbrev pub shown_of : Ask → List Listing → List ℕ
-shown_of (run file depth only) L = transcripts_of L
-shown_of (example size) L = summary_of L
-shown_of (explain file instance left right depth) L = []
+-- what is written of instances that are exported: their transcripts, or their summary
+abbrev pub shown_in : View → List Listing → List ℕ
+shown_in Transcripts L = transcripts_of L
+shown_in Summary L = summary_of L

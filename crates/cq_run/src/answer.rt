@@ -1,17 +1,15 @@
 //! Reading or making the text of a run, and judging it.
-ghost use Rattle.std.specs.Prelude.{◌≡◌, ◌≤◌, IfOk};
-ghost use Rattle.std.specs.declared.option.Option.{Option};
-ghost use Rattle.cq_io.specs.declared.format.Format.{Format};
-ghost use Rattle.cq_run.specs.Ask.{IsInRange, ask_of};
+ghost use Rattle.std.specs.Prelude.{◌≡◌, ◌≤◌, IfOk, Some};
+ghost use Rattle.cq_run.specs.Ask.{depth_asked, file_asked};
 ghost use Rattle.cq_run.specs.Answer.{Answers, SaysUnread};
 ghost use Rattle.cq_run.specs.Lines.{read_line};
-ghost use Rattle.cq_words.specs.Ask.{example, run};
+ghost use Rattle.cq_words.specs.Ask.{Ask, IsInRange, ask_of, example};
 
 use crate::judge::judge;
-use crate::order::Order;
 use cq_example::example_text;
 use cq_io::{Folder, ReadRefusal};
 use cq_program::{Named, ReadCause};
+use cq_words::Request;
 use std::alloc::{AllocError, Global};
 
 /// What becomes of a run before anything is written.
@@ -33,10 +31,10 @@ const FILE_LIMIT: u64 = 8388608;
 const EXAMPLE_DEPTH: u32 = 16;
 
 /// Reads the file or makes the text of the example, and judges it with models made to the depth.
-pub fn answer_to<F: Folder>(alloc: Global, order: Order<'_>, folder: &mut F) -> Answer
-    requires { IsInRange order }
+pub fn answer_to<F: Folder>(alloc: Global, request: Request<'_>, folder: &mut F) -> Answer
+    requires { IsInRange request }
     ensures files { F.files folder.new ≡ F.files folder.old }
-    ensures answers { Answers (ask_of order.entry)
+    ensures answers { Answers (ask_of request.entry)
         (record {
           files = F.files folder.old;
           absences = F.absences folder.old;
@@ -53,9 +51,10 @@ pub fn answer_to<F: Folder>(alloc: Global, order: Order<'_>, folder: &mut F) -> 
         })
         result }
 {
-    match order {
-        Order::File { name, depth, .. } => answer_to_file(alloc, name, depth, folder),
-        Order::Example(size) => answer_to_example(alloc, size, folder),
+    match request {
+        Request::Run { file, depth, .. } => answer_to_file(alloc, file, depth, folder),
+        Request::Example(size) => answer_to_example(alloc, size, folder),
+        Request::Explain { file, depth, .. } => answer_to_file(alloc, file, depth, folder),
     }
 }
 
@@ -63,7 +62,7 @@ pub fn answer_to<F: Folder>(alloc: Global, order: Order<'_>, folder: &mut F) -> 
 fn answer_to_file<F: Folder>(alloc: Global, file: &str, depth: u32, folder: &mut F) -> Answer
     requires { depth ≤ 64 }
     ensures files { F.files folder.new ≡ F.files folder.old }
-    ensures answers { (only : Option Format) → Answers (run file.now depth only)
+    ensures answers { (ask : Ask) → file_asked ask ≡ Some file.now → depth_asked ask ≡ depth → Answers ask
         (record {
           files = F.files folder.old;
           absences = F.absences folder.old;

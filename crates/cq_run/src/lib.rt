@@ -1,5 +1,5 @@
 //! The top call: reads the words and the file, or makes the text of an example, writes the transcripts or the summary,
-//! and hands the files to the exporters.
+//! and hands the files to the exporters; or writes the answer to a question about an instance.
 #![tactic(auto)]
 
 mod answer;
@@ -7,8 +7,8 @@ mod choice;
 mod files;
 mod judge;
 pub mod laws;
-mod order;
 mod output;
+mod question;
 mod status;
 mod summary;
 mod top;

@@ -2,17 +2,22 @@
 ghost use Rattle.std.specs.Prelude.{◌≡◌, ◌++◌, map, IfOk, OnOk};
 ghost use Rattle.cq_program.specs.Named.{listed_as};
 ghost use Rattle.cq_run.specs.Answer.{Prints};
-ghost use Rattle.cq_run.specs.Ask.{ask_of};
 ghost use Rattle.cq_run.specs.Meaning.{transcript_of, transcripts_of};
-ghost use Rattle.cq_run.specs.Summary.{shown_of};
+ghost use Rattle.cq_run.specs.Summary.{shown_in};
 
 use crate::files::files_of;
-use crate::order::Order;
 use crate::summary::summary;
 use cq_export::FileLists;
 use cq_program::Named;
 use cq_text::transcript;
 use std::alloc::{AllocError, Global};
+
+/// How instances are written: as their transcripts, or as a summary.
+#[derive(Clone, Copy)]
+pub enum View {
+    Transcripts,
+    Summary,
+}
 
 /// What is written of instances, and their files.
 #[derive(Drop)]
@@ -21,22 +26,22 @@ pub struct Output {
     pub files: FileLists,
 }
 
-/// What the instances of a run are written as.
-pub fn output_of(alloc: Global, order: Order<'_>, instances: &[Named]) -> Result<Output, AllocError>
-    ensures { IfOk result (Prints (ask_of order.entry) (map listed_as instances.now)) }
+/// What instances are written as.
+pub fn output_of(alloc: Global, view: View, instances: &[Named]) -> Result<Output, AllocError>
+    ensures { IfOk result (Prints view (map listed_as instances.now)) }
 {
-    let shown = show(alloc, order, instances)?;
+    let shown = show(alloc, view, instances)?;
     let files = files_of(alloc, instances)?;
     Ok(Output { shown, files })
 }
 
-/// What is written of the instances: of a file their transcripts, of an example their summary.
-fn show(alloc: Global, order: Order<'_>, instances: &[Named]) -> Result<Vec<u8>, AllocError>
-    ensures { IfOk result (λ text. text.items ≡ shown_of (ask_of order.entry) (map listed_as instances.now)) }
+/// What is written of the instances.
+fn show(alloc: Global, view: View, instances: &[Named]) -> Result<Vec<u8>, AllocError>
+    ensures { IfOk result (λ text. text.items ≡ shown_in view (map listed_as instances.now)) }
 {
-    match order {
-        Order::File { .. } => transcripts(alloc, instances),
-        Order::Example(_) => summary(alloc, instances),
+    match view {
+        View::Transcripts => transcripts(alloc, instances),
+        View::Summary => summary(alloc, instances),
     }
 }
 

@@ -2,20 +2,23 @@
 ghost use Rattle.std.specs.Prelude.{◌≡◌, map, string_bytes};
 ghost use Rattle.cq_export.specs.Held.{files_held};
 ghost use Rattle.cq_program.specs.Named.{listed_as};
-ghost use Rattle.cq_run.specs.Ask.{ask_of, asked};
+ghost use Rattle.cq_run.specs.Asked.{IsReply};
 ghost use Rattle.cq_run.specs.Clause.{RunGives, Succeeds};
 ghost use Rattle.cq_run.specs.Files.{files_of};
-ghost use Rattle.cq_run.specs.Summary.{shown_of};
-ghost use Rattle.cq_run.specs.Writing.{Stage, Tells};
+ghost use Rattle.cq_run.specs.Summary.{shown_in};
+ghost use Rattle.cq_run.specs.Writing.{IsMeant, Publishes, Replied, Stage, Tells};
+ghost use Rattle.cq_words.specs.Ask.{ask_of};
+ghost use Rattle.cq_words.specs.Reads.{reads};
 
 use crate::answer::{Answer, answer_to};
-use crate::choice::keep_format;
-use crate::order::{Order, order_in};
-use crate::output::{Output, output_of};
+use crate::choice::{keep_format, only_of};
+use crate::output::{Output, View, output_of};
+use crate::question::reply_to;
 use crate::status::Status;
 use cq_export::{Handed, hand_over};
 use cq_io::{Exporter, Folder, Sink};
 use cq_program::Named;
+use cq_words::{Request, read_words};
 use std::alloc::Global;
 
 const USAGE: &str = "usage: cqlrun run FILE [--depth K] [--only csv|cql]\n";
@@ -28,6 +31,11 @@ const USAGE: &str = "usage: cqlrun run FILE [--depth K] [--only csv|cql]\n";
 ///
 /// The run of an example is that of a file with its text, at depth 16, but that the summary of its instances is written
 /// in place of their transcripts.
+///
+/// A question is answered about one of the instances of a file: the text that explains whether two terms are equal in it
+/// is written, as `cq_explain::explanation` makes it, in place of their transcripts, and nothing is exported: no exporter
+/// is dropped or written to. Where no instance declaration has the name, the line of code 37 is written, and where the
+/// two texts make no equation over the instance's presentation, that of code 38, both with `Refused`.
 ///
 /// The files of an import are read when its declaration's turn comes. One that is absent, too long or can't be read
 /// ends the run as the file itself does, with `Read`.
@@ -44,7 +52,7 @@ pub fn run<F: Folder, K: Sink>(
     out: &mut K,
 ) -> Status
     ensures files { F.files folder.new ≡ F.files folder.old }
-    ensures gives { RunGives (asked (map string_bytes words.now))
+    ensures gives { RunGives (reads (map string_bytes words.now))
         (record {
           folder = record {
             files = F.files folder.old;
@@ -68,7 +76,7 @@ pub fn run<F: Folder, K: Sink>(
           outlets = record { exporters = map account exporters.new.items; spoiled = map account spoiled.new.items };
         })
         result }
-    ensures complete { Succeeds (asked (map string_bytes words.now))
+    ensures complete { Succeeds (reads (map string_bytes words.now))
         (record {
           folder = record {
             files = F.files folder.old;
@@ -80,19 +88,37 @@ pub fn run<F: Folder, K: Sink>(
           out = record { held = K.held out.old; faults = K.faults out.old; spare = K.spare out.old };
           outlets = record { exporters = map account exporters.old.items; spoiled = map account spoiled.old.items };
         })
+        (record {
+          folder = record {
+            files = F.files folder.new;
+            absences = F.absences folder.new;
+            faults = F.faults folder.new;
+            overruns = F.overruns folder.new;
+            steady = F.steady folder.new;
+          };
+          out = record { held = K.held out.new; faults = K.faults out.new; spare = K.spare out.new };
+          outlets = record { exporters = map account exporters.new.items; spoiled = map account spoiled.new.items };
+        })
         result }
 {
-    match order_in(alloc, words) {
+    match read_words(alloc, words) {
         Err(_) => Status::Memory,
         Ok(None) => tell(out, USAGE.as_bytes(), Status::Usage),
-        Ok(Some(order)) => {
-            keep_format(exporters, order.only());
-            match answer_to(alloc, order, folder) {
+        Ok(Some(request)) => {
+            keep_format(exporters, only_of(request));
+            match answer_to(alloc, request, folder) {
                 Answer::Memory => Status::Memory,
                 Answer::Refused(line) => tell(out, line.as_slice(), Status::Refused),
                 Answer::Unread(line) => tell(out, line.as_slice(), Status::Read),
                 Answer::Accepted(instances) => {
-                    publish(alloc, order, instances.as_slice(), exporters, spoiled, out)
+                    publish(
+                        alloc,
+                        request,
+                        instances.as_slice(),
+                        exporters,
+                        spoiled,
+                        out,
+                    )
                 }
             }
         }
@@ -110,24 +136,80 @@ fn tell<K: Sink>(out: &mut K, line: &[u8], wanted: Status) -> Status
     }
 }
 
-/// Renders all that is written of the instances, and writes and exports it.
+/// Exports the instances, or answers what is asked of one of them.
 fn publish<K: Sink>(
     alloc: Global,
-    order: Order<'_>,
+    request: Request<'_>,
     instances: &[Named],
     exporters: &mut Vec<Box<dyn Exporter>>,
     spoiled: &mut Vec<Box<dyn Exporter>>,
     out: &mut K,
 ) -> Status
-    ensures { Stage (files_of (map listed_as instances.now))
-        (shown_of (ask_of order.entry) (map listed_as instances.now))
+    requires { IsMeant (map listed_as instances.now) }
+    ensures { Publishes (ask_of request.entry) (map listed_as instances.now)
         (record { held = K.held out.old; faults = K.faults out.old; spare = K.spare out.old })
         (record { held = K.held out.new; faults = K.faults out.new; spare = K.spare out.new })
         (record { exporters = map account exporters.old.items; spoiled = map account spoiled.old.items })
         (record { exporters = map account exporters.new.items; spoiled = map account spoiled.new.items })
         result }
 {
-    match output_of(alloc, order, instances) {
+    match request {
+        Request::Run { .. } => export_all(
+            alloc,
+            View::Transcripts,
+            instances,
+            exporters,
+            spoiled,
+            out,
+        ),
+        Request::Example(_) => export_all(alloc, View::Summary, instances, exporters, spoiled, out),
+        Request::Explain {
+            instance,
+            left,
+            right,
+            ..
+        } => answer_question(alloc, instances, instance, left, right, out),
+    }
+}
+
+/// Writes the answer to a question about one of the instances, or the line that says why it has none.
+fn answer_question<K: Sink>(
+    alloc: Global,
+    instances: &[Named],
+    name: &str,
+    left: &str,
+    right: &str,
+    out: &mut K,
+) -> Status
+    requires { IsMeant (map listed_as instances.now) }
+    ensures { Replied (IsReply name.now left.now right.now (map listed_as instances.now))
+        (record { held = K.held out.old; faults = K.faults out.old; spare = K.spare out.old })
+        (record { held = K.held out.new; faults = K.faults out.new; spare = K.spare out.new })
+        result }
+{
+    match reply_to(alloc, instances, name, left, right) {
+        Ok(reply) => tell(out, reply.line.as_slice(), reply.status),
+        Err(_) => Status::Memory,
+    }
+}
+
+/// Renders all that is written of the instances, and writes and exports it.
+fn export_all<K: Sink>(
+    alloc: Global,
+    view: View,
+    instances: &[Named],
+    exporters: &mut Vec<Box<dyn Exporter>>,
+    spoiled: &mut Vec<Box<dyn Exporter>>,
+    out: &mut K,
+) -> Status
+    ensures { Stage (files_of (map listed_as instances.now)) (shown_in view (map listed_as instances.now))
+        (record { held = K.held out.old; faults = K.faults out.old; spare = K.spare out.old })
+        (record { held = K.held out.new; faults = K.faults out.new; spare = K.spare out.new })
+        (record { exporters = map account exporters.old.items; spoiled = map account spoiled.old.items })
+        (record { exporters = map account exporters.new.items; spoiled = map account spoiled.new.items })
+        result }
+{
+    match output_of(alloc, view, instances) {
         Ok(output) => export(exporters, spoiled, out, &output),
         Err(_) => Status::Memory,
     }

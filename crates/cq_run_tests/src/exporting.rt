@@ -22,7 +22,11 @@ end
 ";
 
 /// An exporter of each format, whose puts with these numbers fail.
-fn both(alloc: Global, csv: &[u64], cql: &[u64]) -> Result<Vec<Box<dyn Exporter>>, AllocError> {
+pub(crate) fn both(
+    alloc: Global,
+    csv: &[u64],
+    cql: &[u64],
+) -> Result<Vec<Box<dyn Exporter>>, AllocError> {
     let csv = MemExporter::new(alloc, Format::Csv, Vec::from_slice(alloc, csv)?)?;
     let cql = MemExporter::new(alloc, Format::Cql, Vec::from_slice(alloc, cql)?)?;
     let mut exporters: Vec<Box<dyn Exporter>> = Vec::new(alloc);
@@ -85,7 +89,7 @@ static CHOICES: [Choice; 7] = [
 ];
 
 /// Whether the exporters are of these formats.
-fn are_of(exporters: &[Box<dyn Exporter>], formats: &[Format]) -> bool {
+pub(crate) fn are_of(exporters: &[Box<dyn Exporter>], formats: &[Format]) -> bool {
     exporters.len() == formats.len()
         && exporters
             .iter()

@@ -36,6 +36,8 @@ mod programs;
 #[cfg(test)]
 mod query_parts;
 #[cfg(test)]
+mod questions;
+#[cfg(test)]
 mod tests;
 #[cfg(test)]
 mod transforms;

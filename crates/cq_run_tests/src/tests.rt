@@ -189,7 +189,7 @@ static CASES: [Case; 48] = [
         written: USAGE,
     },
     Case {
-        words: &["explain", "p.cql", "I", "a", "b"],
+        words: &["explain", "p.cql", "I", "a"],
         text: FIRST,
         status: Status::Usage,
         written: USAGE,

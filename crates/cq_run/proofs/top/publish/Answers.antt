@@ -1,9 +1,11 @@
 use Rattle.std.proofs.Common.{refl}
-use Rattle.cq_run.specs.Writing.{no_room}
 use Rattle.cq_run.proofs.top.publish.Goals as goal
 
-pub returns-in-Ok : goal.returns-in-Ok
-returns-in-Ok g c = rw (← c.in-Ok.ensures.files, ← c.in-Ok.ensures.shown) c.export.ensures
+pub returns-in-Run : goal.returns-in-Run
+returns-in-Run g c = rw c.in-Run.is c.export_all.ensures
 
-pub returns-in-Err : goal.returns-in-Err
-returns-in-Err g c = no_room refl refl
+pub returns-in-Example : goal.returns-in-Example
+returns-in-Example g c = rw c.in-Example.is c.export_all-in-Example.ensures
+
+pub returns-in-Explain : goal.returns-in-Explain
+returns-in-Explain g c = rw c.in-Explain.is (c.answer_question.ensures, refl)

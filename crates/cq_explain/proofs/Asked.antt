@@ -1,0 +1,75 @@
+-- From what each step of reading a question answers to the equation that is asked about.
+use Rattle.std.proofs.Common.{◌≡◌, ◌∙◌, ℕ, Bool, true, false, List, Option, Some, None, refl, sym, ap, subst}
+use Rattle.std.specs.Prelude.{is_some, IfOk, Result, Ok, Err}
+use Rattle.cq_base.specs.declared.name.Name.{Name}
+use Rattle.cq_base.specs.declared.raw.Raw.{Raw}
+use Rattle.cq_theory.specs.declared.lookup.TermRefusal.{TermRefusal}
+use Rattle.cq_theory.specs.declared.presentation.Equation.{Equation}
+use Rattle.cq_theory.specs.declared.presentation.Presentation.{Presentation}
+use Rattle.cq_theory.specs.declared.presentation.Sort.{Sort}
+use Rattle.cq_theory.specs.declared.term.Term.{Term}
+use Rattle.cq_theory.specs.Parts.{equation_of}
+use Rattle.cq_theory.specs.Resolve.{equation_fault}
+use Rattle.cq_theory.specs.Resolved.{resolved}
+use Rattle.cq_theory.specs.SchemaData.{SchemaData as Schema}
+use Rattle.cq_theory.specs.Sorts.{Generators}
+use Rattle.cq_explain.specs.Question.{Asks, IsTextOfTerm, Makes, names_of, sorts_of}
+use Rattle.cq_explain.specs.declared.question.QuestionRefusal.{QuestionRefusal}
+
+none_of : (o : Option TermRefusal) → is_some o ≡ false → o ≡ None
+none_of None h = refl
+none_of (Some r) h = cc
+
+-- the same fault by tables that have the names and the sorts
+fault_over : (S : Schema) (G : Generators) (left right : Raw) (names : List Name) (sorts : List Sort) → names ≡ names_of G → sorts ≡ sorts_of G
+    → equation_fault S (names_of G) (sorts_of G) (left, right) ≡ equation_fault S names sorts (left, right)
+fault_over S G left right names sorts names_are sorts_are =
+    ap (λ (ns : List Name). equation_fault S ns (sorts_of G) (left, right)) (sym names_are)
+    ∙ ap (λ (ss : List Sort). equation_fault S names ss (left, right)) (sym sorts_are)
+
+-- no equation is made of terms that break a rule
+pub broken_makes_none : (S : Schema) (G : Generators) (left right : Raw) (names : List Name) (sorts : List Sort) (broken : Bool) (e : Equation)
+    → names ≡ names_of G → sorts ≡ sorts_of G → broken ≡ is_some (equation_fault S names sorts (left, right)) → broken ≡ true
+    → Makes S G left right e → ⊥
+broken_makes_none S G left right names sorts broken e names_are sorts_are is true_is makes =
+    let some : is_some (equation_fault S (names_of G) (sorts_of G) (left, right)) ≡ true =
+    ap is_some (fault_over S G left right names sorts names_are sorts_are) ∙ sym is ∙ true_is in
+    let none = makes.faultless in
+    let bad : is_some (equation_fault S (names_of G) (sorts_of G) (left, right)) ≡ false = ap is_some none in
+    absurd (cc (some, bad))
+
+-- the equation that was made
+pub makes_it : (S : Schema) (G : Generators) (left right : Raw) (names : List Name) (sorts : List Sort) (broken : Bool) (t u : Term) (e : Equation)
+    → names ≡ names_of G → sorts ≡ sorts_of G → broken ≡ is_some (equation_fault S names sorts (left, right)) → broken ≡ false
+    → t ≡ resolved S names sorts left → u ≡ resolved S names sorts right → e ≡ equation_of t u → Makes S G left right e
+makes_it S G left right names sorts broken t u e names_are sorts_are is false_is t_is u_is e_is = record {
+  faultless = fault_over S G left right names sorts names_are sorts_are ∙ none_of (equation_fault S names sorts (left, right)) (sym is ∙ false_is);
+  equation =
+      e_is ∙ ap (λ (s : Term). equation_of s u) t_is ∙ ap (λ (s : Term). equation_of (resolved S names sorts left) s) u_is
+      ∙ ap (λ (ns : List Name). equation_of (resolved S ns sorts left) (resolved S ns sorts right)) names_are
+      ∙ ap (λ (ss : List Sort). equation_of (resolved S (names_of G) ss left) (resolved S (names_of G) ss right)) sorts_are;
+}
+
+-- two terms make one equation
+pub one_made : (S : Schema) (G : Generators) (left right : Raw) (d e : Equation) → Makes S G left right d → Makes S G left right e → d ≡ e
+one_made S G left right d e made makes = made.equation ∙ sym makes.equation
+
+-- terms that texts spell, and the equation that they make
+pub asked_makes : (S : Schema) (P : Presentation) (G : Generators) (left right : List ℕ) (t u : Raw) (e : Equation) → G ≡ P.generators
+    → ((other : Raw) → IsTextOfTerm left other → t ≡ other) → ((other : Raw) → IsTextOfTerm right other → u ≡ other)
+    → Asks S P left right e → Makes S G t u e
+asked_makes S P G left right t u e G_is t_only u_only asks =
+    subst (λ (H : Generators). Makes S H t u e) (sym G_is)
+    (subst (λ (s : Raw). Makes S P.generators s u e) (sym (t_only asks.left_term asks.left_spelled))
+    (subst (λ (s : Raw). Makes S P.generators asks.left_term s e) (sym (u_only asks.right_term asks.right_spelled)) asks.makes))
+
+pub makes_asked : (S : Schema) (P : Presentation) (G : Generators) (left right : List ℕ) (t u : Raw) (result : Result Equation QuestionRefusal) → G ≡ P.generators
+    → IsTextOfTerm left t → IsTextOfTerm right u → IfOk result (Makes S G t u) → IfOk result (Asks S P left right)
+makes_asked S P G left right t u (Err refusal) G_is t_is u_is makes = tt
+makes_asked S P G left right t u (Ok e) G_is t_is u_is makes = record {
+  left_term = t;
+  left_spelled = t_is;
+  right_term = u;
+  right_spelled = u_is;
+  makes = subst (λ (H : Generators). Makes S H t u e) G_is makes;
+}

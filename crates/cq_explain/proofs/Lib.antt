@@ -1,0 +1,5 @@
+mod Texts
+mod Sided
+mod Meant
+mod Asked
+mod Explaining

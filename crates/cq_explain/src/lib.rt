@@ -1,0 +1,12 @@
+//! Explanations: which equation two texts ask about, and the text of a derivation or of two different values.
+#![tactic(auto)]
+
+mod answer;
+mod lines;
+mod question;
+mod scope;
+mod terms;
+mod words;
+
+pub use answer::explanation;
+pub use question::QuestionRefusal;

@@ -1,0 +1,346 @@
+//! Questions about the instances of a program, and what is answered.
+use crate::exporting::{are_of, both, have};
+use crate::tests::{ends, folder, run, run_with, words};
+use cq_io::{Exporter, Format, MemSink};
+use cq_run::Status;
+use std::alloc::{AllocError, Global};
+use std::process::Abort;
+use std::test::Fail;
+
+const FIRST: &str = "typeside T = literal { types s constants Al Bob : s }
+schema S = literal : T { entities E attributes x : E -> s }
+instance I = literal : S { generators a b : E }
+";
+
+/// Open constants, an attribute of another type, and values of functions.
+const OPEN: &str =
+    "typeside T = literal { types s n literals s constants Al : s one : n functions h : s -> s }
+schema S = literal : T { entities E D attributes x : E -> s y : E -> n }
+instance I = literal : S { generators a b : E d : D k : s equations x(a) = h(k) x(b) = Al }
+instance J = literal : S { generators a : E }
+";
+
+/// A foreign key for long paths, and a function for large terms.
+const LARGE: &str = "typeside T = literal { types n constants one : n functions plus : n, n -> n }
+schema S = literal : T { entities E foreign_keys f : E -> E path_equations f.f = f attributes x : E -> n }
+instance I = literal : S { generators a : E }
+";
+
+/// Each rule of derivation gives some equation.
+const RULES: &str =
+    "typeside T = literal { types n constants zero : n functions s : n -> n plus : n, n -> n }
+schema S = literal : T { entities E D foreign_keys f : E -> E g : E -> D path_equations f.f = f attributes v : E -> n w : D -> n observation_equations forall e. v(e) = s(w(g(e))) }
+instance I = literal : S { generators a b : E d : D k : n equations f(a) = b g(b) = d w(d) = k plus(k, zero) = k }
+";
+
+/// What stands before a mark, and what stands behind it.
+fn cut<'a>(row: &'a str, mark: &str) -> (&'a str, &'a str) {
+    match row.split_once(mark) {
+        Some(halves) => halves,
+        None => (row, ""),
+    }
+}
+
+/// Whether the question of a row, an instance and two terms, has the answer that is told behind it.
+fn is_answered(alloc: Global, text: &str, row: &str) -> Result<bool, AllocError> {
+    let (question, told) = cut(row, " => ");
+    let (instance, terms) = cut(question, "; ");
+    let (left, right) = cut(terms, "; ");
+    let status = if told.starts_with("refused") {
+        Status::Refused
+    } else {
+        Status::Ok
+    };
+    let written = format!(in alloc; "{told}\n")?;
+    let mut folder = folder(alloc, text, &[])?;
+    let line = ["explain", "p.cql", instance, left, right];
+    ends(alloc, &line, &mut folder, 1000, status, &written)
+}
+
+/// Stops at the first row with another answer.
+fn try_rows(rt: &impl Abort, alloc: Global, text: &str, rows: &str) -> Result<(), AllocError> {
+    for row in rows.lines() {
+        assert!(rt; is_answered(alloc, text, row)?, "{row}");
+    }
+    Ok(())
+}
+
+#[test]
+fn different_rows_and_values(rt: HostRuntime) -> Result<(), Fail> {
+    let alloc = rt.alloc();
+    try_rows(
+        &rt,
+        alloc,
+        FIRST,
+        "I; a; b => different 1 2
+I; b; a => different 2 1
+I; x(a); x(b) => different ?0 ?1
+I; a.x; b.x => different ?0 ?1
+I; x(b); Al => different ?1 Al
+I; \"Bob\"; Al => different Bob Al",
+    )?;
+    try_rows(
+        &rt,
+        alloc,
+        OPEN,
+        "I; \"a b\"; x(b) => different \"a b\" Al
+I; one; y(a) => different one ?1
+J; x(a); Al => different ?0 Al",
+    )?;
+    Ok(())
+}
+
+#[test]
+fn questions_without_an_answer(rt: HostRuntime) -> Result<(), Fail> {
+    let alloc = rt.alloc();
+    // No instance declaration has the name, whatever the two texts are: another declaration's name is none either.
+    try_rows(
+        &rt,
+        alloc,
+        FIRST,
+        "J; a; b => refused 1:1 37 NoInstance
+J; !; b => refused 1:1 37 NoInstance
+S; a; b => refused 1:1 37 NoInstance
+i; a; b => refused 1:1 37 NoInstance
+; a; b => refused 1:1 37 NoInstance",
+    )?;
+    // No tokens; tokens that are no term; names, counts and sorts.
+    try_rows(
+        &rt,
+        alloc,
+        FIRST,
+        "I; !; b => refused 1:1 38 BadTerm
+I; a; \"b => refused 1:1 38 BadTerm
+I; a; /* b => refused 1:1 38 BadTerm
+I; ; b => refused 1:1 38 BadTerm
+I; a; b b => refused 1:1 38 BadTerm
+I; a; b = b => refused 1:1 38 BadTerm
+I; a; x( => refused 1:1 38 BadTerm
+I; a; entity => refused 1:1 38 BadTerm
+I; a; c => refused 1:1 38 BadTerm
+I; y(a); x(a) => refused 1:1 38 BadTerm
+I; x(a); \"Zed\" => refused 1:1 38 BadTerm
+I; x(a); x(a, b) => refused 1:1 38 BadTerm
+I; x(x(a)); x(a) => refused 1:1 38 BadTerm
+I; a; x(a) => refused 1:1 38 BadTerm
+I; Al; b => refused 1:1 38 BadTerm",
+    )?;
+    // Two entities, two types, and texts that no constant of an open type can have.
+    try_rows(
+        &rt,
+        alloc,
+        OPEN,
+        "I; a; d => refused 1:1 38 BadTerm
+I; x(a); y(a) => refused 1:1 38 BadTerm
+I; k; one => refused 1:1 38 BadTerm
+I; x(a); \"\" => refused 1:1 38 BadTerm
+I; \"?1\"; x(a) => refused 1:1 38 BadTerm
+I; x(a); h(\"=\") => refused 1:1 38 BadTerm
+J; k; Al => refused 1:1 38 BadTerm",
+    )?;
+    Ok(())
+}
+
+/// A term of as many symbols as two is multiplied with itself so often, less one.
+fn sum(alloc: Global, times: usize) -> Result<String, AllocError> {
+    let mut term = String::from_str(alloc, "one")?;
+    for _time in 1..times {
+        term = format!(in alloc; "plus({term}, {term})")?;
+    }
+    Ok(term)
+}
+
+/// Whether the question whether a term is one is answered so, by the program of large terms.
+fn is_told(alloc: Global, term: &str, status: Status, written: &str) -> Result<bool, AllocError> {
+    let mut folder = folder(alloc, LARGE, &[])?;
+    let line = ["explain", "p.cql", "I", "one", term];
+    ends(alloc, &line, &mut folder, 20000, status, written)
+}
+
+#[test]
+fn terms_at_their_limits(rt: HostRuntime) -> Result<(), Fail> {
+    let alloc = rt.alloc();
+    let bad = "refused 1:1 38 BadTerm\n";
+    // 1,023 symbols, and 1,025.
+    let sum = sum(alloc, 10)?;
+    let written = format!(in alloc; "different one {sum}\n")?;
+    assert!(rt; is_told(alloc, &sum, Status::Ok, &written)?);
+    let larger = format!(in alloc; "plus({sum}, one)")?;
+    assert!(rt; is_told(alloc, &larger, Status::Refused, bad)?);
+    // 64 levels, and 65.
+    let keys = ".f".repeat(alloc, 62)?;
+    let deep = format!(in alloc; "a{keys}.x")?;
+    assert!(rt; is_told(alloc, &deep, Status::Ok, "different one ?1\n")?);
+    let deeper = format!(in alloc; "a{keys}.f.x")?;
+    assert!(rt; is_told(alloc, &deeper, Status::Refused, bad)?);
+    // 8 MiB, and a byte more.
+    let blanks = " ".repeat(alloc, 8388604)?;
+    let long = format!(in alloc; "a.x{blanks} ")?;
+    assert!(rt; is_told(alloc, &long, Status::Ok, "different one ?0\n")?);
+    let longer = format!(in alloc; "a.x{blanks}  ")?;
+    assert!(rt; is_told(alloc, &longer, Status::Refused, bad)?);
+    Ok(())
+}
+
+/// Whether the sides of a row are equal by a list of steps with a rule, whose last step has these sides.
+fn is_derived(alloc: Global, row: &str) -> Result<bool, AllocError> {
+    let (rule, sides) = cut(row, ": ");
+    let (left, right) = cut(sides, " = ");
+    let words = words(alloc, &["explain", "p.cql", "I", left, right])?;
+    let mut folder = folder(alloc, RULES, &[])?;
+    let mut out = MemSink::new(alloc, Vec::new(alloc), 100000)?;
+    let ended = run(alloc, words.as_slice(), &mut folder, &mut out);
+    let Ok(told) = std::str::from_utf8(out.bytes()) else {
+        return Ok(false);
+    };
+    let last = format!(in alloc; ": {sides}\n")?;
+    let rule = format!(in alloc; " {rule}")?;
+    Ok(
+        ended == Status::Ok
+            && told.starts_with("equal ")
+            && told.ends_with(last.as_str())
+            && told.contains(rule.as_str()),
+    )
+}
+
+#[test]
+fn each_rule_of_derivation(rt: HostRuntime) -> Result<(), Fail> {
+    let alloc = rt.alloc();
+    for row in "given 1: a.f = b
+given 4: plus(k, zero) = k
+path 1 a: a.f.f = a.f
+obs 1 a: v(a) = s(w(a.g))
+key g: a.f.g = b.g
+att v: v(a.f) = v(b)
+fun s: s(v(a.f)) = s(v(b))
+fun plus: plus(v(a.f), zero) = plus(v(b), zero)
+sym: b = a.f
+trans: b.f = b
+: v(b) = s(k)
+: a = a
+: k = k
+: d = a.f.f.g"
+        .lines()
+    {
+        assert!(rt; is_derived(alloc, row)?, "{row}");
+    }
+    Ok(())
+}
+
+/// Words that ask a question, run on a text with a sink of some room, and what they end in.
+struct Asked {
+    words: &'static [&'static str],
+    text: &'static str,
+    room: u64,
+    status: Status,
+    written: &'static str,
+}
+
+static ASKED: [Asked; 10] = [
+    Asked {
+        words: &["explain", "p.cql", "I", "a", "b"],
+        text: FIRST,
+        room: 14,
+        status: Status::Ok,
+        written: "different 1 2\n",
+    },
+    Asked {
+        words: &["explain", "--depth", "0", "p.cql", "I", "a", "a"],
+        text: LARGE,
+        room: 100,
+        status: Status::Refused,
+        written: "refused 3:1 61 Depth\n",
+    },
+    Asked {
+        words: &["explain", "p.cql", "J", "a", "b"],
+        text: FIRST,
+        room: 100,
+        status: Status::Refused,
+        written: "refused 1:1 37 NoInstance\n",
+    },
+    Asked {
+        words: &["explain", "p.cql", "I", "a", "x(a)"],
+        text: FIRST,
+        room: 100,
+        status: Status::Refused,
+        written: "refused 1:1 38 BadTerm\n",
+    },
+    // A text that is refused, a file that is not there, and one that an import names.
+    Asked {
+        words: &["explain", "p.cql", "I", "a", "b"],
+        text: "typeside T = literal {\n!",
+        room: 100,
+        status: Status::Refused,
+        written: "refused 2:1 11 BadByte\n",
+    },
+    Asked {
+        words: &["explain", "q.cql", "I", "a", "b"],
+        text: FIRST,
+        room: 100,
+        status: Status::Read,
+        written: "read q.cql absent\n",
+    },
+    Asked {
+        words: &["explain", "p.cql", "I", "a", "b"],
+        text: "typeside T = literal {} schema S = literal : T { entities E } instance I = import_csv \"D\" : S",
+        room: 100,
+        status: Status::Read,
+        written: "read D/E.csv absent\n",
+    },
+    // A sink with too little room.
+    Asked {
+        words: &["explain", "p.cql", "I", "a", "b"],
+        text: FIRST,
+        room: 13,
+        status: Status::Write,
+        written: "different 1 2",
+    },
+    Asked {
+        words: &["explain", "p.cql", "J", "a", "b"],
+        text: FIRST,
+        room: 7,
+        status: Status::Write,
+        written: "refused",
+    },
+    // No exporter can be chosen.
+    Asked {
+        words: &["explain", "p.cql", "I", "a", "b", "--only", "csv"],
+        text: FIRST,
+        room: 100,
+        status: Status::Usage,
+        written: "usage: cqlrun run FILE [--depth K] [--only csv|cql]\n",
+    },
+];
+
+/// Whether the question ends so, and leaves both exporters, with nothing written to them.
+fn ends_so(alloc: Global, asked: &Asked) -> Result<bool, AllocError> {
+    let words = words(alloc, asked.words)?;
+    let mut folder = folder(alloc, asked.text, &[])?;
+    let mut out = MemSink::new(alloc, Vec::new(alloc), asked.room)?;
+    let mut exporters = both(alloc, &[], &[])?;
+    let mut spoiled: Vec<Box<dyn Exporter>> = Vec::new(alloc);
+    let ended = run_with(
+        alloc,
+        words.as_slice(),
+        &mut folder,
+        &mut exporters,
+        &mut spoiled,
+        &mut out,
+    );
+    Ok(
+        ended == asked.status
+            && out.bytes() == asked.written.as_bytes()
+            && spoiled.is_empty()
+            && are_of(exporters.as_slice(), &[Format::Csv, Format::Cql])
+            && have(exporters.as_slice(), &[]),
+    )
+}
+
+#[test]
+fn each_status_leaves_the_exporters(rt: HostRuntime) -> Result<(), Fail> {
+    let alloc = rt.alloc();
+    for asked in &ASKED {
+        assert!(rt; ends_so(alloc, asked)?, "{}", asked.written);
+    }
+    Ok(())
+}
