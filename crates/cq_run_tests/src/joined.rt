@@ -1,4 +1,5 @@
 //! Joined schemas: what instances over them hold, and what is refused.
+use crate::outcomes::{Table, try_rows};
 use crate::tests::{Case, RUN, ends, folder, passes};
 use cq_run::Status;
 use std::alloc::{AllocError, Global};
@@ -397,5 +398,87 @@ fn a_joined_name_at_the_limit_and_past_it(rt: HostRuntime) -> Result<(), Fail> {
         let mut folder = folder(alloc, text.as_str(), &[])?;
         assert!(rt; ends(alloc, RUN, &mut folder, 100, Status::Refused, written)?);
     }
+    Ok(())
+}
+
+/// A schema of 15,625 entities, and a joined schema that has them once.
+fn many(alloc: Global) -> Result<String, AllocError> {
+    let mut text = String::from_str(
+        alloc,
+        "typeside T = literal { types s }\nschema D0 = literal : T { entities",
+    )?;
+    for number in 0..15625 {
+        let name = format!(in alloc; " e{number}")?;
+        text.push_str(&name)?;
+    }
+    text.push_str(" }\nschema_colimit D1 = quotient D0 : T { }\n")?;
+    Ok(text)
+}
+
+/// The joined schema before this one, joined with itself under a second name.
+fn doubled(alloc: Global, number: u32, added: &str) -> Result<String, AllocError> {
+    let below = number.saturating_sub(1);
+    format!(in alloc;
+        "schema E{below} = getSchema D{below}
+schema_colimit D{number} = quotient D{below} + E{below} : T {{ {added} }}
+"
+    )
+}
+
+/// A seventh joined schema, of 1,000,000 entities and what is added.
+fn a_million(alloc: Global, added: &str) -> Result<String, AllocError> {
+    let mut text = many(alloc)?;
+    for number in 2..7 {
+        let twice = doubled(alloc, number, "")?;
+        text.push_str(&twice)?;
+    }
+    let last = doubled(alloc, 7, added)?;
+    text.push_str(&last)?;
+    Ok(text)
+}
+
+// A size that is passed by one is told before a pair of a part that isn't there.
+#[test]
+fn a_joined_schema_at_the_limit_and_past_it(rt: HostRuntime) -> Result<(), Fail> {
+    let alloc = rt.alloc();
+    for (added, written) in [
+        ("entity_equations Q.X = Q.X", "refused 15:61 42 Unknown\n"),
+        (
+            "entity_equations Q.X = Q.X path_equations k = k",
+            "refused 15:1 64 TooLarge\n",
+        ),
+    ] {
+        let text = a_million(alloc, added)?;
+        let mut folder = folder(alloc, text.as_str(), &[])?;
+        assert!(rt; ends(alloc, RUN, &mut folder, 100, Status::Refused, written)?);
+    }
+    Ok(())
+}
+
+// An added equation of 1,024 symbols and one more, behind a wrong type and a text that no constant can have.
+const IN_SIZE: &str = "\
+| forall x. succ($) = A_v(x) }
+46 TooLarge| ^forall x. succ(succ($)) = A_v(x) }
+46 TooLarge| ^forall x. A_v(x) = succ(succ($)) forall x. Q = A_v(x) }
+42 Unknown| ^forall x. Q = A_v(x) forall x. A_v(x) = succ(succ($)) }
+44 WrongSort| ^forall x. succ(succ($)) = Al }
+45 Reserved| ^forall x. plus(size(\"=Bo\"), succ($)) = A_v(x) }
+46 TooLarge| ^forall x. plus(size(\"Bo\"), succ($)) = A_v(x) }
+";
+
+#[test]
+fn added_equations_by_their_size(rt: HostRuntime) -> Result<(), Fail> {
+    let table = Table {
+        words: RUN,
+        lines: "typeside T = literal { types s n literals s constants Al : s zero : n \
+            functions succ : n -> n plus : n, n -> n size : s -> n }
+schema A = literal : T { entities X attributes v : X -> n }
+",
+        front: "schema_colimit D = quotient A : T { observation_equations ",
+        rows: IN_SIZE,
+        listed: "",
+        leaf: "plus(zero, zero)",
+    };
+    try_rows(&rt, rt.alloc(), &table)?;
     Ok(())
 }
