@@ -1,5 +1,5 @@
 -- The last of a list.
-use Rattle.std.proofs.Common.{ℕ, zero, suc, List, [], ◌∷◌, Option, Some, None, Bool, true, false, ◌≡◌, ◌↔◌, ◌-◌, length, refl, sym, ap, ◌∙◌, arith}
+use Rattle.std.proofs.Common.{suc, List, [], ◌∷◌, Some, None, Bool, true, false, ◌≡◌, ◌↔◌, ◌-◌, length, refl, sym, ap, ◌∙◌, arith}
 use Rattle.std.specs.Prelude.{slice_get, option_map}
 use Rattle.cq_theory.specs.declared.presentation.Equation.{Equation}
 use Rattle.cq_steps.specs.declared.step.Step.{Step}

@@ -1,6 +1,6 @@
 -- Each list of steps is spelled by some list of numbers.
-use Rattle.std.proofs.Common.{ℕ, zero, suc, List, [], ◌∷◌, ◌++◌, ◌≡◌, ◌<◌, ◌≤◌, ◌+◌, ◌*◌, ◌/◌, ◌%◌, length, refl, sym, ap, ◌∙◌, subst, arith, append_assoc}
-use Rattle.std.specs.Prelude.{All, IsUtf8, nat_lt, Bool, true, false, if◌then◌else◌}
+use Rattle.std.proofs.Common.{ℕ, zero, suc, List, [], ◌∷◌, ◌++◌, ◌≡◌, ◌<◌, ◌+◌, ◌*◌, ◌/◌, ◌%◌, length, refl, sym, ap, ◌∙◌, subst, arith, append_assoc}
+use Rattle.std.specs.Prelude.{All, nat_lt, Bool, true, false, if◌then◌else◌}
 use Rattle.std.specs.Str.Lossy.{utf8_lossy}
 use borrow.Author.Tests.{ltb-true}
 use Rattle.std.proofs.lemmas.Str.{utf8_lossy-IsUtf8}
@@ -20,7 +20,7 @@ use Rattle.cq_steps.specs.declared.step.Rule.TheVariants.{Reflexivity, Symmetry,
 use Rattle.cq_steps.specs.declared.step.Step.{Step}
 use Rattle.cq_proof.specs.Answers.{Proves}
 use Rattle.cq_proof.specs.Counting.{AreDigits}
-use Rattle.cq_proof.specs.Drafts.{DraftData, blank, generator_term, word, text_of, numbered_rule, instructed, obeyed, all_obeyed, spelled}
+use Rattle.cq_proof.specs.Drafts.{DraftData, generator_term, word, text_of, numbered_rule, instructed, obeyed, all_obeyed, spelled}
 use Rattle.cq_proof.specs.Written.{IsWord, IsPlace, IsText, IsEntityTerm, IsTypeTerm, AreTypeTerms, generator, constant, text, attribute, function, none, more, IsEquationOfTerms, IsRule, IsWritten, AreWritten}
 
 abbrev IsDigit : ℕ → Type 0

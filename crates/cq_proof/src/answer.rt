@@ -54,7 +54,7 @@ fn are_one(alloc: Global, instance: &Instance, equation: &Equation) -> Result<bo
 }
 
 /// A list of steps that proves the equation: the one that is found fast, if the checker passes it, or else the first
-/// one of all there are. Where none proves it, memory runs out.
+/// one of all there are, which comes too late for anyone to wait for. Where none proves it, memory runs out.
 fn derivation(
     alloc: Global,
     schema: &Schema,

@@ -83,7 +83,8 @@ pub(crate) fn sought_among(
 }
 
 /// A list of steps that proves the equation, by the lists of ever more numbers. It goes on until there is one or memory
-/// runs out.
+/// runs out, and passes over none. There are 2 ^ 64 lists of one number, so it shows that a list is found, and isn't
+/// meant to be waited for.
 pub(crate) fn sought_among_all(
     alloc: Global,
     schema: &Schema,

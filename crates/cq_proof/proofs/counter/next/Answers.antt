@@ -1,4 +1,4 @@
-use Rattle.std.proofs.Common.{arith, refl, ◌≡◌, ◌<◌, ◌≤◌, length, get_or}
+use Rattle.std.proofs.Common.{arith, refl, ◌≡◌, ◌<◌, length, get_or}
 use Rattle.cq_proof.proofs.Digits.{raised_by, carried_on, carried_all}
 use Rattle.cq_proof.proofs.counter.next.Goals as goal
 

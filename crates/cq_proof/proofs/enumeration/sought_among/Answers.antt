@@ -2,7 +2,6 @@ use Rattle.std.proofs.Common.{arith, ap, sym, ◌∙◌, subst, ◌≡◌, ◌+�
 use Rattle.cq_proof.specs.Answers.{Proves}
 use Rattle.cq_proof.specs.Counting.{behind}
 use Rattle.cq_proof.specs.Drafts.{spelled}
-use Rattle.std.specs.Prelude.{All}
 use Rattle.cq_proof.proofs.Passing.{ArePassed, first_passed, failed_at, next_passed, all_passed, written}
 use Rattle.cq_proof.proofs.enumeration.sought_among.Goals as goal
 
