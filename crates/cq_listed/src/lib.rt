@@ -1,0 +1,4 @@
+//! Tables that are built anew.
+#![tactic(auto)]
+
+pub mod laws;
