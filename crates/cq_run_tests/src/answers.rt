@@ -7,7 +7,8 @@ use std::test::Fail;
 const HEAD: &str =
     "typeside T = literal { types s literals s constants Al Bob : s functions h : s -> s }
 schema S = literal : T { entities E F foreign_keys f : E -> F g : F -> F attributes n x : E -> s m y : F -> s }
-instance I = literal : S { generators a b c : E p q r : F equations n(a) = \"a\" n(b) = \"b\" n(c) = \"c\" m(p) = \"p\" m(q) = \"q\" m(r) = \"r\"
+instance I = literal : S { generators a b c : E p q r : F
+  equations n(a) = \"a\" n(b) = \"b\" n(c) = \"c\" m(p) = \"p\" m(q) = \"q\" m(r) = \"r\"
   f(a) = p f(b) = q f(c) = q g(p) = q g(q) = q g(r) = r x(a) = Al x(b) = Al y(p) = Al y(r) = h(Al) }
 ";
 
