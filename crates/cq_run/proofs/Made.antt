@@ -8,9 +8,8 @@ use Rattle.cq_base.specs.declared.name.Name.{Name}
 use Rattle.cq_syntax.specs.declared.program.Decl.{Decl}
 use Rattle.cq_theory.specs.Schema.{IsSchema}
 use Rattle.cq_theory.specs.SchemaData.{SchemaData}
-use Rattle.cq_theory.specs.Tables.{Tables}
+use Rattle.cq_theory.specs.Tables.{Initial, Tables}
 use Rattle.cq_theory.specs.declared.presentation.Presentation.{Presentation}
-use Rattle.cq_mapping.specs.Moved.{delta_tables}
 use Rattle.cq_model.proofs.CanonicalDerived as canonical
 use Rattle.cq_model.specs.Given.{given}
 use Rattle.cq_model.specs.InstanceData.{InstanceData, IsInstance}
@@ -19,10 +18,13 @@ use Rattle.cq_program.specs.Folders.{Told}
 use Rattle.cq_program.specs.Meanings.{Environment, Meant, typeside, schema, colimit, mapping, query, instance, transform}
 use Rattle.cq_program.specs.Program.{Follow, IsModelOf, Listing, Stands, listing_named, listing_of}
 use Rattle.cq_program.specs.Program as program
-use Rattle.cq_proof.specs.Answers.{IsInitial}
 use Rattle.cq_run.specs.Asked.{IsMade, instance_named}
 use Rattle.cq_run.specs.Meaning.{Means}
 use Rattle.cq_run.specs.Writing.{IsMeant}
+
+-- the instance is the model that its presentation presents
+abbrev pub IsInitial : InstanceData → Type 0
+IsInitial i = Initial i.schema i.presentation i.tables i.assignment
 
 -- what a declaration stands for
 abbrev IsStated : Meant → Type 0
@@ -109,7 +111,7 @@ made_initial found (a_presentation n S P, stands) well sorted =
 made_initial found (a_made n S P, stands) well sorted =
     subst IsInitial (sym (same_instance found.schema n found.instance stands.0 stands.1)) (model_initial S P stands.0 stands.2)
 made_initial found (a_delta n F M, stands) well sorted =
-    given_initial F.source (delta_tables F M) found.instance (same_instance found.schema n found.instance _ stands.0) well sorted
+    given_initial F.source _ found.instance (same_instance found.schema n found.instance _ stands.0) well sorted
 made_initial found (an_eval n Q M, stands) well sorted =
     given_initial Q.target stands.0 found.instance (same_instance found.schema n found.instance _ stands.1) well sorted
 made_initial found (a_transform e images, stands) well sorted = let is = stands.1 in absurd (cc is)

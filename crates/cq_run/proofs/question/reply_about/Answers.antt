@@ -1,10 +1,9 @@
 use Rattle.std.proofs.Common.{◌∙◌, ap, sym, subst}
 use Rattle.cq_model.specs.InstanceData.{InstanceData, IsInstance}
 use Rattle.cq_program.specs.Named.{listed_as}
-use Rattle.cq_proof.specs.Answers.{IsInitial}
 use Rattle.cq_theory.specs.Schema.{IsSchema}
 use Rattle.cq_run.proofs.Asking.{asks_again}
-use Rattle.cq_run.proofs.Made.{made_initial}
+use Rattle.cq_run.proofs.Made.{IsInitial, made_initial}
 use Rattle.cq_run.proofs.question.reply_about.Goals as goal
 
 pub explanation-requires : goal.explanation-requires
