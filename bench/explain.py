@@ -9,7 +9,7 @@ PROGRAM is by default crates/cqlrun/out/cqlrun, which `./cqlrun` builds. Cases, 
   mixed    the same, with the equations in another order
   merged   rows that a path equation merges, and a key of a key of each of two of them
   tower    60 levels of a function at the first and at the last of a chain of generators of a type
-  tangled  a chain, and another one in which each equation needs a long part of the first
+  tangled  a chain of half as many, and another one in which each equation needs a long part of the first
 
 For each it prints the lines that are written, the seconds of a whole run (the best of three), their ratio to those at a tenth,
 what a run of the file without a question takes, and the peak memory. Its status is 1 where a run writes no derivation, or takes
@@ -66,6 +66,7 @@ def tower(count):
 
 
 def tangled(count):
+    count //= 2
     third = count // 3
     there = [f"t{n} = f(x(a{n % third}), u{n})" for n in range(count)]
     back = [f"t{n + 1} = f(x(a{count - 1 - n % third}), u{n})" for n in range(count - 1)]
