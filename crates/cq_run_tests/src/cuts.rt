@@ -12,7 +12,11 @@ instance I = literal : S { generators c : Emp m d : Dep equations secretary(m) =
 ";
 
 /// What a run writes for a text, with its status.
-fn outcome(alloc: Global, text: &str, room: u64) -> Result<(Status, MemSink), AllocError> {
+pub(crate) fn outcome(
+    alloc: Global,
+    text: &str,
+    room: u64,
+) -> Result<(Status, MemSink), AllocError> {
     let mut folder = folder(alloc, text, &[])?;
     let mut out = MemSink::new(alloc, Vec::new(alloc), room)?;
     let words = words(alloc, RUN)?;
