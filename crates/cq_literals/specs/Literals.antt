@@ -44,7 +44,8 @@ pub record IsDeclaration (S : Schema) (P : Presentation) (name schema : Name) (b
   pub spelled : Spells declaration tokens declared
   pub fits : Fits declaration declared
   pub declares : Declares S P name schema declared
-  pub lexed : (after : List ℕ) (others : List Token) → Lexes (before ++ bytes) after others → Lexes before (bytes ++ after) (tokens ++ others)
+  pub lexed : (after : List ℕ) (others : List Token) → Lexes (before ++ bytes) after others
+      → Lexes before (bytes ++ after) (tokens ++ others)
 
 module _ (S : Schema) where
   -- each side has at most 64 levels as it is written
