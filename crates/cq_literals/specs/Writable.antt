@@ -8,8 +8,8 @@ use Rattle.cq_return.specs.Return.{IsReturnableEntry, IsReturnableValue}
 use Rattle.cq_literals.specs.Written.{ArePlainNames}
 
 -- What the language asks for beyond what each instance has: a well-sorted schema; words that aren't reserved as the names of types,
--- entities, functions, keys and attributes; functions of one argument or more; constants of at most 255 bytes of UTF-8; at most 16,000,000 rows and
--- nulls together; and at most 64 levels and 1,024 symbols in a value.
+-- entities, functions, keys and attributes; functions of one argument or more; constants of at most 255 bytes of UTF-8; at most
+-- 16,000,000 rows and nulls together; and at most 64 levels and 1,024 symbols in a value.
 pub record IsWritable (i : InstanceData) : Type 0 where
   pub schema : IsSchema i.schema
   pub names : ArePlainNames i.schema
