@@ -10,8 +10,8 @@ use Rattle.cq_theory.specs.SchemaData.{SchemaData as Schema}
 use Rattle.cq_theory.specs.Canonical.{below}
 use Rattle.cq_query.specs.declared.parts.Clause.{Clause}
 use Rattle.cq_query.specs.declared.query.Block.{Block}
-use Rattle.cq_query.specs.Groups.{positions}
-use Rattle.cq_query.specs.Translation.{edge_sources}
+use Rattle.cq_theory.specs.Groups.{positions}
+use Rattle.cq_theory.specs.Groups.{edge_sources}
 use Rattle.cq_query.specs.QueryParts.{scope_or_none, test_made, test_in, tests_made, attribute_made, key_made, block_in, block_made}
 
 -- a list that is made from a function of the numbers from k up to n, and its first item

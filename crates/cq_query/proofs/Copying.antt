@@ -23,7 +23,7 @@ use Rattle.cq_theory.specs.Canonical.{below, named}
 use Rattle.cq_query.specs.QueryData.{QueryData as Query}
 use Rattle.cq_query.specs.Translation.{variables_at}
 use Rattle.cq_query.specs.Coeval.{size_of, start_of, starts, null_start, row_sorts, is_large, is_oversized, coeval_of}
-use Rattle.cq_query.proofs.Lists.{made_at}
+use Rattle.cq_theory.proofs.Grouped.{made_at}
 
 -- one number more
 range_more : (s n : ℕ) → range_with_len s (suc n) ≡ range_with_len s n ++ (s + n) ∷ []

@@ -18,7 +18,7 @@ use Rattle.cq_theory.specs.Tables.{Tables, AtRow, count_of, row_of, meaning_of, 
 use Rattle.cq_theory.proofs.Faults.{made_of}
 use Rattle.cq_theory.proofs.Sound.{row_of-within, meaning_of-derived}
 use Rattle.cq_query.specs.QueryData.{QueryData as Query}
-use Rattle.cq_query.specs.Groups.{positions_from, positions}
+use Rattle.cq_theory.specs.Groups.{positions_from, positions}
 use Rattle.cq_query.specs.Puts.{put_equation}
 use Rattle.cq_query.specs.Translation.{key_sources, path_sources, observation_sources, variables_at, tests_at, assigned}
 use Rattle.cq_query.specs.Duties.{frozen, key_duties, path_duties, observation_duties, duties, Sound}

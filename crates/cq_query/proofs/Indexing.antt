@@ -13,12 +13,12 @@ use Rattle.cq_theory.specs.SchemaData.{SchemaData as Schema}
 use Rattle.cq_theory.specs.Typeside.{function_names}
 use Rattle.cq_theory.specs.Schema.{edge_names}
 use Rattle.cq_theory.specs.Resolve.{or_else, symbol_of}
-use Rattle.cq_query.specs.Groups.{positions, positions_from}
+use Rattle.cq_theory.specs.Groups.{positions, positions_from}
 use Rattle.cq_query.specs.QueryParts.{first_of, is_attribute, is_key, attribute_given, key_given, assigned_given, attribute_in, has_key, assigned_in}
 use Rattle.cq_query.specs.declared.parts.Clause.{Clause}
 use Rattle.cq_query.specs.declared.parts.Clause.TheVariants as clause
 use Rattle.cq_query.specs.declared.index.Index.{Index}
-use Rattle.cq_query.proofs.Lists.{group_within, group_read}
+use Rattle.cq_theory.proofs.Grouped.{group_within, group_read}
 use Rattle.cq_query.specs.Index.{at_place, is_at_place, is_there, attribute_number, key_number, attribute_owner, key_owner, IsIndex}
 
 get_behind : {X : Type 0} (pre xs : List X) (x : X) → slice_get (pre ++ x ∷ xs) (length pre) ≡ Some x

@@ -3,7 +3,6 @@ pub mod Answering
 pub mod Standing
 pub mod SortedDuties
 pub mod Scoping
-pub mod Grouping
 pub mod Parted
 pub mod MadeQueries
 pub mod NewQueries

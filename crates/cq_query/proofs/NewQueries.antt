@@ -14,9 +14,9 @@ use Rattle.cq_theory.proofs.DeclaredParts.{or_else_none, new_name, first_part_fa
 use Rattle.cq_query.specs.declared.parts.QueryParts.{QueryParts}
 use Rattle.cq_query.specs.declared.parts.Clause.{Clause}
 use Rattle.cq_query.specs.declared.query.Block.{Block}
-use Rattle.cq_query.specs.declared.groups.Groups.{Groups}
-use Rattle.cq_query.specs.Groups.{AreGroups}
-use Rattle.cq_query.specs.Translation.{edge_sources, path_eq_sources, obs_eq_sources}
+use Rattle.cq_theory.specs.declared.groups.Groups.{Groups}
+use Rattle.cq_theory.specs.Groups.{AreGroups}
+use Rattle.cq_theory.specs.Groups.{edge_sources, path_eq_sources, obs_eq_sources}
 use Rattle.cq_query.specs.IsQuery.{IsQuery}
 use Rattle.cq_query.specs.QueryParts.{of_query, block_fault, blocks_fault, block_entities, entity_named, first_missing, scopes_of, variables_fault, clauses_fault, missing_part, blocks_made, clauses_and_rest_fault, variables_and_rest_fault, query_fault, query_made}
 use Rattle.cq_query.proofs.Parted.{named_entity}

@@ -14,7 +14,7 @@ use Rattle.cq_theory.specs.SchemaData.{SchemaData as Schema}
 use Rattle.cq_theory.specs.Resolve.{or_else}
 use Rattle.cq_query.specs.declared.parts.Clause.{Clause}
 use Rattle.cq_query.specs.QueryParts.{of_query, scopes_of, variables_and_rest_fault, clauses_and_rest_fault, name_in, names_in, variable_in, variables_in, entity_named, first_of, first_fault_after, variable_fault_after, variable_fault, variables_fault}
-use Rattle.cq_query.proofs.Lists.{set-map_below}
+use Rattle.cq_theory.proofs.Grouped.{set-map_below}
 
 -- one step through the parts
 pub fault_step : {X : Type 0} (fault : List X → ℕ → X → Option TheoryRefusal) (n i : ℕ) (parts : List X) (part : X) → part ≡ get_or parts i part → i < length parts

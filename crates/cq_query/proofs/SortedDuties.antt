@@ -15,7 +15,7 @@ use Rattle.cq_theory.specs.declared.term.EntTerm.{EntTerm}
 use Rattle.cq_theory.specs.Sorts.{Generators, entity_of}
 use Rattle.cq_theory.proofs.Faults.{made_of}
 use Rattle.cq_query.specs.QueryData.{QueryData as Query}
-use Rattle.cq_query.specs.Groups.{positions_from, positions}
+use Rattle.cq_theory.specs.Groups.{positions_from, positions}
 use Rattle.cq_query.specs.Puts.{put_equation}
 use Rattle.cq_query.specs.Translation.{key_sources, path_sources, observation_sources, variables_at, tests_at, variable_terms, assigned, along, translated}
 use Rattle.cq_query.specs.Duties.{equal_terms, key_duties, path_duties, observation_duties, duties}

@@ -23,7 +23,7 @@ use Rattle.cq_theory.specs.TypeTerm as typ
 use Rattle.cq_theory.specs.Tables.{Tables}
 use Rattle.cq_theory.specs.Canonical.{below, named}
 use Rattle.cq_query.specs.QueryData.{QueryData as Query}
-use Rattle.cq_query.specs.Groups.{positions}
+use Rattle.cq_theory.specs.Groups.{positions}
 use Rattle.cq_query.specs.Puts.{generators_from, put, put_type, put_equation}
 use Rattle.cq_query.specs.Translation.{key_sources, attribute_sources, variables_at, tests_at, assigned, attribute_term}
 use Rattle.cq_query.specs.Duties.{equal_terms}

@@ -12,7 +12,7 @@ use Rattle.cq_theory.specs.declared.term.EntTerm.{EntTerm}
 use Rattle.cq_theory.specs.Canonical.{below}
 use Rattle.cq_theory.specs.Derivation.{Derives, left_of, right_of}
 use Rattle.cq_query.specs.QueryData.{QueryData as Query}
-use Rattle.cq_query.specs.Groups.{positions}
+use Rattle.cq_theory.specs.Groups.{positions}
 use Rattle.cq_query.specs.Puts.{put_equation}
 use Rattle.cq_query.specs.Translation.{key_sources, path_sources, observation_sources, variables_at, tests_at, variable_terms, assigned}
 use Rattle.cq_query.specs.Translation.{along, translated}

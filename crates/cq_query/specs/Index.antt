@@ -7,7 +7,7 @@ use Rattle.cq_theory.specs.Resolve.{symbol_of}
 use Rattle.cq_query.specs.declared.parts.Clause.{Clause}
 use Rattle.cq_query.specs.declared.parts.Clause.TheVariants as clause
 use Rattle.cq_query.specs.declared.index.Index.{Index}
-use Rattle.cq_query.specs.Groups.{AreGroups}
+use Rattle.cq_theory.specs.Groups.{AreGroups}
 
 abbrev pub at_place : {X R : Type 0} → (X → Option R) → List X → ℕ → Option R
 at_place f xs n = option_and_then f (slice_get xs n)

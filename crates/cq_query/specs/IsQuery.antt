@@ -12,7 +12,7 @@ use Rattle.cq_theory.specs.Sorts.{entity_of, type_of}
 use Rattle.cq_theory.specs.Presentation.{IsPresentation}
 use Rattle.cq_query.specs.QueryData.{QueryData as Query}
 use Rattle.cq_query.specs.Translation.{variables_at, key_sources, attribute_sources, found_terms, found_term}
-use Rattle.cq_query.specs.Groups.{positions}
+use Rattle.cq_theory.specs.Groups.{positions}
 use Rattle.cq_query.specs.declared.query.Block.{Block}
 use Rattle.cq_query.specs.Duties.{frozen}
 

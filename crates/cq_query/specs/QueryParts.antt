@@ -35,9 +35,9 @@ use Rattle.cq_query.specs.declared.parts.Clause.{Clause}
 use Rattle.cq_query.specs.declared.parts.Clause.TheVariants as clause
 use Rattle.cq_query.specs.declared.query.Block.{Block}
 use Rattle.cq_query.specs.QueryData.{QueryData as Query}
-use Rattle.cq_query.specs.Groups.{positions}
+use Rattle.cq_theory.specs.Groups.{positions}
 use Rattle.cq_query.specs.Puts.{alone}
-use Rattle.cq_query.specs.Translation.{edge_sources}
+use Rattle.cq_theory.specs.Groups.{edge_sources}
 
 -- the same refusal, of a query
 abbrev pub of_query : TheoryRefusal → ArrowRefusal

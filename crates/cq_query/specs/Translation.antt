@@ -3,8 +3,6 @@ use Rattle.std.specs.Prelude.{ℕ, List, [], ◌∷◌, map, Option, Some, None,
 use Rattle.cq_base.specs.declared.name.Name.{Name}
 use Rattle.cq_theory.specs.declared.presentation.Equation.{Equation}
 use Rattle.cq_theory.specs.declared.schema.Edge.{Edge}
-use Rattle.cq_theory.specs.declared.schema.PathEq.{PathEq}
-use Rattle.cq_theory.specs.declared.schema.ObsEq.{ObsEq}
 use Rattle.cq_theory.specs.declared.term.EntTerm.{EntTerm}
 use Rattle.cq_theory.specs.declared.constant.Con.TheVariants.{Named}
 use Rattle.cq_theory.specs.declared.term.TypeTerm.{TypeTerm}
@@ -13,18 +11,8 @@ use Rattle.cq_theory.specs.declared.term.TypeTerm.TheOpen.{TypeTerm-F, Gen, Cons
 use Rattle.cq_theory.specs.declared.term.TypeTerm.TheFolds.{fold-TypeTerm}
 use Rattle.cq_query.specs.declared.query.Block.{Block}
 use Rattle.cq_query.specs.QueryData.{QueryData as Query}
-use Rattle.cq_query.specs.Groups.{places}
+use Rattle.cq_theory.specs.Groups.{places, edge_sources, path_eq_sources, obs_eq_sources}
 use Rattle.cq_query.specs.Puts.{put, put_type, generators_from}
-
--- the entities at which edges and equations begin
-abbrev pub edge_sources : List Edge → List ℕ
-edge_sources edges = map (λ edge. edge.from) edges
-
-abbrev pub path_eq_sources : List PathEq → List ℕ
-path_eq_sources equations = map (λ e. e.entity) equations
-
-abbrev pub obs_eq_sources : List ObsEq → List ℕ
-obs_eq_sources equations = map (λ e. e.entity) equations
 
 abbrev pub variables_in : Option Block → List (Name × ℕ)
 variables_in None = []

@@ -4,24 +4,23 @@ ghost use Rattle.std.specs.Prelude.{slice_get};
 ghost use Rattle.cq_theory.specs.Canonical.{below};
 ghost use Rattle.cq_theory.specs.Parts.{equation_of};
 ghost use Rattle.cq_theory.specs.Resolved.{entity_term_in, resolved};
-ghost use Rattle.cq_query.specs.Groups.{positions, AreGroups};
+ghost use Rattle.cq_theory.specs.Groups.{positions, AreGroups};
 ghost use Rattle.cq_query.specs.Assigned.{IsAssigned};
 ghost use Rattle.cq_query.specs.Index.{IsIndex};
 ghost use Rattle.cq_query.specs.Puts.{alone};
-ghost use Rattle.cq_query.specs.Translation.{edge_sources};
+ghost use Rattle.cq_theory.specs.Groups.{edge_sources};
 ghost use Rattle.cq_query.specs.QueryParts.{names_of, sorts_of, type_made, entity_made, test_made, tests_made};
 ghost use Rattle.cq_query.specs.QueryParts.{scope_or_none, attribute_made, key_made, key_made_at, blocks_made};
 ghost use Rattle.cq_query.specs.QueryParts.{assigned_in};
 
 use crate::assigned::{Assigned, find_assigned, make_assigned};
-use crate::groups::Groups;
 use crate::index::{Index, find_attribute};
 use crate::parts::Clause;
 use crate::query::Block;
 use crate::scopes::Scope;
 use cq_base::{Name, Raw, Seq};
 use cq_theory::lookup::{build, type_term};
-use cq_theory::{Con, Edge, EntTerm, Equation, Schema, Term, TypeTerm};
+use cq_theory::{Con, Edge, EntTerm, Equation, Groups, Schema, Term, TypeTerm};
 use std::alloc::{AllocError, Global};
 
 /// An equation of two terms of one kind, which they are where the parts break no rule.

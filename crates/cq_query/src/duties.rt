@@ -3,7 +3,7 @@ ghost use Rattle.std.specs.Prelude.{◌≡◌, ◌<◌, ◌++◌, ◌∷◌, [],
 ghost use Rattle.std.specs.List.{flat_map};
 ghost use Rattle.cq_theory.specs.declared.presentation.Sort.TheVariants.{Entity};
 ghost use Rattle.cq_theory.specs.Presentation.{IsPresentation};
-ghost use Rattle.cq_query.specs.Groups.{positions};
+ghost use Rattle.cq_theory.specs.Groups.{positions};
 ghost use Rattle.cq_query.specs.Translation.{key_sources, path_sources, observation_sources, variables_at, tests_at};
 ghost use Rattle.cq_query.specs.Translation.{assigned, variable_terms, along, translated};
 ghost use Rattle.cq_query.specs.Duties.{equal_terms, frozen as frozen_at, key_duties, path_duties, observation_duties};

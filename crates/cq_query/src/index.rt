@@ -1,18 +1,17 @@
 //! Clauses by the attribute or foreign key to which they give something.
 ghost use Rattle.std.specs.Prelude.{◌≡◌, ◌+◌, ◌<◌, ◌≤◌, ◌^◌, All, IfOk, length, map, option_copied};
 ghost use Rattle.std.specs.List.{list_any};
-ghost use Rattle.cq_query.specs.Groups.{AreGroups};
+ghost use Rattle.cq_theory.specs.Groups.{AreGroups};
 ghost use Rattle.cq_query.specs.QueryParts.{first_of, attribute_given as given_attribute, key_given as given_key};
 ghost use Rattle.cq_query.specs.QueryParts.{attribute_in, has_key as key_there};
 ghost use Rattle.cq_query.specs.Index.{IsIndex, at_place, is_at_place, attribute_number as number_of_attribute};
 ghost use Rattle.cq_query.specs.Index.{key_number as number_of_key, attribute_owner as owner_attribute};
 ghost use Rattle.cq_query.specs.Index.{key_owner as owner_key};
 
-use crate::groups::Groups;
 use crate::missing::{attribute_given, key_given};
 use crate::parts::Clause;
 use cq_base::Raw;
-use cq_theory::{Schema, Symbol};
+use cq_theory::{Groups, Schema, Symbol};
 use std::alloc::{AllocError, Global};
 
 /// The places of the clauses of each attribute and of each foreign key of the target.

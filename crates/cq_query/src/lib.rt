@@ -8,7 +8,6 @@ mod coeval;
 mod copies;
 mod duties;
 mod given;
-mod groups;
 mod index;
 pub mod laws;
 mod making;

@@ -1,7 +1,7 @@
 //! The blocks of a query, by its parts after the entities.
 ghost use Rattle.std.specs.Prelude.{ℕ, ◌≡◌, ◌+◌, ◌<◌, ◌^◌, ◌⊎◌, All, IfOk, IfErr, Some, None, length, map};
-ghost use Rattle.cq_query.specs.Groups.{AreGroups};
-ghost use Rattle.cq_query.specs.Translation.{edge_sources, path_eq_sources, obs_eq_sources};
+ghost use Rattle.cq_theory.specs.Groups.{AreGroups};
+ghost use Rattle.cq_theory.specs.Groups.{edge_sources, path_eq_sources, obs_eq_sources};
 ghost use Rattle.cq_query.specs.QueryParts.{scopes_of, blocks_made, clauses_and_rest_fault, variables_and_rest_fault};
 
 use crate::blocks::build_blocks;

@@ -4,10 +4,10 @@ ghost use Rattle.std.specs.Prelude.{slice_get};
 ghost use Rattle.std.specs.List.{list_any};
 ghost use Rattle.cq_theory.specs.Canonical.{below};
 ghost use Rattle.cq_theory.specs.Resolve.{or_else};
-ghost use Rattle.cq_query.specs.Groups.{positions, AreGroups};
+ghost use Rattle.cq_theory.specs.Groups.{positions, AreGroups};
 ghost use Rattle.cq_query.specs.Assigned.{IsAssigned};
 ghost use Rattle.cq_query.specs.Index.{IsIndex};
-ghost use Rattle.cq_query.specs.Translation.{edge_sources};
+ghost use Rattle.cq_theory.specs.Groups.{edge_sources};
 ghost use Rattle.cq_query.specs.QueryParts.{is_attribute as is_the_attribute, is_key as is_the_key};
 ghost use Rattle.cq_query.specs.QueryParts.{attribute_given as given_attribute, key_given as given_key};
 ghost use Rattle.cq_query.specs.QueryParts.{assigned_given as given_assigned, first_of, missing_attribute, missing_key};
@@ -15,13 +15,12 @@ ghost use Rattle.cq_query.specs.QueryParts.{missing_variable, missing_variables,
 ghost use Rattle.cq_query.specs.QueryParts.{missing_assigned, missing_in, missing_at, missing_part};
 
 use crate::assigned::{Assigned, find_assigned, make_assigned};
-use crate::groups::Groups;
 use crate::index::{Index, find_attribute, has_key};
 use crate::owners::missing;
 use crate::parts::Clause;
 use crate::scopes::Scope;
 use cq_base::{Name, Raw};
-use cq_theory::{ArrowRefusal, Schema, Symbol};
+use cq_theory::{ArrowRefusal, Groups, Schema, Symbol};
 use std::alloc::Global;
 
 fn is_attribute(attribute: usize, symbol: Option<Symbol>) -> bool

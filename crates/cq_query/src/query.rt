@@ -2,18 +2,17 @@
 ghost use Rattle.std.specs.Prelude.{◌≡◌, ◌+◌, ◌<◌, ◌≤◌, ◌^◌, ◌⊎◌, All, IfOk, IfErr, Some, None, length, slice_get};
 ghost use Rattle.std.specs.Prelude.{option_copied};
 ghost use Rattle.cq_query.specs.QueryParts.{query_fault, query_made};
-ghost use Rattle.cq_query.specs.Groups.{positions, places};
+ghost use Rattle.cq_theory.specs.Groups.{positions, places};
 ghost use Rattle.cq_query.specs.Translation.{variables_at, key_sources, attribute_sources, path_sources};
 ghost use Rattle.cq_query.specs.Translation.{observation_sources};
 ghost use Rattle.cq_query.specs.IsQuery.{IsQuery};
 
-use crate::groups::Groups;
 use crate::making::make_blocks;
 use crate::owners::make_entities;
 use crate::parts::QueryParts;
 use crate::tables::Tables;
 use cq_base::{Name, Seq};
-use cq_theory::{ArrowRefusal, Edge, EntTerm, Equation, ObsEq, PathEq, Schema, TypeTerm};
+use cq_theory::{ArrowRefusal, Edge, EntTerm, Equation, Groups, ObsEq, PathEq, Schema, TypeTerm};
 use std::alloc::Global;
 use std::marker::Model;
 use std::rc::Rc;
@@ -49,8 +48,8 @@ impl Model for Query {
     ghost use Rattle.cq_theory.specs.contracts.term.TypeTerm as type_term;
     ghost use Rattle.cq_query.specs.QueryData.{QueryData};
     ghost use Rattle.cq_query.specs.IsQuery.{IsQuery};
-    ghost use Rattle.cq_query.specs.Groups.{AreGroups};
-    ghost use Rattle.cq_query.specs.Translation.{edge_sources, path_eq_sources, obs_eq_sources};
+    ghost use Rattle.cq_theory.specs.Groups.{AreGroups};
+    ghost use Rattle.cq_theory.specs.Groups.{edge_sources, path_eq_sources, obs_eq_sources};
 
     ghost Value = { QueryData };
 

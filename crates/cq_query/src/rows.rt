@@ -5,7 +5,7 @@ ghost use Rattle.std.specs.List.{flat_map};
 ghost use Rattle.cq_theory.specs.declared.constant.Con.TheVariants.{Named};
 ghost use Rattle.cq_theory.specs.declared.value.Value.TheVariants as value_of;
 ghost use Rattle.cq_theory.specs.Canonical.{below};
-ghost use Rattle.cq_query.specs.Groups.{positions};
+ghost use Rattle.cq_theory.specs.Groups.{positions};
 ghost use Rattle.cq_query.specs.Puts.{generators_from, put, put_equation, put_type};
 ghost use Rattle.cq_query.specs.Translation.{key_sources, attribute_sources, tests_at, assigned, attribute_term};
 ghost use Rattle.cq_query.specs.Duties.{equal_terms};

@@ -34,3 +34,5 @@ pub mod NodeLists
 pub mod OneModel
 pub mod Depths
 pub mod Finite
+pub mod Grouped
+pub mod Beginning

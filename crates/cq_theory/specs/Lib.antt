@@ -25,3 +25,4 @@ pub mod TypesideParts
 pub mod Paths
 pub mod SchemaParts
 pub mod Routes
+pub mod Groups

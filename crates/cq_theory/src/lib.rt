@@ -1,7 +1,9 @@
 //! Typesides, schemas, presentations, terms and values.
 #![tactic(auto)]
 
+pub mod beginnings;
 pub mod constant;
+pub mod groups;
 pub mod laws;
 pub mod lookup;
 pub mod parts;
@@ -13,7 +15,11 @@ pub mod typeside;
 pub mod value;
 pub mod value_text;
 
+pub use beginnings::{
+    attributes_by_entity, keys_by_entity, observation_equations_by_entity, path_equations_by_entity,
+};
 pub use constant::{Con, is_reserved};
+pub use groups::Groups;
 pub use lookup::{ArrowRefusal, SizeRefusal, Symbol, TermRefusal, TheoryRefusal, resolve};
 pub use parts::{
     ArrowImage, ArrowPart, MappingParts, ObsPart, PresentationParts, SchemaParts, TypesideParts,

@@ -1,10 +1,10 @@
 use Rattle.std.proofs.Common.{ℕ, List, ◌≡◌, IfOk, map, subst}
 use Rattle.std.specs.Prelude.{slice_get}
 use Rattle.cq_query.specs.declared.query.Block.{Block}
-use Rattle.cq_query.specs.Groups.{positions}
-use Rattle.cq_query.specs.Translation.{edge_sources}
+use Rattle.cq_theory.specs.Groups.{positions}
+use Rattle.cq_theory.specs.Groups.{edge_sources}
 use Rattle.cq_query.specs.QueryParts.{scope_or_none, attribute_made, key_made}
-use Rattle.cq_query.proofs.Lists.{group_within, group_read}
+use Rattle.cq_theory.proofs.Grouped.{group_within, group_read}
 use Rattle.cq_query.proofs.blocks.make_block_at.Goals as goal
 
 pub of-attributes-requires : goal.of-attributes-requires

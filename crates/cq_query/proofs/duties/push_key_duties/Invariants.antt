@@ -1,7 +1,7 @@
 use Rattle.std.proofs.Common.{◌≡◌, ◌++◌, take}
 use Rattle.std.specs.Prelude.{slice_get}
 use Rattle.std.specs.List.{flat_map}
-use Rattle.cq_query.specs.Groups.{positions}
+use Rattle.cq_theory.specs.Groups.{positions}
 use Rattle.cq_query.specs.Translation.{key_sources}
 use Rattle.cq_query.specs.Duties.{key_duties}
 use Rattle.cq_query.proofs.duties.push_key_duties.Given as goal

@@ -2,7 +2,7 @@ use Rattle.std.proofs.Common.{ℕ, ◌≡◌, ◌+◌, map, length, refl, ap, �
 use Rattle.cq_theory.specs.SchemaData.{SchemaData}
 use Rattle.cq_query.specs.declared.parts.Clause.{Clause}
 use Rattle.cq_query.specs.Index.{key_owner}
-use Rattle.cq_query.proofs.Grouping.{groups_as}
+use Rattle.cq_theory.proofs.Beginning.{groups_as}
 use Rattle.cq_query.proofs.Indexing.{keys_within}
 use Rattle.cq_query.proofs.index.index_keys.Goals as goal
 

@@ -1,9 +1,9 @@
 use Rattle.std.proofs.Common.{ℕ, List, None, Some, ◌≡◌, ◌⊎◌, IfOk, IfErr, subst}
 use Rattle.cq_theory.specs.declared.lookup.ArrowRefusal.TheVariants.{Memory}
-use Rattle.cq_query.specs.Groups.{positions}
-use Rattle.cq_query.specs.Translation.{edge_sources}
+use Rattle.cq_theory.specs.Groups.{positions}
+use Rattle.cq_theory.specs.Groups.{edge_sources}
 use Rattle.cq_query.specs.QueryParts.{missing_in}
-use Rattle.cq_query.proofs.Lists.{group_within, group_read}
+use Rattle.cq_theory.proofs.Grouped.{group_within, group_read}
 use Rattle.cq_query.proofs.missing.check_entity.Goals as goal
 
 pub of-attributes-requires : goal.of-attributes-requires

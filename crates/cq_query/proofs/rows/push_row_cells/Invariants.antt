@@ -1,5 +1,5 @@
 use Rattle.std.proofs.Common.{◌≡◌, ◌++◌, map, take}
-use Rattle.cq_query.specs.Groups.{positions}
+use Rattle.cq_theory.specs.Groups.{positions}
 use Rattle.cq_query.specs.Translation.{attribute_sources}
 use Rattle.cq_query.specs.Coeval.{cell_equation}
 use Rattle.cq_query.proofs.rows.push_row_cells.Given as goal

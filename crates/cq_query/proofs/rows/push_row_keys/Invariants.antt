@@ -1,6 +1,6 @@
 use Rattle.std.proofs.Common.{◌≡◌, ◌++◌, take}
 use Rattle.std.specs.List.{flat_map}
-use Rattle.cq_query.specs.Groups.{positions}
+use Rattle.cq_theory.specs.Groups.{positions}
 use Rattle.cq_query.specs.Translation.{key_sources}
 use Rattle.cq_query.specs.Coeval.{key_equations}
 use Rattle.cq_query.proofs.rows.push_row_keys.Given as goal

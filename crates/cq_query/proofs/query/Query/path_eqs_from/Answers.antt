@@ -1,8 +1,8 @@
 use Rattle.std.proofs.Common.{◌<◌, length, sym, ap, subst, ◌∙◌}
 use Rattle.cq_query.specs.QueryData.{QueryData}
-use Rattle.cq_query.specs.Groups.{positions}
+use Rattle.cq_theory.specs.Groups.{positions}
 use Rattle.cq_query.specs.Translation.{path_sources}
-use Rattle.cq_query.proofs.Lists.{group_within, group_read}
+use Rattle.cq_theory.proofs.Grouped.{group_within, group_read}
 use Rattle.cq_query.proofs.query.Query.path_eqs_from.Goals as goal
 
 pub of-requires : goal.of-requires

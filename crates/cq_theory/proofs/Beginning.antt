@@ -8,9 +8,9 @@ use Rattle.cq_theory.specs.declared.schema.PathEq.{PathEq}
 use Rattle.cq_theory.specs.declared.schema.ObsEq.{ObsEq}
 use Rattle.cq_theory.specs.SchemaData.{SchemaData as Schema}
 use Rattle.cq_theory.specs.Schema.{IsSchema}
-use Rattle.cq_query.specs.declared.groups.Groups.{Groups}
-use Rattle.cq_query.specs.Groups.{AreGroups}
-use Rattle.cq_query.specs.Translation.{edge_sources, path_eq_sources, obs_eq_sources}
+use Rattle.cq_theory.specs.declared.groups.Groups.{Groups}
+use Rattle.cq_theory.specs.Groups.{AreGroups}
+use Rattle.cq_theory.specs.Groups.{edge_sources, path_eq_sources, obs_eq_sources}
 
 abbrev AreBelow : ℕ → List ℕ → Type 0
 AreBelow count sources = All (λ source. source < count) sources

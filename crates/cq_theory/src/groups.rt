@@ -1,7 +1,7 @@
 //! Numbers grouped by what they belong to.
 ghost use Rattle.std.specs.Prelude.{◌≡◌, ◌<◌, [], map, length, All, IfOk, slice_get};
 ghost use Rattle.cq_theory.specs.Canonical.{below};
-ghost use Rattle.cq_query.specs.Groups.{positions, places, AreGroups};
+ghost use Rattle.cq_theory.specs.Groups.{positions, places, AreGroups};
 
 use cq_base::Seq;
 use std::alloc::{AllocError, Global};
@@ -9,14 +9,14 @@ use std::alloc::{AllocError, Global};
 /// For each owner the places at which it stands in a list, and for each place of the list how often its owner stands
 /// before it.
 #[derive(Drop)]
-pub(crate) struct Groups {
+pub struct Groups {
     pub groups: Seq<Seq<usize>>,
     pub places: Seq<usize>,
 }
 
 impl Groups {
     /// The groups of a list of owners, each of which is below `count`.
-    pub(crate) fn new(alloc: Global, count: usize, owners: &[u32]) -> Result<Groups, AllocError>
+    pub fn new(alloc: Global, count: usize, owners: &[u32]) -> Result<Groups, AllocError>
         requires { All (λ owner. owner < count) owners.now }
         ensures { IfOk result (λ made. AreGroups owners.now count made) }
     {
@@ -34,7 +34,7 @@ impl Groups {
     }
 
     /// The places at which an owner stands.
-    pub(crate) fn of(&self, owner: usize) -> &[usize]
+    pub fn of(&self, owner: usize) -> &[usize]
         requires { owner < length self.now.groups }
         ensures { slice_get self.now.groups owner ≡ Some result.now }
     {

@@ -1,7 +1,7 @@
 use Rattle.std.proofs.Common.{◌≡◌, map, take}
 use Rattle.cq_theory.specs.Canonical.{below}
-use Rattle.cq_query.specs.Groups.{positions, place_of}
-use Rattle.cq_query.proofs.groups.Groups.new.Given as goal
+use Rattle.cq_theory.specs.Groups.{positions, place_of}
+use Rattle.cq_theory.proofs.groups.Groups.new.Given as goal
 
 abbrev pub invariant-loop-number : goal.invariant-loop-number
 invariant-loop-number l =

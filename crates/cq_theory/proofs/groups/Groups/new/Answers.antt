@@ -1,9 +1,9 @@
 use Rattle.std.proofs.Common.{ℕ, List, [], ◌∷◌, ◌++◌, ◌≡◌, ◌<◌, map, length, get_or, refl, sym, ap, ◌∙◌, arith}
 use Rattle.std.proofs.lemmas.List.{map-set, length-map, get_or-map}
 use Rattle.std.proofs.lemmas.List.FromFn.{length-map-range_with_len, map-range_with_len_more}
-use Rattle.cq_query.specs.Groups.{place_of}
-use Rattle.cq_query.proofs.Lists.{grouped_more, place_read}
-use Rattle.cq_query.proofs.groups.Groups.new.Goals as goal
+use Rattle.cq_theory.specs.Groups.{place_of}
+use Rattle.cq_theory.proofs.Grouped.{grouped_more, place_read}
+use Rattle.cq_theory.proofs.groups.Groups.new.Goals as goal
 
 pub index_mut-group-requires : goal.index_mut-group-requires
 index_mut-group-requires c =
