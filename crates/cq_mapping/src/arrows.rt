@@ -4,7 +4,7 @@ ghost use Rattle.std.specs.Prelude.{option_map};
 ghost use Rattle.cq_theory.specs.Resolve.{or_else, in_part};
 ghost use Rattle.cq_theory.specs.Schema.{edge_names};
 ghost use Rattle.cq_mapping.specs.MappingParts.{first_missing, variables_of, arrow_fault as fault_of_arrow};
-ghost use Rattle.cq_mapping.specs.MappingParts.{arrow_part_fault, arrows_fault, given_arrows, path_term};
+ghost use Rattle.cq_mapping.specs.MappingParts.{arrows_fault, given_arrows, path_term};
 ghost use Rattle.cq_mapping.specs.MappingParts.{made_path as path_made, made_term as term_made, made_key};
 ghost use Rattle.cq_mapping.specs.MappingParts.{made_attribute, arrows_and_rest_fault};
 
@@ -50,29 +50,6 @@ fn check_arrow(
     }
 }
 
-/// Adds the foreign key or attribute to which part `number` gives an image to the table of those that have one.
-fn add_arrow(
-    alloc: Global,
-    source: &Schema,
-    target: &Schema,
-    entities: &[u32],
-    table: &mut Names,
-    number: u32,
-    part: &ArrowPart,
-) -> Result<(), TheoryRefusal>
-    requires { length table.old < 2 ^ 32 - 1 }
-    ensures ok { IfOk result (λ _. (arrow_part_fault source.now target.now entities.now table.old number part.now
-        ≡ None) × (table.new ≡ table.old ++ part.now.name ∷ [])) }
-    ensures refused { IfErr result (λ refusal. (refusal ≡ TheoryRefusal.Memory)
-        ⊎ (arrow_part_fault source.now target.now entities.now table.old number part.now ≡ Some refusal)) }
-{
-    declare(table, number, &part.name)?;
-    match check_arrow(alloc, source, target, entities, number, part) {
-        Ok(()) => Ok(()),
-        Err(refusal) => Err(refusal),
-    }
-}
-
 /// The table of the foreign keys and attributes that have an image by the parts, the first of which is part `first`.
 fn add_arrows(
     alloc: Global,
@@ -91,7 +68,8 @@ fn add_arrows(
     let mut table = Names::new(alloc);
     let mut number = first;
     for part in parts {
-        add_arrow(alloc, source, target, entities, &mut table, number, part)?;
+        declare(&mut table, number, &part.name)?;
+        check_arrow(alloc, source, target, entities, number, part)?;
         number += 1;
     }
     Ok(table)

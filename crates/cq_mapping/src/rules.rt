@@ -2,6 +2,7 @@
 ghost use Rattle.std.specs.Prelude.{◌≡◌, ◌&&◌, ◌∷◌, [], Some, slice_index};
 ghost use Rattle.cq_theory.specs.declared.presentation.Sort.TheVariants as declared_sort;
 ghost use Rattle.cq_theory.specs.Resolve.{raw_sort, are_of_one_sort, same_sort as is_same_sort};
+ghost use Rattle.cq_theory.specs.Resolve.{sort_named, entity_in};
 ghost use Rattle.cq_theory.specs.Routes.{is_at as is_at_entity};
 ghost use Rattle.cq_mapping.specs.MappingParts.{has_unknown_image as unknown_image};
 ghost use Rattle.cq_mapping.specs.MappingParts.{has_wrong_count_image as wrong_count_image};
@@ -223,18 +224,20 @@ fn is_right_attribute(
         )
 }
 
-/// Whether the image can stand for the symbol in the block of an entity.
+/// Whether the part's image can stand for the symbol in the part's block.
 fn is_right(
     source: &Schema,
     target: &Schema,
     entities: &[u32],
     variables: &Names,
     symbol: Option<Symbol>,
-    block: Option<u32>,
-    image: &ArrowImage,
+    part: &ArrowPart,
 ) -> bool
-    ensures { result ≡ right_image source.now target.now entities.now variables.now symbol block image.now }
+    ensures { result ≡ right_image source.now target.now entities.now variables.now symbol
+        (entity_in (sort_named source.now part.now.block)) part.now.image }
 {
+    let block = entity_of_sort(source.find_sort(&part.block));
+    let image = &part.image;
     match symbol {
         Some(Symbol::Key(key)) => match source.keys.as_slice().get(key as usize) {
             Some(edge) => is_right_key(target, entities, edge, block, image),
@@ -269,16 +272,7 @@ pub(crate) fn arrow_fault_over(
     if has_wrong_count_image(target, &part.image) {
         return Some(TermRefusal::WrongCount);
     }
-    let entity = entity_of_sort(block);
-    if !is_right(
-        source,
-        target,
-        entities,
-        variables,
-        symbol,
-        entity,
-        &part.image,
-    ) {
+    if !is_right(source, target, entities, variables, symbol, part) {
         return Some(TermRefusal::WrongSort);
     }
     if has_reserved_image(target, &part.image) {

@@ -51,7 +51,8 @@ impl Model for Typeside {
 
     // Each table has the names of its list.
     ghost invariant = { λ t.
-        let typeside : TypesideData = record { types = t.types; constants = t.constants; functions = t.functions; open_type = t.open_type } in
+        let typeside : TypesideData =
+        record { types = t.types; constants = t.constants; functions = t.functions; open_type = t.open_type } in
         IsTypeside typeside
         × (t.type_table ≡ t.types)
         × (t.constant_table ≡ constant_names typeside)
