@@ -29,7 +29,8 @@ pub fn explanation(
 ) -> Result<Vec<u8>, QuestionRefusal>
     requires { IsInitial instance.now }
     ensures explained { IfOk result (λ text. Explains instance.now left.now right.now text.items) }
-    ensures only { (equation : Equation) → Asks instance.now.schema instance.now.presentation left.now right.now equation
+    ensures only { (equation : Equation)
+        → Asks instance.now.schema instance.now.presentation left.now right.now equation
         → MatchResult result (λ text. IsExplanation instance.now equation text.items)
         (λ refusal. refusal ≡ QuestionRefusal.Memory) }
 {

@@ -32,10 +32,10 @@ const USAGE: &str = "usage: cqlrun run FILE [--depth K] [--only csv|cql]\n";
 /// The run of an example is that of a file with its text, at depth 16, but that the summary of its instances is written
 /// in place of their transcripts.
 ///
-/// A question is answered about one of the instances of a file: the text that explains whether two terms are equal in it
-/// is written, as `cq_explain::explanation` makes it, in place of their transcripts, and nothing is exported: no exporter
-/// is dropped or written to. Where no instance declaration has the name, the line of code 37 is written, and where the
-/// two texts make no equation over the instance's presentation, that of code 38, both with `Refused`.
+/// A question is answered about one of the instances of a file: the text that explains whether two terms are equal in
+/// it is written, as `cq_explain::explanation` makes it, in place of their transcripts, and nothing is exported: no
+/// exporter is dropped or written to. Where no instance declaration has the name, the line of code 37 is written, and
+/// where the two texts make no equation over the instance's presentation, that of code 38, both with `Refused`.
 ///
 /// The files of an import are read when its declaration's turn comes. One that is absent, too long or can't be read
 /// ends the run as the file itself does, with `Read`.
