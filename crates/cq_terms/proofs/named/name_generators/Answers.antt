@@ -1,6 +1,6 @@
 use Rattle.std.proofs.Common.{arith}
-use Rattle.cq_push.proofs.Naming.{named_more}
-use Rattle.cq_push.proofs.generators.name_generators.Goals as goal
+use Rattle.cq_terms.proofs.Naming.{named_more}
+use Rattle.cq_terms.proofs.named.name_generators.Goals as goal
 
 pub loop-sort-preserved : goal.loop-sort-preserved
 loop-sort-preserved c = (

@@ -1,5 +1,5 @@
 use Rattle.std.proofs.Common.{◌≡◌, take}
-use Rattle.cq_steps.proofs.side.+is_same_type_term.Given as goal
+use Rattle.cq_terms.proofs.same.+is_same_type_term.Given as goal
 
 abbrev pub decreases-is_same_type_term : goal.decreases-is_same_type_term
 decreases-is_same_type_term l = goal.size-is_same_type_term l
