@@ -4,6 +4,7 @@ ghost use Rattle.std.specs.Prelude.{OnOk};
 ghost use Rattle.std.specs.List.{flat_map};
 ghost use Rattle.cq_tables.specs.Content.{live_of};
 ghost use Rattle.cq_tables.specs.Content.{entity_of as row_entity};
+ghost use Rattle.cq_theory.specs.Groups.{AreGroups, positions, obs_eq_sources};
 ghost use Rattle.cq_theory.specs.Presentation.{IsPresentation};
 ghost use Rattle.cq_model.specs.NodeTerms.{equation_sides};
 ghost use Rattle.cq_model.specs.Pushing.{HavePlaces};
@@ -13,7 +14,7 @@ use crate::nodes::{NodeList, push_equation};
 use crate::places::Places;
 use cq_base::Seq;
 use cq_tables::Tables;
-use cq_theory::{Equation, Presentation, Schema};
+use cq_theory::{Equation, Groups, Presentation, Schema, observation_equations_by_entity};
 use std::alloc::{AllocError, Global};
 
 /// Adds the equations between type terms of a presentation.
@@ -43,27 +44,36 @@ pub fn push_given(
     Ok(())
 }
 
-/// Adds the observation equations of an entity at a row.
+/// The numbers of an entity, and none past the last entity.
+fn group_at(groups: &[Seq<usize>], entity: usize) -> &[usize]
+    ensures { result.now ≡ slice_index_or groups.now entity [] }
+{
+    match groups.get(entity) {
+        Some(numbers) => numbers.as_slice(),
+        None => &[],
+    }
+}
+
+/// Adds at a row the observation equations of its entity, which have these numbers.
 fn push_row(
     alloc: Global,
     schema: &Schema,
     tables: &Tables,
     places: &Places,
-    entity: u32,
+    numbers: &[usize],
     row: u64,
     list: &mut NodeList,
 ) -> Result<(), AllocError>
     requires places { HavePlaces schema.now tables.now places.now (length list.old.nodes) }
     requires live { live_of tables.now row ≡ true }
-    requires entity { row_entity tables.now row ≡ entity }
+    requires numbers { numbers.now ≡ positions (obs_eq_sources schema.now.obs_eqs) (row_entity tables.now row) }
     ensures grows { OnOk result (length list.old.nodes ≤ length list.new.nodes) }
-    ensures added { OnOk result (AddsAtRow schema.now tables.now places.now entity schema.now.obs_eqs row
-        list.old list.new) }
+    ensures added { OnOk result (AddsAtRow schema.now tables.now places.now (row_entity tables.now row)
+        schema.now.obs_eqs row list.old list.new) }
 {
-    for equation in schema.obs_eqs.as_slice() {
-        if equation.entity != entity {
-            continue;
-        }
+    let equations = schema.obs_eqs.as_slice();
+    for number in numbers {
+        let equation = &equations[*number];
         push_equation(
             alloc,
             schema,
@@ -84,17 +94,21 @@ fn push_entity(
     schema: &Schema,
     tables: &Tables,
     places: &Places,
-    entity: u32,
+    groups: &Groups,
+    entity: usize,
     rows: &[u64],
     list: &mut NodeList,
 ) -> Result<(), AllocError>
     requires places { HavePlaces schema.now tables.now places.now (length list.old.nodes) }
+    requires groups { AreGroups (obs_eq_sources schema.now.obs_eqs) (length schema.now.entities) groups.now }
     requires rows { All (λ row. (live_of tables.now row ≡ true) × (row_entity tables.now row ≡ entity)) rows.now }
     ensures grows { OnOk result (length list.old.nodes ≤ length list.new.nodes) }
     ensures added { OnOk result (AddsAtRows schema.now tables.now places.now entity rows.now list.old list.new) }
 {
+    schema.is_well_sorted();
+    let numbers = group_at(groups.groups.as_slice(), entity);
     for row in rows {
-        push_row(alloc, schema, tables, places, entity, *row, list)?;
+        push_row(alloc, schema, tables, places, numbers, *row, list)?;
     }
     Ok(())
 }
@@ -116,13 +130,15 @@ pub fn push_observations(
     ensures added { OnOk result (AddsObservations schema.now tables.now places.now order.now
         (length order.now) list.old list.new) }
 {
+    let groups = observation_equations_by_entity(alloc, schema)?;
     for (entity, rows) in order.iter().enumerate() {
         push_entity(
             alloc,
             schema,
             tables,
             places,
-            entity as u32,
+            &groups,
+            entity,
             rows.as_slice(),
             list,
         )?;
