@@ -14,33 +14,33 @@ use Rattle.cq_model.proofs.PushedTerms.{HavePlaces-wider}
 use Rattle.cq_model.proofs.equations.push_row.Goals as goal
 
 pub loop-number-init : goal.loop-number-init
-loop-number-init c = row_none c.args.schema.now c.args.tables.now c.args.places.now (row_entity c.args.tables.now c.args.row) c.args.row c.args.list.now
+loop-number-init c = row_none c.args.ground.now.schema.now c.args.ground.now.tables.now c.args.ground.now.places.now (row_entity c.args.ground.now.tables.now c.args.row) c.args.row c.args.list.now
 
 pub bounds-equations-number : goal.bounds-equations-number
 bounds-equations-number c =
-    let S : Schema = c.args.schema.now in
+    let S : Schema = c.args.ground.now.schema.now in
     let numbers : List ℕ = c.args.numbers.now in
     let i : ℕ = c.loop-number.number-index in
     let items : c.as_slice-equations.result.now ≡ S.obs_eqs = c.as_slice-equations.ensures ∙ ap (λ (s : Schema). s.obs_eqs) c.schema.view_is in
     let inside : get_or numbers i 0 < length S.obs_eqs =
-    number_within S.obs_eqs (row_entity c.args.tables.now c.args.row) numbers c.requires.numbers i (get_or numbers i 0) (slice_get-get_or numbers i 0 c.loop-number-test.true) in
+    number_within S.obs_eqs (row_entity c.args.ground.now.tables.now c.args.row) numbers c.requires.numbers i (get_or numbers i 0) (slice_get-get_or numbers i 0 c.loop-number-test.true) in
     omega (arith, inside, ap length items)
 
 pub offset_bounds-equations-number : goal.offset_bounds-equations-number
 offset_bounds-equations-number c =
-    let S : Schema = c.args.schema.now in
+    let S : Schema = c.args.ground.now.schema.now in
     let numbers : List ℕ = c.args.numbers.now in
     let i : ℕ = c.loop-number.number-index in
     let items : c.as_slice-equations.result.now ≡ S.obs_eqs = c.as_slice-equations.ensures ∙ ap (λ (s : Schema). s.obs_eqs) c.schema.view_is in
     let inside : get_or numbers i 0 < length S.obs_eqs =
-    number_within S.obs_eqs (row_entity c.args.tables.now c.args.row) numbers c.requires.numbers i (get_or numbers i 0) (slice_get-get_or numbers i 0 c.loop-number-test.true) in
+    number_within S.obs_eqs (row_entity c.args.ground.now.tables.now c.args.row) numbers c.requires.numbers i (get_or numbers i 0) (slice_get-get_or numbers i 0 c.loop-number-test.true) in
     omega (arith, inside, ap length items, c.as_slice-equations.type_inv)
 
 pub push_equation-requires : goal.push_equation-requires
 push_equation-requires c =
-    let S : Schema = c.args.schema.now in
-    let m : Content = c.args.tables.now in
-    let places : Places = c.args.places.now in
+    let S : Schema = c.args.ground.now.schema.now in
+    let m : Content = c.args.ground.now.tables.now in
+    let places : Places = c.args.ground.now.places.now in
     let entity : ℕ = row_entity m c.args.row in
     let numbers : List ℕ = c.args.numbers.now in
     let i : ℕ = c.loop-number.number-index in
@@ -62,9 +62,9 @@ push_equation-requires c =
 
 pub loop-number-preserved : goal.loop-number-preserved
 loop-number-preserved c =
-    let S : Schema = c.args.schema.now in
-    let m : Content = c.args.tables.now in
-    let places : Places = c.args.places.now in
+    let S : Schema = c.args.ground.now.schema.now in
+    let m : Content = c.args.ground.now.tables.now in
+    let places : Places = c.args.ground.now.places.now in
     let entity : ℕ = row_entity m c.args.row in
     let numbers : List ℕ = c.args.numbers.now in
     let i : ℕ = c.loop-number.number-index in
@@ -86,9 +86,9 @@ returns-clause-grows c = c.loop-number.invariant.grows
 
 pub returns-clause-added : goal.returns-clause-added
 returns-clause-added c =
-    let S : Schema = c.args.schema.now in
-    let entity : ℕ = row_entity c.args.tables.now c.args.row in
+    let S : Schema = c.args.ground.now.schema.now in
+    let entity : ℕ = row_entity c.args.ground.now.tables.now c.args.row in
     let numbers : List ℕ = c.args.numbers.now in
     let all : take c.loop-number.number-index numbers ≡ numbers = take_all c.loop-number.number-index numbers c.loop-number-test.false in
-    let are = subst (λ (l : List ℕ). AreAtRow S c.args.tables.now c.args.places.now entity c.args.row (found_at S.obs_eqs l) c.args.list.now c.loop-number.list) all c.loop-number.invariant in
-    (at_row_of_group S c.args.tables.now c.args.places.now entity c.args.row numbers c.args.list.now c.loop-number.list c.requires.numbers are).added
+    let are = subst (λ (l : List ℕ). AreAtRow S c.args.ground.now.tables.now c.args.ground.now.places.now entity c.args.row (found_at S.obs_eqs l) c.args.list.now c.loop-number.list) all c.loop-number.invariant in
+    (at_row_of_group S c.args.ground.now.tables.now c.args.ground.now.places.now entity c.args.row numbers c.args.list.now c.loop-number.list c.requires.numbers are).added

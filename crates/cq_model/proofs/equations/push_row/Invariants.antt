@@ -5,4 +5,4 @@ use Rattle.cq_model.proofs.NumberedEquations.{found_at}
 use Rattle.cq_model.proofs.equations.push_row.Given as goal
 
 abbrev pub invariant-loop-number : goal.invariant-loop-number
-invariant-loop-number l = AreAtRow l.schema l.tables l.places (row_entity l.tables l.row) l.row (found_at l.schema.obs_eqs (take l.number-index l.numbers)) l.initial.list l.list
+invariant-loop-number l = AreAtRow l.ground.schema.now l.ground.tables.now l.ground.places.now (row_entity l.ground.tables.now l.row) l.row (found_at l.ground.schema.now.obs_eqs (take l.number-index l.numbers)) l.initial.list l.list
