@@ -15,7 +15,7 @@ use Rattle.cq_theory.specs.TypeTerm.{substituted}
 use Rattle.cq_theory.proofs.Beginning.{obs_eqs_within}
 use Rattle.cq_model.specs.declared.places.Places.{Places}
 use Rattle.cq_model.specs.NodeListData.{NodeListData}
-use Rattle.cq_model.specs.Equating.{sides_at, AddsSides}
+use Rattle.cq_model.specs.Equating.{AddsSides}
 use Rattle.cq_model.proofs.AddedSides.{AreAtRow}
 use Rattle.cq_model.proofs.IndexedRows.{positions_at as group_at}
 use Rattle.cq_model.proofs.Lists.{get-map_from}

@@ -28,7 +28,8 @@ module _ (ground : Ground) where
   AddsSides P entries more old new = equating.AddsSides ground.schema.now ground.tables.now ground.places.now P entries more old new
 
   abbrev pub AddsAtRow : ℕ → List ObsEq → ℕ → NodeListData → NodeListData → Type 0
-  AddsAtRow entity equations row old new = equating.AddsAtRow ground.schema.now ground.tables.now ground.places.now entity equations row old new
+  AddsAtRow entity equations row old new =
+      equating.AddsAtRow ground.schema.now ground.tables.now ground.places.now entity equations row old new
 
   abbrev pub AddsAtRows : ℕ → List ℕ → NodeListData → NodeListData → Type 0
   AddsAtRows entity rows old new = equating.AddsAtRows ground.schema.now ground.tables.now ground.places.now entity rows old new
