@@ -22,7 +22,7 @@ use Rattle.cq_theory.proofs.OnValues.{Each, on_values, All_at}
 use Rattle.cq_theory.proofs.Sound.{is_type_some, applied_type_some}
 use Rattle.cq_theory.proofs.Values as values
 use Rattle.cq_model.specs.declared.canonical.Numbers.{Numbers}
-use Rattle.cq_model.specs.Numbering.{positions}
+use Rattle.cq_theory.specs.Groups.{positions}
 use Rattle.cq_model.specs.Given.{size_of, given}
 use Rattle.cq_model.specs.Numbers as made
 use Rattle.cq_model.proofs.LeafCells.{edge_numbers}

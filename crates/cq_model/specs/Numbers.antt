@@ -19,7 +19,7 @@ use Rattle.cq_theory.specs.declared.value.Entry.{Entry}
 use Rattle.cq_theory.specs.declared.value.Sheet.{Sheet}
 use Rattle.cq_theory.specs.Tables.{Meaning, AtRow, AtValue}
 use Rattle.cq_theory.specs.Canonical.{below}
-use Rattle.cq_model.specs.Numbering.{positions}
+use Rattle.cq_theory.specs.Groups.{positions}
 use Rattle.cq_model.specs.declared.canonical.Numbers.{Numbers}
 
 module _ (counts : List ℕ) where

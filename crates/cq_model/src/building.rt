@@ -23,7 +23,7 @@ use crate::leaves::{first_places, push_generators, push_leaves, ranks};
 use crate::nodes::NodeList;
 use crate::nulls::count_nulls;
 use crate::numbers::{NumberedRows, number_rows};
-use crate::places::Places;
+use crate::places::{Ground, Places};
 use crate::reading::{read_algebra, read_sheet, read_standings};
 use crate::standing::Standing;
 use crate::walk::least_names;
@@ -138,23 +138,13 @@ fn make_nodes(
 {
     schema.is_well_sorted();
     let (mut list, places) = place_leaves(alloc, schema, presentation, tables, numbered)?;
-    push_given(
-        alloc,
-        schema,
-        presentation,
-        tables,
-        &places,
-        entries,
-        &mut list,
-    )?;
-    push_observations(
-        alloc,
+    let ground = Ground {
         schema,
         tables,
-        &places,
-        numbered.order.as_slice(),
-        &mut list,
-    )?;
+        places: &places,
+    };
+    push_given(alloc, &ground, presentation, entries, &mut list)?;
+    push_observations(alloc, &ground, numbered.order.as_slice(), &mut list)?;
     Ok((list, places))
 }
 
