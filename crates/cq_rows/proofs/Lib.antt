@@ -17,3 +17,4 @@ pub mod Passing
 pub mod Bridge
 pub mod WellSorted
 pub mod Answered
+pub mod ByEntity

@@ -1,6 +1,7 @@
 //! The stages.
 ghost use Rattle.std.specs.Prelude.{◌≡◌, ℕ, ◌<◌, ◌≤◌, ◌^◌, length, map, Err, IfOk, OnOk, MatchBool, false, All};
 ghost use Rattle.cq_tables.specs.Content.{keys_of, entities_of, IsWhole};
+ghost use Rattle.cq_theory.specs.Groups.{path_eq_sources, AreGroups};
 ghost use Rattle.cq_theory.specs.Schema.{IsSchema};
 ghost use Rattle.cq_theory.specs.Presentation.{IsPresentation};
 ghost use Rattle.cq_rows.specs.Theory.{IsTheory};
@@ -16,7 +17,7 @@ use crate::fill::{all_filled, count_live, fill};
 use crate::settle::settle;
 use cq_base::Seq;
 use cq_tables::Tables;
-use cq_theory::{Presentation, Schema, Sort};
+use cq_theory::{Groups, Presentation, Schema, Sort, path_equations_by_entity};
 use std::alloc::{AllocError, Global};
 
 /// The most live rows at the end of a stage.
@@ -98,11 +99,13 @@ fn grow(
     alloc: Global,
     schema: &Schema,
     presentation: &Presentation,
+    groups: &Groups,
     keys: &[(u32, u32)],
     depth: u32,
 ) -> Result<(Tables, Entries, bool), RowsRefusal>
     requires theory { IsTheory (theory_of schema.now presentation.now) }
     requires keys { keys.now ≡ (theory_of schema.now presentation.now).keys }
+    requires groups { AreGroups (path_eq_sources schema.now.path_eqs) (length schema.now.entities) groups.now }
     requires range { All (λ k. (k.0 < length schema.now.entities) × (k.1 < length schema.now.entities)) keys.now }
     ensures stage { IfOk result (λ p. IsStage (theory_of schema.now presentation.now) p.0 (rows_of p.1) depth) }
     ensures closed { IfOk result (λ p. MatchBool p.2 (rows.AllFilled p.0) (rows.AllFilled p.0 → ⊥)) }
@@ -111,7 +114,7 @@ fn grow(
 {
     let (mut tables, first) = begin(alloc, schema, presentation, keys)?;
     let mut rows = Entries::new(alloc, first);
-    settle(alloc, schema, presentation, &mut tables, &mut rows)?;
+    settle(alloc, schema, presentation, groups, &mut tables, &mut rows)?;
     if count_live(&tables) > MOST_ROWS {
         return Err(RowsRefusal::TooManyRows);
     }
@@ -120,7 +123,7 @@ fn grow(
             return Ok((tables, rows, true));
         }
         fill(keys, &mut tables)?;
-        settle(alloc, schema, presentation, &mut tables, &mut rows)?;
+        settle(alloc, schema, presentation, groups, &mut tables, &mut rows)?;
         if count_live(&tables) > MOST_ROWS {
             return Err(RowsRefusal::TooManyRows);
         }
@@ -170,7 +173,8 @@ pub fn saturate(
     ensures many { result ≡ Err TooManyRows → saturated.SomeWide schema.now presentation.now depth }
 {
     let keys = key_ends(alloc, schema)?;
-    let (tables, rows, closed) = grow(alloc, schema, presentation, &keys, depth)?;
+    let groups = path_equations_by_entity(alloc, schema)?;
+    let (tables, rows, closed) = grow(alloc, schema, presentation, &groups, &keys, depth)?;
     Ok(Partial {
         tables,
         generator_rows: Seq::from_vec(rows.into_rows()),

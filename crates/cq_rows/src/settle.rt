@@ -1,6 +1,7 @@
 //! Merging, as long as some equation joins two rows.
 ghost use Rattle.std.specs.Prelude.{◌≡◌, ℕ, ◌<◌, ◌≤◌, length, IfOk, OnOk};
-ghost use Rattle.cq_tables.specs.Content.{keys_of, made_of, IsWhole};
+ghost use Rattle.cq_tables.specs.Content.{keys_of, entities_of, made_of, IsWhole};
+ghost use Rattle.cq_theory.specs.Groups.{path_eq_sources, AreGroups};
 ghost use Rattle.cq_rows.specs.Theory.{Term, IsTheory};
 ghost use Rattle.cq_rows.specs.Plain.{theory_of};
 ghost use Rattle.cq_rows.specs.Entries.{rows_of, IsCurrent, IsBehind};
@@ -11,7 +12,7 @@ use crate::entries::Entries;
 use crate::join::{join_given, join_rule, path_equations};
 use crate::waiting::{Stopped, Waiting};
 use cq_tables::Tables;
-use cq_theory::{Presentation, Schema};
+use cq_theory::{Groups, Presentation, Schema};
 use std::alloc::{AllocError, Global};
 
 // Looks again at an equation of the presentation.
@@ -122,11 +123,13 @@ fn go_on(
     Ok(())
 }
 
-// Merges what the path equations join at a row, and says whether they did.
+// Merges what the path equations of its entity join at a row, and says whether they did. A dead row has none, and one
+// that dies on the way is passed over by each equation.
 fn pass_row(
     alloc: Global,
     schema: &Schema,
     presentation: &Presentation,
+    groups: &Groups,
     tables: &mut Tables,
     rows: &mut Entries,
     waits: &mut Waiting,
@@ -134,6 +137,8 @@ fn pass_row(
 ) -> Result<bool, AllocError>
     requires theory { IsTheory (theory_of schema.now presentation.now) }
     requires keys { keys_of tables.old ≡ (theory_of schema.now presentation.now).keys }
+    requires groups { AreGroups (path_eq_sources schema.now.path_eqs) (length schema.now.entities) groups.now }
+    requires entities { entities_of tables.old ≡ length schema.now.entities }
     requires whole { IsWhole tables.old }
     requires current { IsCurrent tables.old rows.old }
     requires count { length (rows_of rows.old) ≡ length (theory_of schema.now presentation.now).generators }
@@ -141,9 +146,21 @@ fn pass_row(
     ensures { IfOk result (λ merged. Passes (theory_of schema.now presentation.now) tables.old tables.new rows.old
         rows.new merged (HoldIfLive (theory_of schema.now presentation.now) tables.old row)) }
 {
+    if !tables.live(row) {
+        return Ok(false);
+    }
     let mut merged = false;
-    for place in 0..path_equations(schema).len() {
-        let one = join_rule(alloc, schema, presentation, tables, rows, waits, row, place)?;
+    for place in groups.of(tables.entity(row) as usize) {
+        let one = join_rule(
+            alloc,
+            schema,
+            presentation,
+            tables,
+            rows,
+            waits,
+            row,
+            *place,
+        )?;
         if !one {
             continue;
         }
@@ -157,12 +174,15 @@ fn pass_rules(
     alloc: Global,
     schema: &Schema,
     presentation: &Presentation,
+    groups: &Groups,
     tables: &mut Tables,
     rows: &mut Entries,
     waits: &mut Waiting,
 ) -> Result<bool, AllocError>
     requires theory { IsTheory (theory_of schema.now presentation.now) }
     requires keys { keys_of tables.old ≡ (theory_of schema.now presentation.now).keys }
+    requires groups { AreGroups (path_eq_sources schema.now.path_eqs) (length schema.now.entities) groups.now }
+    requires entities { entities_of tables.old ≡ length schema.now.entities }
     requires whole { IsWhole tables.old }
     requires current { IsCurrent tables.old rows.old }
     requires count { length (rows_of rows.old) ≡ length (theory_of schema.now presentation.now).generators }
@@ -172,7 +192,16 @@ fn pass_rules(
 {
     let mut merged = false;
     for row in 0..tables.made() {
-        let one = pass_row(alloc, schema, presentation, tables, rows, waits, row)?;
+        let one = pass_row(
+            alloc,
+            schema,
+            presentation,
+            groups,
+            tables,
+            rows,
+            waits,
+            row,
+        )?;
         if !one {
             continue;
         }
@@ -217,19 +246,22 @@ fn first_pass(
     alloc: Global,
     schema: &Schema,
     presentation: &Presentation,
+    groups: &Groups,
     tables: &mut Tables,
     rows: &mut Entries,
     waits: &mut Waiting,
 ) -> Result<(), AllocError>
     requires theory { IsTheory (theory_of schema.now presentation.now) }
     requires keys { keys_of tables.old ≡ (theory_of schema.now presentation.now).keys }
+    requires groups { AreGroups (path_eq_sources schema.now.path_eqs) (length schema.now.entities) groups.now }
+    requires entities { entities_of tables.old ≡ length schema.now.entities }
     requires whole { IsWhole tables.old }
     requires current { IsCurrent tables.old rows.old }
     requires count { length (rows_of rows.old) ≡ length (theory_of schema.now presentation.now).generators }
     requires rows { HaveRows (theory_of schema.now presentation.now) tables.old (rows_of rows.old) }
     ensures { OnOk result (Continues (theory_of schema.now presentation.now) tables.old tables.new rows.old rows.new) }
 {
-    pass_rules(alloc, schema, presentation, tables, rows, waits)?;
+    pass_rules(alloc, schema, presentation, groups, tables, rows, waits)?;
     pass_given(alloc, schema, presentation, tables, rows, waits)?;
     Ok(())
 }
@@ -240,12 +272,15 @@ fn merge_all(
     alloc: Global,
     schema: &Schema,
     presentation: &Presentation,
+    groups: &Groups,
     tables: &mut Tables,
     rows: &mut Entries,
     waits: &mut Waiting,
 ) -> Result<(), AllocError>
     requires theory { IsTheory (theory_of schema.now presentation.now) }
     requires keys { keys_of tables.old ≡ (theory_of schema.now presentation.now).keys }
+    requires groups { AreGroups (path_eq_sources schema.now.path_eqs) (length schema.now.entities) groups.now }
+    requires entities { entities_of tables.old ≡ length schema.now.entities }
     requires whole { IsWhole tables.old }
     requires current { IsCurrent tables.old rows.old }
     requires count { length (rows_of rows.old) ≡ length (theory_of schema.now presentation.now).generators }
@@ -255,10 +290,10 @@ fn merge_all(
     ensures rules { OnOk result (RulesHold (theory_of schema.now presentation.now) tables.new) }
     ensures given { OnOk result (GivenHold (theory_of schema.now presentation.now) tables.new (rows_of rows.new)) }
 {
-    first_pass(alloc, schema, presentation, tables, rows, waits)?;
+    first_pass(alloc, schema, presentation, groups, tables, rows, waits)?;
     waits.close();
     loop {
-        if pass_rules(alloc, schema, presentation, tables, rows, waits)? {
+        if pass_rules(alloc, schema, presentation, groups, tables, rows, waits)? {
             continue;
         }
         if pass_given(alloc, schema, presentation, tables, rows, waits)? {
@@ -273,11 +308,14 @@ pub fn settle(
     alloc: Global,
     schema: &Schema,
     presentation: &Presentation,
+    groups: &Groups,
     tables: &mut Tables,
     rows: &mut Entries,
 ) -> Result<(), AllocError>
     requires theory { IsTheory (theory_of schema.now presentation.now) }
     requires keys { keys_of tables.old ≡ (theory_of schema.now presentation.now).keys }
+    requires groups { AreGroups (path_eq_sources schema.now.path_eqs) (length schema.now.entities) groups.now }
+    requires entities { entities_of tables.old ≡ length schema.now.entities }
     requires whole { IsWhole tables.old }
     requires behind { IsBehind tables.old rows.old }
     requires rows { HaveRows (theory_of schema.now presentation.now) tables.old (rows_of rows.old) }
@@ -297,6 +335,14 @@ pub fn settle(
     let made = tables.made();
     rows.cover(made)?;
     let mut waits = Waiting::new(alloc, filled, made)?;
-    merge_all(alloc, schema, presentation, tables, rows, &mut waits)?;
+    merge_all(
+        alloc,
+        schema,
+        presentation,
+        groups,
+        tables,
+        rows,
+        &mut waits,
+    )?;
     Ok(())
 }

@@ -11,7 +11,7 @@ settle-requires c =
     let s = theory_of c.args.schema.now c.args.presentation.now in
     let g = IsGrown-begun s c.in_ok-tables.tables c.in_ok-tables.first.items c.in_ok-tables.ensures in
     let a = may_settle s c.in_ok-tables.tables c.in_ok-tables.first.items (rows_of c.new-rows.result) 0 c.new-rows.ensures.rows g in
-    record { theory = c.requires.theory; keys = a.keys; whole = a.whole; behind = IsBehind-start c.in_ok-tables.tables c.new-rows.result c.new-rows.ensures.count; rows = a.have; count = a.count }
+    record { theory = c.requires.theory; keys = a.keys; groups = c.requires.groups; entities = g.sound.1.entities; whole = a.whole; behind = IsBehind-start c.in_ok-tables.tables c.new-rows.result c.new-rows.ensures.count; rows = a.have; count = a.count }
 
 pub loop-stage-init : goal.loop-stage-init
 loop-stage-init c =
@@ -35,7 +35,7 @@ settle-requires-in-loop-stage c =
     let s = theory_of c.args.schema.now c.args.presentation.now in
     let g = IsGrown-filled s c.loop-stage.tables c.fill.new.tables (rows_of c.loop-stage.rows) c.loop-stage._stage c.loop-stage.invariant.stage.grown c.in_ok-fill.ensures.whole c.in_ok-fill.ensures.ok in
     let a = may_settle s c.fill.new.tables (rows_of c.loop-stage.rows) (rows_of c.loop-stage.rows) (c.loop-stage._stage + 1) refl g in
-    record { theory = c.requires.theory; keys = a.keys; whole = a.whole; behind = IsBehind-extended c.loop-stage.tables c.fill.new.tables c.loop-stage.rows c.in_ok-fill.ensures.ok.extends c.loop-stage.invariant.current; rows = a.have; count = a.count }
+    record { theory = c.requires.theory; keys = a.keys; groups = c.requires.groups; entities = g.sound.1.entities; whole = a.whole; behind = IsBehind-extended c.loop-stage.tables c.fill.new.tables c.loop-stage.rows c.in_ok-fill.ensures.ok.extends c.loop-stage.invariant.current; rows = a.have; count = a.count }
 
 pub loop-stage-preserved : goal.loop-stage-preserved
 loop-stage-preserved c =
