@@ -2,7 +2,6 @@
 //! foreign key and entry.
 mod equations;
 pub(crate) mod generators;
-mod terms;
 
 ghost use Rattle.std.specs.Prelude.{◌≡◌, ◌+◌, ◌++◌, ◌∷◌, ◌<◌, ◌≤◌, ◌^◌, IfOk, All, map, length, sum};
 ghost use Rattle.cq_theory.specs.Canonical.{below, canonical};

@@ -7,8 +7,8 @@ ghost use Rattle.cq_model.specs.Numbers as made_of;
 
 use crate::canonical::Numbers;
 use crate::canonical::generators::{alone, number_at};
-use crate::canonical::terms::{cell_term, push_entries};
 use cq_base::Seq;
+use cq_terms::{cell_term, push_entries};
 use cq_theory::{EntTerm, Entry, Equation, Sheet, TypeTerm, Value};
 use std::alloc::{AllocError, Global};
 
