@@ -4,6 +4,7 @@ pub mod Puts
 pub mod Translation
 pub mod Duties
 pub mod IsQuery
+pub mod Layout
 pub mod Coeval
 pub mod QueryParts
 pub mod Answers
