@@ -13,8 +13,8 @@ ghost use Rattle.cq_query.specs.Layout.{IsLayout};
 use crate::query::Query;
 use crate::rows::{Layout, push_rows};
 use crate::sorts::{build_generators, count_at};
-use crate::values::push_entries;
 use cq_base::Seq;
+use cq_terms::push_entries;
 use cq_theory::{Algebra, EntTerm, Equation, Presentation, Sheet, SizeRefusal, TypeTerm};
 use std::alloc::{AllocError, Global};
 

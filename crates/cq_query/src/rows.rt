@@ -11,7 +11,7 @@ ghost use Rattle.cq_query.specs.Translation.{key_sources, attribute_sources, tes
 ghost use Rattle.cq_query.specs.Duties.{equal_terms};
 ghost use Rattle.cq_query.specs.Coeval.{size_of, row_terms as terms_of_row};
 ghost use Rattle.cq_query.specs.Coeval.{terms_from, key_equations, cell_equation, row_equations, entity_equations};
-ghost use Rattle.cq_query.specs.Coeval.{value_term};
+ghost use Rattle.cq_terms.specs.ValueTerms.{value_term};
 ghost use Rattle.cq_query.specs.Layout.{IsLayout, IsRow};
 
 use crate::duties::push_equal_terms;
@@ -19,7 +19,7 @@ use crate::puts::{generators, push_equations};
 use crate::query::Query;
 use crate::sorts::count_at;
 use crate::translation::{put_assigned, put_attribute};
-use crate::values::cell_term;
+use cq_terms::cell_term;
 use cq_theory::{EntTerm, Equation, Sheet, Value};
 use std::alloc::{AllocError, Global};
 
