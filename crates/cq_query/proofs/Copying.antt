@@ -5,8 +5,7 @@ use Rattle.std.specs.List.{sum_by, list_any}
 use Rattle.std.proofs.lemmas.List.{length-append, length-map}
 use Rattle.std.proofs.lemmas.List.Concat.{length-flat_map}
 use Rattle.std.proofs.lemmas.List.Sums.{sum_by-cons, sum-map}
-use Rattle.std.proofs.lemmas.List.FromFn.{length-enumerate_from}
-use Rattle.std.specs.List.{range_with_len, flat_map, enumerate_from}
+use Rattle.std.specs.List.{range_with_len, flat_map}
 use Rattle.std.proofs.lemmas.Bool.Decides.{nat_tests}
 use Rattle.std.proofs.lemmas.List.{append-nil, take_more, map-append}
 use Rattle.std.proofs.lemmas.List.FromFn.{length-map-range_with_len, sum_by-map-range_with_len_more}
@@ -24,6 +23,7 @@ use Rattle.cq_query.specs.QueryData.{QueryData as Query}
 use Rattle.cq_query.specs.Translation.{variables_at}
 use Rattle.cq_query.specs.Coeval.{size_of, start_of, starts, null_start, row_sorts, is_large, is_oversized, coeval_of}
 use Rattle.cq_theory.proofs.Grouped.{made_at}
+use Rattle.cq_terms.proofs.Naming.{named_length}
 
 -- one number more
 range_more : (s n : ℕ) → range_with_len s (suc n) ≡ range_with_len s n ++ (s + n) ∷ []
@@ -103,7 +103,7 @@ module _ (Q : Query) (M : Tables) where
       omega (arith, rows_count, length-append (flat_map (row_sorts Q M.sheet.counts) (below (length Q.target.entities))) (map Plain M.algebra.nulls), length-map M.algebra.nulls Plain)
 
   generators_count : length (coeval_of Q M).generators ≡ null_start Q M.sheet.counts + length M.algebra.nulls
-  generators_count = length-map (enumerate_from 1 sorts) generator_at ∙ length-enumerate_from 1 sorts ∙ sorts_count
+  generators_count = named_length sorts ∙ sorts_count
 
   -- too many generators
   pub many_generators : 16000000 < null_start Q M.sheet.counts + length M.algebra.nulls → is_oversized (coeval_of Q M) ≡ true
