@@ -262,10 +262,7 @@ fn fault_of_clause(
 }
 
 /// The first fault of the clauses.
-fn first_clause_fault(
-    alloc: Global,
-    making: &Making,
-) -> Result<Option<TheoryRefusal>, AllocError>
+fn first_clause_fault(alloc: Global, making: &Making) -> Result<Option<TheoryRefusal>, AllocError>
     requires { making.now.first + length making.now.clauses.now < 2 ^ 32 }
     ensures { IfOk result (λ fault. fault ≡ clauses_fault
         making.now.source.now making.now.target.now making.now.entities.now making.now.scopes.now

@@ -83,7 +83,14 @@ pub(crate) fn make_blocks(
 {
     target.is_well_sorted();
     let count = target.entities.len() as u32;
-    let scopes = make_scopes(alloc, source, parts.entities, count, parts.first, parts.vars)?;
+    let scopes = make_scopes(
+        alloc,
+        source,
+        parts.entities,
+        count,
+        parts.first,
+        parts.vars,
+    )?;
     let making = Making {
         source,
         target,

@@ -304,7 +304,14 @@ fn check_lists(
 {
     check_attributes(making.target, making.clauses, index, attributes)?;
     check_keys(making.target, making.clauses, index, keys)?;
-    check_all_assigned(alloc, making.target, making.scopes, making.clauses, index, keys)
+    check_all_assigned(
+        alloc,
+        making.target,
+        making.scopes,
+        making.clauses,
+        index,
+        keys,
+    )
 }
 
 /// Whether the attributes and foreign keys of each entity are given whole.

@@ -2,9 +2,9 @@
 ghost use Rattle.std.specs.Prelude.{IfOk};
 ghost use Rattle.cq_query.specs.Making.{AreTablesOf};
 
-use cq_theory::{Groups, Schema};
 use cq_theory::{
-    attributes_by_entity, keys_by_entity, observation_equations_by_entity, path_equations_by_entity,
+    Groups, Schema, attributes_by_entity, keys_by_entity, observation_equations_by_entity,
+    path_equations_by_entity,
 };
 use std::alloc::{AllocError, Global};
 

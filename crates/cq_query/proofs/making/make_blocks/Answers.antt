@@ -8,11 +8,11 @@ use Rattle.cq_query.proofs.making.make_blocks.Goals as goal
 pub finish_blocks-requires : goal.finish_blocks-requires
 finish_blocks-requires c = record {
   making = record {
-  numbers = omega (arith, c.requires.parts.numbers);
-  scopes = ap length c.as_slice.ensures.value ∙ ap length c.in_ok-scopes.ensures.made ∙ length-map-range_with_len _ 0 c.len-count.result
-    ∙ c.len-count.ensures ∙ ap (λ (S : SchemaData). length S.entities) c.target.view_is;
-  entities = c.requires.parts.entities;
-  clauses = c.requires.parts.clauses;
+    numbers = omega (arith, c.requires.parts.numbers);
+    scopes = ap length c.as_slice.ensures.value ∙ ap length c.in_ok-scopes.ensures.made ∙ length-map-range_with_len _ 0 c.len-count.result
+        ∙ c.len-count.ensures ∙ ap (λ (S : SchemaData). length S.entities) c.target.view_is;
+    entities = c.requires.parts.entities;
+    clauses = c.requires.parts.clauses;
   };
 }
 

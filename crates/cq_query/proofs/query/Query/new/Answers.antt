@@ -9,22 +9,22 @@ make_entities-requires c = omega (arith, c.requires.parts, ap length c.as_slice.
 pub make_blocks-requires : goal.make_blocks-requires
 make_blocks-requires c = record {
   parts = record {
-  numbers = omega (arith, c.requires.parts, c.len-first.ensures, ap length c.as_slice-3.ensures, ap length c.as_slice-4.ensures);
-  entities = new_entities c.args.source.value c.args.target.value c.deref-4.result.now c.deref-5.result.now c.deref-3.result.now c.args.parts
-    c.as_slice.result.now c.as_slice-3.result.now c.as_slice-4.result.now c.in_ok-blocks.blocks.items c.as_slice-2.result.now c.len-first.result
-    c.deref-4.ensures c.deref-5.ensures c.deref-3.ensures c.as_slice.ensures c.as_slice-3.ensures c.as_slice-4.ensures c.len-first.ensures
-    c.in_ok-blocks.ensures.accepted c.in_ok-blocks.ensures.made c.as_slice-2.ensures.value
-    (subst IsSchema c.deref-2.ensures c.is_well_sorted-2.ensures);
-  vars = new_blocks c.args.source.value c.args.target.value c.deref-4.result.now c.deref-5.result.now c.deref-3.result.now c.args.parts
-    c.as_slice.result.now c.as_slice-3.result.now c.as_slice-4.result.now c.in_ok-blocks.blocks.items c.as_slice-2.result.now c.len-first.result
-    c.deref-4.ensures c.deref-5.ensures c.deref-3.ensures c.as_slice.ensures c.as_slice-3.ensures c.as_slice-4.ensures c.len-first.ensures
-    c.in_ok-blocks.ensures.accepted c.in_ok-blocks.ensures.made c.as_slice-2.ensures.value
-    c.requires.vars;
-  clauses = new_clauses c.args.source.value c.args.target.value c.deref-4.result.now c.deref-5.result.now c.deref-3.result.now c.args.parts
-    c.as_slice.result.now c.as_slice-3.result.now c.as_slice-4.result.now c.in_ok-blocks.blocks.items c.as_slice-2.result.now c.len-first.result
-    c.deref-4.ensures c.deref-5.ensures c.deref-3.ensures c.as_slice.ensures c.as_slice-3.ensures c.as_slice-4.ensures c.len-first.ensures
-    c.in_ok-blocks.ensures.accepted c.in_ok-blocks.ensures.made c.as_slice-2.ensures.value
-    c.requires.clauses;
+    numbers = omega (arith, c.requires.parts, c.len-first.ensures, ap length c.as_slice-3.ensures, ap length c.as_slice-4.ensures);
+    entities = new_entities c.args.source.value c.args.target.value c.deref-4.result.now c.deref-5.result.now c.deref-3.result.now c.args.parts
+        c.as_slice.result.now c.as_slice-3.result.now c.as_slice-4.result.now c.in_ok-blocks.blocks.items c.as_slice-2.result.now c.len-first.result
+        c.deref-4.ensures c.deref-5.ensures c.deref-3.ensures c.as_slice.ensures c.as_slice-3.ensures c.as_slice-4.ensures c.len-first.ensures
+        c.in_ok-blocks.ensures.accepted c.in_ok-blocks.ensures.made c.as_slice-2.ensures.value
+        (subst IsSchema c.deref-2.ensures c.is_well_sorted-2.ensures);
+    vars = new_blocks c.args.source.value c.args.target.value c.deref-4.result.now c.deref-5.result.now c.deref-3.result.now c.args.parts
+        c.as_slice.result.now c.as_slice-3.result.now c.as_slice-4.result.now c.in_ok-blocks.blocks.items c.as_slice-2.result.now c.len-first.result
+        c.deref-4.ensures c.deref-5.ensures c.deref-3.ensures c.as_slice.ensures c.as_slice-3.ensures c.as_slice-4.ensures c.len-first.ensures
+        c.in_ok-blocks.ensures.accepted c.in_ok-blocks.ensures.made c.as_slice-2.ensures.value
+        c.requires.vars;
+    clauses = new_clauses c.args.source.value c.args.target.value c.deref-4.result.now c.deref-5.result.now c.deref-3.result.now c.args.parts
+        c.as_slice.result.now c.as_slice-3.result.now c.as_slice-4.result.now c.in_ok-blocks.blocks.items c.as_slice-2.result.now c.len-first.result
+        c.deref-4.ensures c.deref-5.ensures c.deref-3.ensures c.as_slice.ensures c.as_slice-3.ensures c.as_slice-4.ensures c.len-first.ensures
+        c.in_ok-blocks.ensures.accepted c.in_ok-blocks.ensures.made c.as_slice-2.ensures.value
+        c.requires.clauses;
   };
 }
 
