@@ -10,5 +10,6 @@ pub mod QueryParts
 pub mod Answers
 pub mod Given
 pub mod Index
+pub mod Making
 pub mod Assigned
 pub mod Leading
