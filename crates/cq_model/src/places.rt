@@ -1,5 +1,6 @@
 //! Where terms stand among the nodes.
 use cq_base::Seq;
+use cq_flat::Flat;
 use cq_tables::Tables;
 use cq_theory::Schema;
 
@@ -20,4 +21,11 @@ pub struct Ground<'a> {
     pub schema: &'a Schema,
     pub tables: &'a Tables,
     pub places: &'a Places,
+}
+
+/// The closure of nodes, and where the cells and the generators of types stand among them.
+#[derive(Clone, Copy)]
+pub struct ClosedPlaces<'a> {
+    pub places: &'a Places,
+    pub flat: &'a Flat,
 }
