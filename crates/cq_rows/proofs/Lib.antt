@@ -18,3 +18,4 @@ pub mod Bridge
 pub mod WellSorted
 pub mod Answered
 pub mod ByEntity
+pub mod Ready

@@ -6,6 +6,7 @@ ghost use Rattle.cq_theory.specs.Schema.{IsSchema};
 ghost use Rattle.cq_theory.specs.Presentation.{IsPresentation};
 ghost use Rattle.cq_rows.specs.Theory.{IsTheory};
 ghost use Rattle.cq_rows.specs.Plain.{theory_of, ends_of};
+ghost use Rattle.cq_rows.specs.Origin.{theory_at};
 ghost use Rattle.cq_rows.specs.Rows as rows;
 ghost use Rattle.cq_rows.specs.Entries.{rows_of};
 ghost use Rattle.cq_rows.specs.Stage.{IsStage};
@@ -14,10 +15,11 @@ ghost use Rattle.cq_rows.specs.declared.grow.RowsRefusal.TheVariants.{TooManyRow
 
 use crate::entries::Entries;
 use crate::fill::{all_filled, count_live, fill};
+use crate::origin::Origin;
 use crate::settle::settle;
 use cq_base::Seq;
 use cq_tables::Tables;
-use cq_theory::{Groups, Presentation, Schema, Sort, path_equations_by_entity};
+use cq_theory::{Presentation, Schema, Sort, path_equations_by_entity};
 use std::alloc::{AllocError, Global};
 
 /// The most live rows at the end of a stage.
@@ -97,24 +99,24 @@ fn begin(
 // The tables at the end of the last stage, the rows of the generators, and whether all cells are filled.
 fn grow(
     alloc: Global,
-    schema: &Schema,
-    presentation: &Presentation,
-    groups: &Groups,
+    origin: &Origin,
     keys: &[(u32, u32)],
     depth: u32,
 ) -> Result<(Tables, Entries, bool), RowsRefusal>
-    requires theory { IsTheory (theory_of schema.now presentation.now) }
-    requires keys { keys.now ≡ (theory_of schema.now presentation.now).keys }
-    requires groups { AreGroups (path_eq_sources schema.now.path_eqs) (length schema.now.entities) groups.now }
-    requires range { All (λ k. (k.0 < length schema.now.entities) × (k.1 < length schema.now.entities)) keys.now }
-    ensures stage { IfOk result (λ p. IsStage (theory_of schema.now presentation.now) p.0 (rows_of p.1) depth) }
+    requires theory { IsTheory (theory_at origin.now) }
+    requires keys { keys.now ≡ (theory_at origin.now).keys }
+    requires groups { AreGroups (path_eq_sources origin.now.schema.now.path_eqs)
+        (length origin.now.schema.now.entities) origin.now.groups.now }
+    requires range { All (λ k. (k.0 < length origin.now.schema.now.entities)
+        × (k.1 < length origin.now.schema.now.entities)) keys.now }
+    ensures stage { IfOk result (λ p. IsStage (theory_at origin.now) p.0 (rows_of p.1) depth) }
     ensures closed { IfOk result (λ p. MatchBool p.2 (rows.AllFilled p.0) (rows.AllFilled p.0 → ⊥)) }
-    ensures unclosed { IfOk result (λ p. p.2 ≡ false → rows.NoneCloses (theory_of schema.now presentation.now) depth) }
-    ensures many { result ≡ Err TooManyRows → rows.SomeWide (theory_of schema.now presentation.now) depth MOST_ROWS }
+    ensures unclosed { IfOk result (λ p. p.2 ≡ false → rows.NoneCloses (theory_at origin.now) depth) }
+    ensures many { result ≡ Err TooManyRows → rows.SomeWide (theory_at origin.now) depth MOST_ROWS }
 {
-    let (mut tables, first) = begin(alloc, schema, presentation, keys)?;
+    let (mut tables, first) = begin(alloc, origin.schema, origin.presentation, keys)?;
     let mut rows = Entries::new(alloc, first);
-    settle(alloc, schema, presentation, groups, &mut tables, &mut rows)?;
+    settle(alloc, origin, &mut tables, &mut rows)?;
     if count_live(&tables) > MOST_ROWS {
         return Err(RowsRefusal::TooManyRows);
     }
@@ -123,7 +125,7 @@ fn grow(
             return Ok((tables, rows, true));
         }
         fill(keys, &mut tables)?;
-        settle(alloc, schema, presentation, groups, &mut tables, &mut rows)?;
+        settle(alloc, origin, &mut tables, &mut rows)?;
         if count_live(&tables) > MOST_ROWS {
             return Err(RowsRefusal::TooManyRows);
         }
@@ -174,7 +176,12 @@ pub fn saturate(
 {
     let keys = key_ends(alloc, schema)?;
     let groups = path_equations_by_entity(alloc, schema)?;
-    let (tables, rows, closed) = grow(alloc, schema, presentation, &groups, &keys, depth)?;
+    let origin = Origin {
+        schema,
+        presentation,
+        groups: &groups,
+    };
+    let (tables, rows, closed) = grow(alloc, &origin, &keys, depth)?;
     Ok(Partial {
         tables,
         generator_rows: Seq::from_vec(rows.into_rows()),
