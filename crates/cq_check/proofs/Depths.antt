@@ -1,7 +1,7 @@
 -- What the rows of one depth say of an equation, and what those of all depths so far.
-use Rattle.std.proofs.Common.{ℕ, List, Some, None, ◌≡◌, ◌<◌, ◌+◌, map, sym, subst, arith, inl, inr}
+use Rattle.std.proofs.Common.{ℕ, List, Some, None, ◌≡◌, ◌<◌, ◌+◌, map, length, sym, subst, arith, inl, inr}
 use Rattle.std.proofs.lemmas.Bool.{cases_lt}
-use Rattle.cq_tables.specs.Content.{Content, IsWhole, keys_of}
+use Rattle.cq_tables.specs.Content.{Content, IsWhole, keys_of, entities_of}
 use Rattle.cq_rows.specs.Plain.{ends_of}
 use Rattle.cq_rows.specs.Rows.{AllFilled}
 use Rattle.cq_rows.specs.Saturated.{HasEntries, OneRowIsEqual, AllTraced, AllNamed, PathEquationsHold, EntityEquationsHold, SomeWide}
@@ -14,11 +14,12 @@ use Rattle.cq_theory.specs.SchemaData.{SchemaData as Schema}
 use Rattle.cq_theory.specs.Closing.{Closes}
 use Rattle.cq_theory.specs.Derivation.{left_of, right_of}
 
-pub frame_of : (S : Schema) (P : Presentation) (m : Content) (entries : List ℕ) (depth : ℕ) → IsWhole m → keys_of m ≡ map ends_of S.keys → HasEntries P m entries → OneRowIsEqual S P m entries
+pub frame_of : (S : Schema) (P : Presentation) (m : Content) (entries : List ℕ) (depth : ℕ) → IsWhole m → keys_of m ≡ map ends_of S.keys → entities_of m ≡ length S.entities → HasEntries P m entries → OneRowIsEqual S P m entries
     → AllNamed S P m entries depth → PathEquationsHold S m → EntityEquationsHold P m entries → IsFrame S P m entries
-frame_of S P m entries depth whole keys has sound named paths equations = record {
+frame_of S P m entries depth whole keys entities has sound named paths equations = record {
   whole = whole;
   keys = keys;
+  entities = entities;
   entries = has;
   sound = sound;
   named = (depth, named);

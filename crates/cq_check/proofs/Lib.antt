@@ -14,3 +14,4 @@ pub mod Depths
 pub mod MappingDuties
 pub mod Numbered
 pub mod QueryDuties
+pub mod Observed

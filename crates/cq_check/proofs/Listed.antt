@@ -2,9 +2,11 @@
 use Rattle.std.proofs.Common.{ℕ, true, false, List, [], ◌∷◌, Option, Some, ◌≡◌, ◌<◌, ◌≤◌, ◌+◌, ◌⊎◌, length, refl, sym, ap, subst, ◌∙◌, arith, inl, inr}
 use Rattle.std.specs.Prelude.{slice_get, option_map}
 use Rattle.std.proofs.lemmas.Bool.{cases_lt}
+use Rattle.std.proofs.lemmas.Option.{slice_get_within}
 use Rattle.cq_tables.specs.Content.{Content, live_of}
 use Rattle.cq_tables.specs.Content.{entity_of as row_entity}
 use Rattle.cq_rows.specs.Rows.{row_of_term}
+use Rattle.cq_rows.proofs.ByEntity.{at_position}
 use Rattle.cq_flat.specs.declared.node.Node.{Node}
 use Rattle.cq_flat.specs.Nodes.{HasEarlierArguments}
 use Rattle.cq_check.specs.NodeListData.{NodeListData}
@@ -18,6 +20,7 @@ use Rattle.cq_theory.specs.declared.presentation.Equation.TheVariants.{Ent as En
 use Rattle.cq_theory.specs.declared.presentation.Presentation.{Presentation}
 use Rattle.cq_theory.specs.declared.presentation.Sort.TheVariants.{Plain}
 use Rattle.cq_theory.specs.declared.schema.ObsEq.{ObsEq}
+use Rattle.cq_theory.specs.Groups.{positions, obs_eq_sources}
 use Rattle.cq_theory.specs.SchemaData.{SchemaData as Schema}
 use Rattle.cq_theory.specs.Schema.{IsSchema, one_of}
 use Rattle.cq_theory.specs.Presentation.{IsPresentation}
@@ -174,14 +177,14 @@ module _ (S : Schema) (P : Presentation) (m : Content) (entries : List ℕ) wher
           g ∙ ap (λ n. Some n) (sym same)
 
 module _ (S : Schema) (m : Content) where
-  -- the first observation equations are added at a row
-  pub record AddsAtRow (row : ℕ) (old new : NodeListData) (count : ℕ) : Type 0 where
+  -- the observation equations at the first places of a list are added at a row
+  pub record AddsAtRow (row : ℕ) (places : List ℕ) (old new : NodeListData) (count : ℕ) : Type 0 where
     pub grows : Grows old new
     pub sound : KeepsSound S m old new
-    pub has : HasAtRow S m new row count
+    pub has : (r n : ℕ) (e : ObsEq) → r < count → slice_get places r ≡ Some n → slice_get S.obs_eqs n ≡ Some e → HasIfTraced m (row ∷ []) new e.left e.right
 
-  pub row_none : (row : ℕ) (list : NodeListData) → AddsAtRow row list list 0
-  row_none row list = record { grows = grows_none list; sound = λ P entries frame h. h; has = λ n e less found entity. absurd (omega (arith, less)) }
+  pub row_none : (row : ℕ) (places : List ℕ) (list : NodeListData) → AddsAtRow row places list list 0
+  row_none row places list = record { grows = grows_none list; sound = λ P entries frame h. h; has = λ r n e less place found. absurd (omega (arith, less)) }
 
   row_last : (n i : ℕ) → n < i + 1 → (n < i) ⊎ (n ≡ i)
   row_last n i h = elim (cases_lt n i) [
@@ -189,34 +192,31 @@ module _ (S : Schema) (m : Content) where
     | inr le ↦ inr (omega (arith, le, h))
   ]
 
-  pub row_skipped : (row : ℕ) (old mid : NodeListData) (i : ℕ) (e : ObsEq) → slice_get S.obs_eqs i ≡ Some e → (e.entity ≡ row_entity m row → ⊥) → AddsAtRow row old mid i → AddsAtRow row old mid (i + 1)
-  row_skipped row old mid i e there other before = record {
-    grows = before.grows;
-    sound = before.sound;
-    has = λ n o less found entity. elim (row_last n i less) [
-      | inl less' ↦ before.has n o less' found entity
-      | inr same ↦
-          let equal : e ≡ o = one_at S.obs_eqs i e o there (ap (slice_get S.obs_eqs) (sym same) ∙ found) in
-          absurd (other (ap (λ (x : ObsEq). x.entity) equal ∙ entity))
-    ];
-  }
-
-  pub row_added : IsSchema S → (row : ℕ) (old mid new : NodeListData) (i : ℕ) (e : ObsEq) → live_of m row ≡ true → slice_get S.obs_eqs i ≡ Some e → e.entity ≡ row_entity m row
-      → IsEquated m (row ∷ []) mid new e.left e.right → AddsAtRow row old mid i → AddsAtRow row old new (i + 1)
-  row_added schema row old mid new i e live there entity h before =
+  pub row_added : IsSchema S → (row : ℕ) (places : List ℕ) (old mid new : NodeListData) (r i : ℕ) (e : ObsEq) → live_of m row ≡ true → slice_get places r ≡ Some i → slice_get S.obs_eqs i ≡ Some e
+      → e.entity ≡ row_entity m row → IsEquated m (row ∷ []) mid new e.left e.right → AddsAtRow row places old mid r → AddsAtRow row places old new (r + 1)
+  row_added schema row places old mid new r i e live at there entity h before =
       let sides = schema.obs_eqs i e there in
       record {
         grows = grows_both old mid new before.grows h.grows;
         sound = λ P entries frame is.
             let name = frame.named.1 row live in
             observed_sound S P m entries mid new row name.0 e i sides.type (name.1.entity ∙ ap (λ n. Some n) (sym entity)) name.1.row there sides.left sides.right h (before.sound P entries frame is);
-        has = λ n o less found of_entity. elim (row_last n i less) [
-          | inl less' ↦ HasIfTraced-more m (row ∷ []) mid new o.left o.right h.grows (before.has n o less' found of_entity)
+        has = λ q n o less place found. elim (row_last q r less) [
+          | inl less' ↦ HasIfTraced-more m (row ∷ []) mid new o.left o.right h.grows (before.has q n o less' place found)
           | inr same ↦
-              let equal : e ≡ o = one_at S.obs_eqs i e o there (ap (slice_get S.obs_eqs) (sym same) ∙ found) in
+              let number : i ≡ n = one_at places r i n at (ap (slice_get places) (sym same) ∙ place) in
+              let equal : e ≡ o = one_at S.obs_eqs i e o there (ap (slice_get S.obs_eqs) number ∙ found) in
               subst (λ (x : ObsEq). HasIfTraced m (row ∷ []) new x.left x.right) equal h.has
         ];
       }
+
+  -- the places of an entity's observation equations are all that speak of its rows
+  pub row_has : (row : ℕ) (places : List ℕ) (old new : NodeListData) (count : ℕ) → places ≡ positions (obs_eq_sources S.obs_eqs) (row_entity m row) → length places ≤ count
+      → AddsAtRow row places old new count → HasAtRow S m new row (length S.obs_eqs)
+  row_has row places old new count are all adds n e less found entity =
+      let p = at_position (λ (x : ObsEq). x.entity) S.obs_eqs (row_entity m row) n e found entity in
+      let at : slice_get places p.0 ≡ Some n = ap (λ l. slice_get l p.0) are ∙ p.1 in
+      adds.has p.0 n e (omega (arith, slice_get_within places p.0 n at, all)) at found
 
   -- and at the first rows
   pub record AddsAtRows (old new : NodeListData) (count : ℕ) : Type 0 where

@@ -1,6 +1,6 @@
 -- Rows that were made for a presentation, whether or not all cells are filled.
-use Rattle.std.specs.Prelude.{ℕ, List, Option, Some, ◌≡◌, map, IsSome}
-use Rattle.cq_tables.specs.Content.{Content, IsWhole, keys_of}
+use Rattle.std.specs.Prelude.{ℕ, List, Option, Some, ◌≡◌, map, length, IsSome}
+use Rattle.cq_tables.specs.Content.{Content, IsWhole, keys_of, entities_of}
 use Rattle.cq_rows.specs.Plain.{ends_of}
 use Rattle.cq_rows.specs.Rows.{row_of_term}
 use Rattle.cq_rows.specs.Saturated.{HasEntries, OneRowIsEqual, AllNamed, PathEquationsHold, EntityEquationsHold}
@@ -22,6 +22,7 @@ module _ (S : Schema) (P : Presentation) (m : Content) (rows : List ℕ) where
   pub record IsFrame : Type 0 where
     pub whole : IsWhole m
     pub keys : keys_of m ≡ map ends_of S.keys
+    pub entities : entities_of m ≡ length S.entities
     pub entries : HasEntries P m rows
     pub sound : OneRowIsEqual S P m rows
     pub named : (depth : ℕ) × AllNamed S P m rows depth

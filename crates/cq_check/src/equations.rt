@@ -1,16 +1,18 @@
 //! The equations between type terms: those of a presentation, and those of its schema at each row.
-ghost use Rattle.std.specs.Prelude.{◌≡◌, ◌≤◌, ◌+◌, true, length, map, OnOk};
-ghost use Rattle.cq_tables.specs.Content.{live_of, made_of, keys_of, IsWhole};
+ghost use Rattle.std.specs.Prelude.{◌≡◌, ◌≤◌, ◌+◌, ◌<◌, true, length, map, slice_get, Some, OnOk};
+ghost use Rattle.cq_tables.specs.Content.{live_of, made_of, keys_of, entities_of, IsWhole};
 ghost use Rattle.cq_tables.specs.Content.{entity_of as row_entity};
 ghost use Rattle.cq_check.specs.Adding.{Grows, HasGiven, HasAtRow, HasAtRows};
 ghost use Rattle.cq_check.specs.Frame.{IsFrame};
 ghost use Rattle.cq_check.specs.Sound.{AreSound, KeepsSound};
 ghost use Rattle.cq_rows.specs.Plain.{ends_of};
+ghost use Rattle.cq_theory.specs.Groups.{positions, obs_eq_sources};
 ghost use Rattle.cq_theory.specs.Presentation.{IsPresentation};
+ghost use Rattle.cq_theory.specs.Schema.{IsSchema};
 
 use crate::nodes::{NodeList, push_equation};
 use cq_tables::Tables;
-use cq_theory::{Equation, Presentation, Schema};
+use cq_theory::{Equation, ObsEq, Presentation, Schema, observation_equations_by_entity};
 use std::alloc::{AllocError, Global};
 
 /// Adds the equations between type terms of a presentation of which all paths can be traced.
@@ -40,28 +42,42 @@ pub fn push_given(
     Ok(())
 }
 
-/// Adds the observation equations of a row's entity at this row.
+/// The observation equations of a schema.
+fn observation_equations(schema: &Schema) -> &[ObsEq]
+    ensures { result.now ≡ schema.now.obs_eqs }
+{
+    schema.obs_eqs.as_slice()
+}
+
+/// The observation equation at one of their places.
+fn equation_at(schema: &Schema, place: usize) -> &ObsEq
+    requires within { place < length schema.now.obs_eqs }
+    ensures { slice_get schema.now.obs_eqs place ≡ Some result.now }
+{
+    &observation_equations(schema)[place]
+}
+
+/// Adds the observation equations of a row's entity, which stand at these places of the schema's, at this row.
 fn push_row(
     alloc: Global,
     schema: &Schema,
     tables: &Tables,
-    entity: u32,
+    places: &[usize],
     row: u64,
     list: &mut NodeList,
 ) -> Result<(), AllocError>
+    requires schema { IsSchema schema.now }
     requires whole { IsWhole tables.now }
     requires keys { keys_of tables.now ≡ map ends_of schema.now.keys }
     requires live { live_of tables.now row ≡ true }
-    requires entity { row_entity tables.now row ≡ entity }
+    requires places { places.now ≡ positions (obs_eq_sources schema.now.obs_eqs) (row_entity tables.now row) }
     requires count { made_of tables.now ≤ length list.old.nodes }
     ensures grows { OnOk result (Grows list.old list.new) }
     ensures sound { OnOk result (KeepsSound schema.now tables.now list.old list.new) }
     ensures has { OnOk result (HasAtRow schema.now tables.now list.new row (length schema.now.obs_eqs)) }
 {
-    for equation in schema.obs_eqs.as_slice() {
-        if equation.entity != entity {
-            continue;
-        }
+    for place in places {
+        let equation = equation_at(schema, *place);
         push_equation(alloc, tables, &[row], list, &equation.left, &equation.right)?;
     }
     Ok(())
@@ -76,18 +92,21 @@ pub fn push_observations(
 ) -> Result<(), AllocError>
     requires whole { IsWhole tables.now }
     requires keys { keys_of tables.now ≡ map ends_of schema.now.keys }
+    requires entities { entities_of tables.now ≡ length schema.now.entities }
     requires count { made_of tables.now ≤ length list.old.nodes }
     ensures grows { OnOk result (Grows list.old list.new) }
     ensures sound { OnOk result (KeepsSound schema.now tables.now list.old list.new) }
     ensures has { OnOk result (HasAtRows schema.now tables.now list.new (made_of tables.now)) }
 {
+    schema.is_well_sorted();
+    let groups = observation_equations_by_entity(alloc, schema)?;
     for row in 0..tables.made() {
         let alive = tables.live(row);
         if !alive {
             continue;
         }
-        let entity = tables.entity(row);
-        push_row(alloc, schema, tables, entity, row, list)?;
+        let places = groups.of(tables.entity(row) as usize);
+        push_row(alloc, schema, tables, places, row, list)?;
     }
     Ok(())
 }

@@ -16,7 +16,7 @@ are_equal-requires-clause-frame c =
     let P : Presentation = c.args.presentation.now in
     let m : Content = c.in_ok-partial.partial.tables in
     let frame : IsFrame S P m c.in_ok-partial.partial.generator_rows =
-    frame_of S P m c.in_ok-partial.partial.generator_rows c.args.depth c.in_ok-partial.ensures.whole c.in_ok-partial.ensures.keys c.in_ok-partial.ensures.entries c.in_ok-partial.ensures.sound c.in_ok-partial.ensures.named
+    frame_of S P m c.in_ok-partial.partial.generator_rows c.args.depth c.in_ok-partial.ensures.whole c.in_ok-partial.ensures.keys c.in_ok-partial.ensures.entities c.in_ok-partial.ensures.entries c.in_ok-partial.ensures.sound c.in_ok-partial.ensures.named
     c.in_ok-partial.ensures.rules c.in_ok-partial.ensures.given in
     subst (λ (rows : List ℕ). IsFrame S P m rows) (sym c.as_slice-entries.ensures) frame
 
@@ -28,7 +28,7 @@ returns-then-partial-clause-answer c =
     let m : Content = c.in_ok-partial.partial.tables in
     let rows : List ℕ = c.in_ok-partial.partial.generator_rows in
     let frame : IsFrame S P m rows =
-    frame_of S P m rows c.args.depth c.in_ok-partial.ensures.whole c.in_ok-partial.ensures.keys c.in_ok-partial.ensures.entries c.in_ok-partial.ensures.sound c.in_ok-partial.ensures.named c.in_ok-partial.ensures.rules
+    frame_of S P m rows c.args.depth c.in_ok-partial.ensures.whole c.in_ok-partial.ensures.keys c.in_ok-partial.ensures.entities c.in_ok-partial.ensures.entries c.in_ok-partial.ensures.sound c.in_ok-partial.ensures.named c.in_ok-partial.ensures.rules
     c.in_ok-partial.ensures.given in
     let apart : IsApart S P m rows (left_of e) (right_of e) =
     subst (λ (rs : List ℕ). IsApart S P m rs (left_of e) (right_of e)) c.as_slice-entries.ensures
@@ -43,7 +43,7 @@ returns-clause-answer c =
     let m : Content = c.in_ok-partial.partial.tables in
     let rows : List ℕ = c.in_ok-partial.partial.generator_rows in
     let frame : IsFrame S P m rows =
-    frame_of S P m rows c.args.depth c.in_ok-partial.ensures.whole c.in_ok-partial.ensures.keys c.in_ok-partial.ensures.entries c.in_ok-partial.ensures.sound c.in_ok-partial.ensures.named c.in_ok-partial.ensures.rules
+    frame_of S P m rows c.args.depth c.in_ok-partial.ensures.whole c.in_ok-partial.ensures.keys c.in_ok-partial.ensures.entities c.in_ok-partial.ensures.entries c.in_ok-partial.ensures.sound c.in_ok-partial.ensures.named c.in_ok-partial.ensures.rules
     c.in_ok-partial.ensures.given in
     let apart : IsApart S P m rows (left_of e) (right_of e) =
     subst (λ (rs : List ℕ). IsApart S P m rs (left_of e) (right_of e)) c.as_slice-entries.ensures

@@ -1,4 +1,5 @@
-use Rattle.std.proofs.Common.{◌∙◌, sym, arith}
+use Rattle.std.proofs.Common.{◌<◌, ◌∙◌, length, sym, arith}
+use Rattle.cq_theory.proofs.Grouped.{group_within, group_read}
 use Rattle.cq_check.proofs.Listed.{rows_none, rows_skipped, rows_added}
 use Rattle.cq_check.proofs.equations.push_observations.Goals as goal
 
@@ -23,3 +24,16 @@ returns-clause-sound c = c.loop-row.invariant.sound
 
 pub returns-clause-has : goal.returns-clause-has
 returns-clause-has c = λ row less live. c.loop-row.invariant.has row (omega (arith, less, c.loop-row-test.false, c.made-row-end.ensures)) live
+
+pub of-places-requires : goal.of-places-requires
+of-places-requires c =
+    let within : c.entity.result < length c.args.schema.now.entities = omega (arith, c.requires.whole.kind c.loop-row.row (omega (arith, c.loop-row-test.true, c.made-row-end.ensures)), c.entity.ensures, c.requires.entities) in
+    group_within _ _ c.entity.result _ c.in_ok-groups.ensures within
+
+pub push_row-requires-clause-places : goal.push_row-requires-clause-places
+push_row-requires-clause-places c =
+    let within : c.entity.result < length c.args.schema.now.entities = omega (arith, c.requires.whole.kind c.loop-row.row (omega (arith, c.loop-row-test.true, c.made-row-end.ensures)), c.entity.ensures, c.requires.entities) in
+    rw c.entity.ensures at (group_read _ _ c.entity.result _ c.in_ok-groups.ensures within _ c.of-places.ensures)
+
+pub push_row-requires-clause-schema : goal.push_row-requires-clause-schema
+push_row-requires-clause-schema c = c.is_well_sorted.ensures
