@@ -7,7 +7,6 @@ ghost use Rattle.cq_check.specs.Reading.{IsReadablePath};
 ghost use Rattle.cq_flat.specs.Nodes.{HasEarlierArguments, AreSides};
 ghost use Rattle.cq_theory.specs.Derivation.{Derives, left_of, right_of};
 ghost use Rattle.cq_theory.specs.Presentation.{IsPresentation};
-ghost use Rattle.cq_theory.specs.Tables.{IsPlain};
 ghost use Rattle.cq_theory.specs.declared.presentation.Equation.TheVariants.{Typ as TypEquation};
 ghost use Rattle.cq_theory.specs.declared.term.Term.TheVariants.{Typ};
 
@@ -15,27 +14,9 @@ use crate::equations::{push_given, push_observations};
 use crate::nodes::{NodeList, push_term, row_of};
 use cq_flat::Flat;
 use cq_tables::Tables;
-use cq_theory::{EntTerm, Equation, Presentation, Schema, TypeTerm, Value};
+use cq_terms::is_same_value;
+use cq_theory::{EntTerm, Equation, Presentation, Schema, TypeTerm};
 use std::alloc::{AllocError, Global};
-
-/// Whether two values that are constants or nulls are one.
-fn is_same(left: &Value, right: &Value) -> bool
-    requires left { IsPlain left.now }
-    requires right { IsPlain right.now }
-    ensures { IsTrue result ↔ (left.now ≡ right.now) }
-{
-    match left {
-        Value::Const(left) => match right {
-            Value::Const(right) => *left == *right,
-            _ => false,
-        },
-        Value::Null(left) => match right {
-            Value::Null(right) => *left == *right,
-            _ => false,
-        },
-        Value::Fun(_, _) => unreachable!(),
-    }
-}
 
 /// Whether two entity terms lead to one row.
 fn are_one_row(tables: &Tables, entries: &[u64], left: &EntTerm, right: &EntTerm) -> bool
@@ -62,7 +43,7 @@ fn have_one_value(alloc: Global, list: NodeList, left: u64, right: u64) -> Resul
 {
     let NodeList { nodes, equations } = list;
     let flat = Flat::close(alloc, nodes, equations)?;
-    Ok(is_same(flat.value(left), flat.value(right)))
+    Ok(is_same_value(flat.value(left), flat.value(right)))
 }
 
 /// Whether two type terms are equal in the closure of all equations of which the paths can be traced.
