@@ -1,5 +1,5 @@
 //! Whether two terms are equal over rows that were made up to some depth.
-ghost use Rattle.std.specs.Prelude.{ℕ, ◌≡◌, ◌<◌, ◌↔◌, IfOk, IsTrue, MatchBool, length};
+ghost use Rattle.std.specs.Prelude.{ℕ, ◌<◌, ◌↔◌, IfOk, IsTrue, MatchBool, length};
 ghost use Rattle.cq_check.specs.Answers.{IsWellSorted};
 ghost use Rattle.cq_check.specs.Frame.{IsFrame, AreOneRow, IsApart};
 ghost use Rattle.cq_check.specs.Closed.{IsOneValue};

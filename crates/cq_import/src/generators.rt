@@ -1,5 +1,5 @@
 //! The generators of a presentation.
-ghost use Rattle.std.specs.Prelude.{ℕ, ◌≡◌, ◌+◌, ◌++◌, ◌<◌, ◌^◌, [], OnOk, length, map, replicate};
+ghost use Rattle.std.specs.Prelude.{◌≡◌, ◌++◌, ◌<◌, ◌^◌, OnOk, length, map, replicate};
 ghost use Rattle.std.specs.List.{flat_map};
 ghost use Rattle.cq_theory.specs.declared.presentation.Sort.TheVariants.{Entity};
 ghost use Rattle.cq_theory.specs.Canonical.{below};

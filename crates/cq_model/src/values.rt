@@ -1,5 +1,5 @@
 //! Copies of values, entries and algebras, and the test of values for equality.
-ghost use Rattle.std.specs.Prelude.{◌≡◌, ◌↔◌, IfOk, IsTrue};
+ghost use Rattle.std.specs.Prelude.{◌≡◌, IfOk};
 ghost use Rattle.cq_model.specs.SameValue.{same_value};
 
 use cq_base::Seq;
