@@ -14,19 +14,25 @@ const TEXTS: [(&str, (u32, u32, u32)); 62] = [
         (0, 0, 0),
     ),
     (
-        "schema S = literal : T { entities E F foreign_keys f g : E -> F path_equations E.f = E.g attributes v : F -> n observation_equations forall e : E . v(f(e)) = one forall e . v(e) = v(e) } schema R = getSchema C",
+        "schema S = literal : T { entities E F foreign_keys f g : E -> F path_equations E.f = E.g \
+        attributes v : F -> n observation_equations forall e : E . v(f(e)) = one forall e . v(e) = v(e) } \
+        schema R = getSchema C",
         (0, 0, 0),
     ),
     (
-        "schema_colimit C = quotient S + R : T { entity_equations S.E = R.F path_equations S_E_f = R_F_g observation_equations forall x . x = x options prover = auto }",
+        "schema_colimit C = quotient S + R : T { entity_equations S.E = R.F path_equations S_E_f = R_F_g \
+        observation_equations forall x . x = x options prover = auto }",
         (0, 0, 0),
     ),
     (
-        "mapping F = literal : S -> R { entity E -> G foreign_keys f -> h.k attributes v -> lambda x . plus(x.w, one) w -> lambda y : G . y w -> a.b } mapping I = identity S mapping M = getMapping C S",
+        "mapping F = literal : S -> R { entity E -> G foreign_keys f -> h.k \
+        attributes v -> lambda x . plus(x.w, one) w -> lambda y : G . y w -> a.b } mapping I = identity S \
+        mapping M = getMapping C S",
         (0, 0, 0),
     ),
     (
-        "query Q = literal : S -> R { entity P -> { from a b : E where a.f = b.f attributes w -> v(a.f) foreign_keys k -> { c -> b } } }",
+        "query Q = literal : S -> R { entity P -> { from a b : E where a.f = b.f attributes w -> v(a.f) \
+        foreign_keys k -> { c -> b } } }",
         (0, 0, 0),
     ),
     (
@@ -34,11 +40,13 @@ const TEXTS: [(&str, (u32, u32, u32)); 62] = [
         (0, 0, 0),
     ),
     (
-        "instance delta = delta sigma eval instance G = sigma F I instance V = eval Q I instance W = coeval Q I instance B = coproduct I + J : S instance O = pushout h k",
+        "instance delta = delta sigma eval instance G = sigma F I instance V = eval Q I instance W = coeval Q I \
+        instance B = coproduct I + J : S instance O = pushout h k",
         (0, 0, 0),
     ),
     (
-        "instance P = import_csv \"data\" : S instance P = import_csv \"data\" : S { } instance P = import_csv \"data\" : S { options timeout = \"5\" }",
+        "instance P = import_csv \"data\" : S instance P = import_csv \"data\" : S { } \
+        instance P = import_csv \"data\" : S { options timeout = \"5\" }",
         (0, 0, 0),
     ),
     (
@@ -79,7 +87,8 @@ const TEXTS: [(&str, (u32, u32, u32)); 62] = [
     ),
     ("instance I = import_csv \"a\" : S { imports", (120, 1, 35)),
     (
-        "typeside constraints = literal { types command graph html md chase pi except distinct anonymize pivot coequalize colimit simple sql }",
+        "typeside constraints = literal { types command graph html md chase pi except distinct anonymize pivot \
+        coequalize colimit simple sql }",
         (0, 0, 0),
     ),
     ("typeside imports", (21, 1, 10)),
@@ -163,7 +172,8 @@ const OPEN_TYPES: [(&str, (u32, u32, u32)); 15] = [
 // Texts on the second form of an import, as above.
 const IMPORTS: [(&str, (u32, u32, u32)); 7] = [
     (
-        "instance P = import_csv2 \"d\" : S instance P = import_csv2 \"d\" : S { } instance P = import_csv2 \"d\" : S { options timeout = \"5\" }",
+        "instance P = import_csv2 \"d\" : S instance P = import_csv2 \"d\" : S { } \
+        instance P = import_csv2 \"d\" : S { options timeout = \"5\" }",
         (0, 0, 0),
     ),
     (
