@@ -51,7 +51,7 @@ const E_FILE: &str = "id,x,y,k\ne1,\"Smith, Al\",?1,d1\ne2,,?1,d1\n";
 const UNKNOWN: &str = "schema S = literal : nobody { }";
 
 /// The files of each format of the program that merges, in their order.
-const CSV_FILES: [&str; 8] = [
+static CSV_FILES: [&str; 8] = [
     "I/A.csv",
     "I/B.csv",
     "I/entries-2.csv",
@@ -62,7 +62,7 @@ const CSV_FILES: [&str; 8] = [
     "K/entries-2.csv",
 ];
 
-const CQL_FILES: [&str; 3] = ["I.cql", "J.cql", "K.cql"];
+static CQL_FILES: [&str; 3] = ["I.cql", "J.cql", "K.cql"];
 
 /// The calls that fail, by their numbers from 0, and the room of the sink.
 struct Faults {

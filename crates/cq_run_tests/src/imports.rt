@@ -255,7 +255,7 @@ fn folders_with_their_outcomes(rt: HostRuntime) -> Result<(), Fail> {
 }
 
 /// The files of the first case.
-const EXPORTED: [(&str, &str); 3] = [
+static EXPORTED: [(&str, &str); 3] = [
     ("I/E.csv", "id,x,y,k\n1,\"Smith, Al\",?0,1\n2,?1,?0,1\n"),
     ("I/D.csv", "id\n1\n"),
     (

@@ -470,19 +470,20 @@ const IN_SIZE: &str = "\
 46 TooLarge| ^forall x. plus(size(\"Bo\"), succ($)) = A_v(x) }
 ";
 
-#[test]
-fn added_equations_by_their_size(rt: HostRuntime) -> Result<(), Fail> {
-    let table = Table {
-        words: RUN,
-        lines: "typeside T = literal { types s n literals s constants Al : s zero : n \
-            functions succ : n -> n plus : n, n -> n size : s -> n }
+static BY_SIZE: Table = Table {
+    words: RUN,
+    lines: "typeside T = literal { types s n literals s constants Al : s zero : n \
+        functions succ : n -> n plus : n, n -> n size : s -> n }
 schema A = literal : T { entities X attributes v : X -> n }
 ",
-        front: "schema_colimit D = quotient A : T { observation_equations ",
-        rows: IN_SIZE,
-        listed: "",
-        leaf: "plus(zero, zero)",
-    };
-    try_rows(&rt, rt.alloc(), &table)?;
+    front: "schema_colimit D = quotient A : T { observation_equations ",
+    rows: IN_SIZE,
+    listed: "",
+    leaf: "plus(zero, zero)",
+};
+
+#[test]
+fn added_equations_by_their_size(rt: HostRuntime) -> Result<(), Fail> {
+    try_rows(&rt, rt.alloc(), &BY_SIZE)?;
     Ok(())
 }

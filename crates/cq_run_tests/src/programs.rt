@@ -7,7 +7,7 @@ use std::test::Fail;
 
 // A text, and what becomes of it: 0 where it is a program, else the kind of its refusal, for a word that is
 // left out its number and 100; with the line and the column.
-const TEXTS: [(&str, (u32, u32, u32)); 62] = [
+static TEXTS: [(&str, (u32, u32, u32)); 62] = [
     ("", (0, 0, 0)),
     (
         "typeside T = literal { types n constants one \"two words\" : n functions plus times : n, n -> n }",
@@ -139,7 +139,7 @@ const TEXTS: [(&str, (u32, u32, u32)); 62] = [
 ];
 
 // Texts on the open type of a typeside, as above.
-const OPEN_TYPES: [(&str, (u32, u32, u32)); 15] = [
+static OPEN_TYPES: [(&str, (u32, u32, u32)); 15] = [
     (
         "typeside T = literal { types s n literals s constants Al : s functions f : s -> n options prover = auto }",
         (0, 0, 0),
@@ -170,7 +170,7 @@ const OPEN_TYPES: [(&str, (u32, u32, u32)); 15] = [
 ];
 
 // Texts on the second form of an import, as above.
-const IMPORTS: [(&str, (u32, u32, u32)); 7] = [
+static IMPORTS: [(&str, (u32, u32, u32)); 7] = [
     (
         "instance P = import_csv2 \"d\" : S instance P = import_csv2 \"d\" : S { } \
         instance P = import_csv2 \"d\" : S { options timeout = \"5\" }",
@@ -188,7 +188,7 @@ const IMPORTS: [(&str, (u32, u32, u32)); 7] = [
 ];
 
 // Texts that stand alone as terms, as above.
-const TERMS: [(&str, (u32, u32, u32)); 15] = [
+static TERMS: [(&str, (u32, u32, u32)); 15] = [
     ("a", (0, 0, 0)),
     ("f(a.g, \"x y\").h", (0, 0, 0)),
     ("\n\"x\"", (0, 0, 0)),
@@ -267,8 +267,8 @@ fn repeated(alloc: Global, pieces: &[(&str, usize)]) -> Result<String, AllocErro
 #[test]
 fn texts_have_the_outcomes_written(rt: HostRuntime) -> Result<(), Fail> {
     let alloc = rt.alloc();
-    for (text, wanted) in TEXTS {
-        assert_eq!(rt; outcome(alloc, text)?, wanted, "{text}");
+    for (text, wanted) in &TEXTS {
+        assert_eq!(rt; outcome(alloc, text)?, *wanted, "{text}");
     }
     Ok(())
 }
@@ -276,8 +276,8 @@ fn texts_have_the_outcomes_written(rt: HostRuntime) -> Result<(), Fail> {
 #[test]
 fn open_types_have_the_outcomes_written(rt: HostRuntime) -> Result<(), Fail> {
     let alloc = rt.alloc();
-    for (text, wanted) in OPEN_TYPES {
-        assert_eq!(rt; outcome(alloc, text)?, wanted, "{text}");
+    for (text, wanted) in &OPEN_TYPES {
+        assert_eq!(rt; outcome(alloc, text)?, *wanted, "{text}");
     }
     Ok(())
 }
@@ -285,8 +285,8 @@ fn open_types_have_the_outcomes_written(rt: HostRuntime) -> Result<(), Fail> {
 #[test]
 fn imports_have_the_outcomes_written(rt: HostRuntime) -> Result<(), Fail> {
     let alloc = rt.alloc();
-    for (text, wanted) in IMPORTS {
-        assert_eq!(rt; outcome(alloc, text)?, wanted, "{text}");
+    for (text, wanted) in &IMPORTS {
+        assert_eq!(rt; outcome(alloc, text)?, *wanted, "{text}");
     }
     Ok(())
 }
@@ -294,8 +294,8 @@ fn imports_have_the_outcomes_written(rt: HostRuntime) -> Result<(), Fail> {
 #[test]
 fn terms_have_the_outcomes_written(rt: HostRuntime) -> Result<(), Fail> {
     let alloc = rt.alloc();
-    for (text, wanted) in TERMS {
-        assert_eq!(rt; term_outcome(alloc, text)?, wanted, "{text}");
+    for (text, wanted) in &TERMS {
+        assert_eq!(rt; term_outcome(alloc, text)?, *wanted, "{text}");
     }
     Ok(())
 }

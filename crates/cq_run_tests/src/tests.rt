@@ -280,7 +280,7 @@ fn each_status_with_its_line(rt: HostRuntime) -> Result<(), Fail> {
 }
 
 /// Texts that break a rule.
-const REFUSED: Table = Table {
+static REFUSED: Table = Table {
     words: RUN,
     lines: "",
     front: "",
