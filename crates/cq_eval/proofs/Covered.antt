@@ -15,7 +15,7 @@ use Rattle.cq_theory.specs.Canonical.{below}
 use Rattle.cq_theory.specs.Tables.{Tables, AtRow, Assignment, row_in, row_from, row_of, cell_at, value_of, value_step}
 use Rattle.cq_theory.proofs.Faults.{made_of}
 use Rattle.cq_theory.proofs.TypeTerms.{fold-Att}
-use Rattle.cq_model.specs.Numbering.{positions_from, positions}
+use Rattle.cq_theory.specs.Groups.{positions_from, positions}
 use Rattle.cq_model.proofs.Lists.{All_from, get-range}
 use Rattle.cq_query.specs.Answers.{IsTuple}
 use Rattle.cq_query.proofs.Holding.{tuple_length}

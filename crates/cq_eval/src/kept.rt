@@ -4,7 +4,7 @@ ghost use Rattle.cq_theory.specs.Canonical.{below};
 ghost use Rattle.cq_theory.specs.Tables.{Tables, row_from};
 ghost use Rattle.cq_theory.specs.declared.value.Value.{Value};
 ghost use Rattle.cq_model.specs.CellRows.{rows_with, indexed_rows};
-ghost use Rattle.cq_model.specs.Numbering.{positions};
+ghost use Rattle.cq_theory.specs.Groups.{positions};
 ghost use Rattle.cq_model.specs.Terms.{IsOnWay};
 ghost use Rattle.cq_eval.specs.Kept.{AreKept, IsOfCells, IsOfKeys};
 

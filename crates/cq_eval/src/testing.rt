@@ -4,7 +4,7 @@ ghost use Rattle.cq_eval.specs.Testing.{holds_at, IsTestAt};
 
 use crate::choice::Choice;
 use cq_model::Instance;
-use cq_model::values::is_same;
+use cq_terms::is_same_value;
 use cq_theory::Equation;
 use std::alloc::{AllocError, Global};
 
@@ -28,7 +28,7 @@ pub(crate) fn holds(
         Equation::Typ(left, right) => {
             let left = instance.value_over(alloc, standings, left)?;
             let right = instance.value_over(alloc, standings, right)?;
-            Ok(is_same(&left, &right))
+            Ok(is_same_value(&left, &right))
         }
     }
 }

@@ -15,11 +15,12 @@ ghost use Rattle.cq_import.specs.Labels.{with_uses};
 use crate::cells::{Context, Made};
 use crate::columns::Column;
 use crate::entity_file::EntityFile;
-use crate::generators::{name_generators, push_row_sorts};
+use crate::generators::push_row_sorts;
 use crate::labels::Labels;
 use crate::refusal::CsvRefusal;
 use crate::tables::read_cells;
 use cq_base::Seq;
+use cq_terms::name_generators;
 use cq_theory::{Presentation, Schema};
 use std::alloc::{AllocError, Global};
 

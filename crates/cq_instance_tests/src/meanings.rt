@@ -1,9 +1,9 @@
 //! The rows and the values that terms mean.
 use crate::given::{Content, Keys, ent_term, instance, one};
 use cq_model::Instance;
-use cq_model::values::is_same;
 use cq_steps::side::Side;
 use cq_steps::sorts::is_ground;
+use cq_terms::is_same_value;
 use cq_theory::{Con, EntTerm, TypeTerm, Value};
 use std::alloc::Global;
 use std::process::Abort;
@@ -88,7 +88,7 @@ fn wanted(rt: &impl Abort, alloc: Global, meaning: Meaning) -> Option<Value> {
 
 fn are_same(found: &Option<Value>, wanted: &Option<Value>) -> bool {
     match (found, wanted) {
-        (Some(found), Some(wanted)) => is_same(found, wanted),
+        (Some(found), Some(wanted)) => is_same_value(found, wanted),
         (None, None) => true,
         _ => false,
     }

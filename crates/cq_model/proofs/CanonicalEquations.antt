@@ -22,9 +22,10 @@ use Rattle.cq_theory.proofs.OnValues.{Each, on_values, All_at}
 use Rattle.cq_theory.proofs.Sound.{is_type_some, applied_type_some}
 use Rattle.cq_theory.proofs.Values as values
 use Rattle.cq_model.specs.declared.canonical.Numbers.{Numbers}
-use Rattle.cq_model.specs.Numbering.{positions}
+use Rattle.cq_theory.specs.Groups.{positions}
 use Rattle.cq_model.specs.Given.{size_of, given}
 use Rattle.cq_model.specs.Numbers as made
+use Rattle.cq_terms.specs.ValueTerms as terms_of
 use Rattle.cq_model.proofs.LeafCells.{edge_numbers}
 use Rattle.cq_model.proofs.Lists.{IsIn, get-map, get-map_from, map-map, map_same, flat_map_same, in_range, All_from}
 use Rattle.cq_model.proofs.Pushed.{start_fits}
@@ -80,31 +81,31 @@ module _ (S : Schema) (M : Tables) (schema : IsSchema S) (well : IsWellFormed S 
   type_in = value_type S nulls
 
   abbrev IsMade : Value → Type 0
-  IsMade v = (type : ℕ) → type_in v ≡ Some type → made.value_made first (length nulls) v ≡ value_term S M v
+  IsMade v = (type : ℕ) → type_in v ≡ Some type → terms_of.value_term first (length nulls) v ≡ value_term S M v
 
-  all_made : (vs : List Value) (types : List ℕ) → Each IsMade vs → have_types (map type_in vs) types ≡ true → map (made.value_made first (length nulls)) vs ≡ map (value_term S M) vs
+  all_made : (vs : List Value) (types : List ℕ) → Each IsMade vs → have_types (map type_in vs) types ≡ true → map (terms_of.value_term first (length nulls)) vs ≡ map (value_term S M) vs
   all_made [] types each h = refl
   all_made (v ∷ vs) [] each h = cc
   all_made (v ∷ vs) (type ∷ types) each h =
       let parts = and_parts (is_type (type_in v) type) (have_types (map type_in vs) types) h in
-      let one : made.value_made first (length nulls) v ≡ value_term S M v = each.0 type (is_type_some (type_in v) type parts.0) in
-      let rest : map (made.value_made first (length nulls)) vs ≡ map (value_term S M) vs = all_made vs types each.1 parts.1 in
+      let one : terms_of.value_term first (length nulls) v ≡ value_term S M v = each.0 type (is_type_some (type_in v) type parts.0) in
+      let rest : map (terms_of.value_term first (length nulls)) vs ≡ map (value_term S M) vs = all_made vs types each.1 parts.1 in
       λ i. one i ∷ rest i
 
-  args_made : (f type : ℕ) (vs : List Value) → Each IsMade vs → type_in (value.Fun f vs) ≡ Some type → map (made.value_made first (length nulls)) vs ≡ map (value_term S M) vs
+  args_made : (f type : ℕ) (vs : List Value) → Each IsMade vs → type_in (value.Fun f vs) ≡ Some type → map (terms_of.value_term first (length nulls)) vs ≡ map (value_term S M) vs
   args_made f type vs each h =
       let parts = applied_type_some (slice_get S.typeside.functions f) (map type_in vs) type (sym (values.fold-Fun (Option ℕ) (value_type_step S nulls) f vs) ∙ h) in
       all_made vs parts.0.args each parts.2
 
   value_is : (v : Value) → IsMade v
   value_is = on_values IsMade
-      (λ c type h. values.fold-Const TypeTerm (made.value_made_step first (length nulls)) c ∙ sym (values.fold-Const TypeTerm (value_term_step S M) c))
+      (λ c type h. values.fold-Const TypeTerm (terms_of.value_term_step first (length nulls)) c ∙ sym (values.fold-Const TypeTerm (value_term_step S M) c))
       (λ n type h.
       let typed : slice_get nulls n ≡ Some type = sym (values.fold-Null (Option ℕ) (value_type_step S nulls) n) ∙ h in
-      values.fold-Null TypeTerm (made.value_made_step first (length nulls)) n
+      values.fold-Null TypeTerm (terms_of.value_term_step first (length nulls)) n
       ∙ ap term.Gen (get_or-range_with_len first (length nulls) n 0 (slice_get_within nulls n type typed)) ∙ sym (values.fold-Null TypeTerm (value_term_step S M) n))
       (λ f vs each type h.
-      values.fold-Fun TypeTerm (made.value_made_step first (length nulls)) f vs ∙ ap (term.Fun f) (args_made f type vs each h) ∙ sym (values.fold-Fun TypeTerm (value_term_step S M) f vs))
+      values.fold-Fun TypeTerm (terms_of.value_term_step first (length nulls)) f vs ∙ ap (term.Fun f) (args_made f type vs each h) ∙ sym (values.fold-Fun TypeTerm (value_term_step S M) f vs))
 
   each_is : (vs : List Value) → Each IsMade vs
   each_is [] = tt
@@ -118,7 +119,7 @@ module _ (S : Schema) (M : Tables) (schema : IsSchema S) (well : IsWellFormed S 
       let edge = model.from_edges e S.attributes among.place p among.is in
       let cell = model.cell_is S M schema well e row p.0 p.1 inside edge.0 edge.1 in
       let left : slice_index N.starts e + row ≡ row_generator S M e row = generator_at e row within in
-      let right : made.value_made first (length nulls) (cell_at M p.0 row) ≡ value_term S M (cell_at M p.0 row) = value_is (cell_at M p.0 row) p.1.to cell.typed in
+      let right : terms_of.value_term first (length nulls) (cell_at M p.0 row) ≡ value_term S M (cell_at M p.0 row) = value_is (cell_at M p.0 row) p.1.to cell.typed in
       λ i. Typ (term.Att p.0 (record { generator = left i; path = [] })) (right i)
 
   target_is : (e row k : ℕ) (edge : Edge) → row < count_of M e → slice_get S.keys k ≡ Some edge → edge.from ≡ e → made.target_generator M.sheet N k row ≡ row_generator S M edge.to (key_at M k row)
@@ -155,7 +156,7 @@ module _ (S : Schema) (M : Tables) (schema : IsSchema S) (well : IsWellFormed S 
       flat_map_same (made.row_made M.sheet N e) (row_equations S M e) (below (count_of M e)) (λ row here.
       row_is e row (in_range (length S.entities) e among) (in_range (count_of M e) row here)))
 
-  entry_made_is : (entry : Entry) → IsIn entry M.algebra.entries → made.entry_made first (length nulls) entry ≡ entry_equation S M entry
+  entry_made_is : (entry : Entry) → IsIn entry M.algebra.entries → terms_of.entry_equation first (length nulls) entry ≡ entry_equation S M entry
   entry_made_is entry among =
       let sound : IsSoundEntry S M entry = All_at (IsSoundEntry S M) M.algebra.entries among.place entry well.entries among.is in
       let left = args_made entry.function sound.function.result entry.args (each_is entry.args) sound.typed in
@@ -164,8 +165,8 @@ module _ (S : Schema) (M : Tables) (schema : IsSchema S) (well : IsWellFormed S 
 
   pub equations_are : made.equations M.sheet N M.algebra.entries ≡ (canonical S M).equations
   equations_are =
-      let entries : map (made.entry_made first (length nulls)) M.algebra.entries ≡ map (entry_equation S M) M.algebra.entries =
-      map_same (made.entry_made first (length nulls)) (entry_equation S M) M.algebra.entries entry_made_is in
+      let entries : map (terms_of.entry_equation first (length nulls)) M.algebra.entries ≡ map (entry_equation S M) M.algebra.entries =
+      map_same (terms_of.entry_equation first (length nulls)) (entry_equation S M) M.algebra.entries entry_made_is in
       λ i. rows_are i ++ entries i
 
   pub room : size_of M ≤ 16000000 → made.HaveRoom M.sheet N

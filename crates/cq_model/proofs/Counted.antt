@@ -6,7 +6,8 @@ use Rattle.std.proofs.lemmas.List.{length-map}
 use Rattle.std.proofs.lemmas.Option.{slice_get_within}
 use Rattle.std.proofs.lemmas.List.FromFn.{get_or-map-range_with_len}
 use Rattle.cq_theory.specs.Canonical.{below}
-use Rattle.cq_model.specs.Numbering.{positions, members, Cell, row_cells, entity_cells, cells, entity_types, types, starts}
+use Rattle.cq_theory.specs.Groups.{positions}
+use Rattle.cq_model.specs.Numbering.{members, Cell, row_cells, entity_cells, cells, entity_types, types, starts}
 use Rattle.cq_model.proofs.Lists.{flat_map_same, map-map, map-flat_map, in_range, All_from, get-map_from}
 use Rattle.cq_model.proofs.Ranks.{positions_at, members-length}
 use Rattle.cq_model.proofs.Numbering.{next_start, cells-monotone}

@@ -9,7 +9,8 @@ use Rattle.std.proofs.lemmas.List.Concat.{flat_map-append}
 use Rattle.std.proofs.lemmas.List.FromFn.{fill_by_all, length-map-range_with_len, get_or-map-range_with_len, map-range_with_len_more}
 use Rattle.std.proofs.lemmas.Option.{slice_get-get_or}
 use Rattle.cq_theory.specs.Canonical.{below}
-use Rattle.cq_model.specs.Numbering.{positions, rank, entity_types, types, starts}
+use Rattle.cq_theory.specs.Groups.{positions}
+use Rattle.cq_model.specs.Numbering.{rank, entity_types, types, starts}
 use Rattle.cq_model.proofs.Lists.{range-append, map-append}
 use Rattle.cq_model.proofs.Ranks.{positions-append, rank_more, rank_zero}
 

@@ -9,7 +9,7 @@ use Rattle.cq_theory.specs.Resolve.{or_else}
 use Rattle.cq_theory.specs.Tables.{is_for}
 use Rattle.cq_theory.proofs.Faults.{made_of}
 use Rattle.cq_theory.proofs.OnValues.{entry_for}
-use Rattle.cq_model.specs.Numbering.{positions, positions_from}
+use Rattle.cq_theory.specs.Groups.{positions, positions_from}
 use Rattle.cq_model.specs.Digests.{digest_of_application}
 use Rattle.cq_model.specs.EntryLists.{AreEntryLists, entry_number, passing, first_among, list_for}
 use Rattle.cq_model.proofs.Lists.{All_from}

@@ -8,7 +8,7 @@ use Rattle.std.proofs.lemmas.List.FromFn.{get_or-map-range_with_len, length-map-
 use Rattle.cq_theory.specs.declared.value.Value.{Value}
 use Rattle.cq_theory.specs.Canonical.{below}
 use Rattle.cq_model.specs.Digests.{digest_of}
-use Rattle.cq_model.specs.Numbering.{positions, positions_from}
+use Rattle.cq_theory.specs.Groups.{positions, positions_from}
 use Rattle.cq_model.specs.SameValue.{same_value}
 use Rattle.cq_model.specs.CellRows.{rows_from, rows_with, group_rows, indexed_rows}
 use Rattle.cq_model.specs.declared.cell_index.ValueRows.{ValueRows}

@@ -13,7 +13,8 @@ use Rattle.cq_theory.specs.declared.term.TypeTerm.TheVariants.{Att}
 use Rattle.cq_theory.specs.Canonical.{below, edges_from}
 use Rattle.cq_theory.specs.Listed.{cell_nodes}
 use Rattle.cq_model.specs.LeafPlaces.{sources}
-use Rattle.cq_model.specs.Numbering.{positions_from, positions, rank, Cell, row_cells, entity_cells, cells, label}
+use Rattle.cq_theory.specs.Groups.{positions_from, positions}
+use Rattle.cq_model.specs.Numbering.{rank, Cell, row_cells, entity_cells, cells, label}
 use Rattle.cq_model.specs.RowNumbers.{name_in, names_by}
 use Rattle.cq_model.proofs.Lists.{flat_map_same, map-map, map-flat_map, in_range}
 use Rattle.cq_model.proofs.Ranks.{positions_rank}

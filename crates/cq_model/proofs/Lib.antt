@@ -38,6 +38,7 @@ pub mod BuiltReading
 pub mod OnWay
 pub mod AddedLeaves
 pub mod AddedSides
+pub mod NumberedEquations
 pub mod NamedRows
 pub mod NamedLeaves
 pub mod AllNodes

@@ -25,7 +25,8 @@ use Rattle.cq_model.specs.Equating.{IsPresented}
 use Rattle.cq_model.specs.LeafPlaces.{sources, targets, AreFirsts, AddsLeaves, AddsGenerators, plain_type, places_from}
 use Rattle.cq_model.specs.NodeListData.{NodeListData}
 use Rattle.cq_model.specs.NodeTerms.{leaf_terms, ArePlaces, AreSidesOf}
-use Rattle.cq_model.specs.Numbering.{positions, rank, types, starts}
+use Rattle.cq_theory.specs.Groups.{positions}
+use Rattle.cq_model.specs.Numbering.{rank, types, starts}
 use Rattle.cq_model.specs.Pushing.{HavePlaces, AreTermsOf}
 use Rattle.cq_model.specs.RowNumbers.{row_entities, names_by}
 use Rattle.cq_model.proofs.BuiltRows.{entity_at_some}

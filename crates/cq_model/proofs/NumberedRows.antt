@@ -13,7 +13,8 @@ use Rattle.cq_theory.specs.declared.presentation.Presentation.{Presentation}
 use Rattle.cq_theory.specs.SchemaData.{SchemaData as Schema}
 use Rattle.cq_theory.specs.declared.term.EntTerm.{EntTerm}
 use Rattle.cq_theory.specs.Sorts.{entity_of}
-use Rattle.cq_model.specs.Numbering.{positions, rank}
+use Rattle.cq_theory.specs.Groups.{positions}
+use Rattle.cq_model.specs.Numbering.{rank}
 use Rattle.cq_model.specs.Closed.{AreClosed}
 use Rattle.cq_model.specs.LeastNames.{rows_at, terms_at, IsLeast, AreNumbered}
 use Rattle.cq_model.specs.Walking.{IsUpTo, Listing, IsNamedUpTo, IsListing, IsWalked, IsWalkOf}

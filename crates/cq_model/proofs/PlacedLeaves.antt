@@ -24,7 +24,8 @@ use Rattle.cq_theory.specs.Sorts.{type_of, type_step, entity_of, followed}
 use Rattle.cq_theory.proofs.TypeTerms.{fold-Gen, fold-Att}
 use Rattle.cq_model.specs.declared.places.Places.{Places}
 use Rattle.cq_model.specs.Closed.{AreClosed}
-use Rattle.cq_model.specs.Numbering.{positions, rank, members as size_of, Cell, cells, label, types, starts}
+use Rattle.cq_theory.specs.Groups.{positions}
+use Rattle.cq_model.specs.Numbering.{rank, members as size_of, Cell, cells, label, types, starts}
 use Rattle.cq_model.specs.RowNumbers.{name_in, row_entities, names_by}
 use Rattle.cq_model.specs.LeafPlaces.{sources, targets, AreFirsts, plain_type, places_from}
 use Rattle.cq_model.specs.Walking.{IsWalkOf}

@@ -1,15 +1,13 @@
--- What loops append, one step on: over the numbers below a count, and over generators with their numbers.
+-- What loops append, one step on: over the numbers below a count.
 use Rattle.std.proofs.Common.{ℕ, zero, suc, List, [], ◌∷◌, ◌++◌, ◌≡◌, ◌<◌, ◌≤◌, ◌+◌, map, take, length, get_or, slice_index, sym, ap, ◌∙◌, append_assoc, arith}
-use Rattle.std.specs.Prelude.{codes, decimal, replicate, sum}
-use Rattle.std.specs.List.{range_with_len, flat_map, enumerate_from}
-use Rattle.std.proofs.lemmas.List.{append-nil, take_more, map-append, length-take-le, replicate_more}
+use Rattle.std.specs.Prelude.{replicate, sum}
+use Rattle.std.specs.List.{range_with_len, flat_map}
+use Rattle.std.proofs.lemmas.List.{append-nil, map-append, replicate_more}
 use Rattle.std.proofs.lemmas.List.Sums.{sum_by_more, sum_by_more_le}
 use Rattle.std.proofs.lemmas.List.FromFn.{map-range_with_len_more}
 use Rattle.std.proofs.lemmas.Grind.{flat_map-append}
-use Rattle.cq_base.specs.declared.name.Name.{Name}
-use Rattle.cq_theory.specs.declared.presentation.Sort.{Sort}
 use Rattle.cq_theory.specs.Tables.{Meaning}
-use Rattle.cq_theory.specs.Canonical.{below, named}
+use Rattle.cq_theory.specs.Canonical.{below}
 use Rattle.cq_model.specs.declared.standing.Standing.{Standing}
 use Rattle.cq_model.specs.Standing.{meaning}
 use Rattle.cq_model.specs.Numbers.{start_of}
@@ -28,25 +26,6 @@ pushed_below f before old new n are is =
     let last : flat_map f (below (n + 1)) ≡ flat_map f (below n) ++ f n =
     ap (flat_map f) longer ∙ flat_map-append f (below n) (n ∷ []) ∙ ap (λ l. flat_map f (below n) ++ l) (append-nil (f n)) in
     is ∙ ap (λ l. l ++ f n) are ∙ append_assoc before (flat_map f (below n)) (f n) ∙ ap (λ l. before ++ l) (sym last)
-
-enumerate_from-append : {X : Type 0} (s : ℕ) (xs : List X) (x : X) → enumerate_from s (xs ++ x ∷ []) ≡ enumerate_from s xs ++ (s + length xs, x) ∷ []
-enumerate_from-append s [] x = let here : s ≡ s + 0 = omega arith in ap (λ n. (n, x) ∷ []) here
-enumerate_from-append s (y ∷ ys) x =
-    let there : s + 1 + length ys ≡ s + length (y ∷ ys) = omega arith in
-    ap (λ l. (s, y) ∷ l) (enumerate_from-append (s + 1) ys x ∙ ap (λ n. enumerate_from (s + 1) ys ++ (n, x) ∷ []) there)
-
-abbrev generator_at : ℕ × Sort → Name × Sort
-generator_at p = (codes "g" ++ decimal p.0, p.1)
-
--- one generator more
-pub named_more : (sorts : List Sort) (i n : ℕ) (d : Sort) (old new : List (Name × Sort)) → i < length sorts → n ≡ 1 + i → old ≡ named (take i sorts)
-    → new ≡ old ++ (codes "g" ++ decimal n, get_or sorts i d) ∷ [] → new ≡ named (take (i + 1) sorts)
-named_more sorts i n d old new within number are is =
-    let so_far : length (take i sorts) ≡ i = length-take-le i sorts (omega arith) in
-    let last : n ≡ 1 + length (take i sorts) = omega arith in
-    is ∙ (λ j. are j ++ generator_at (last j, get_or sorts i d) ∷ [])
-    ∙ sym (map-append generator_at (enumerate_from 1 (take i sorts)) ((1 + length (take i sorts), get_or sorts i d) ∷ []))
-    ∙ ap (map generator_at) (sym (enumerate_from-append 1 (take i sorts) (get_or sorts i d))) ∙ ap named (sym (take_more sorts i d within))
 
 -- one more of the same
 pub replicated_more : {X : Type 0} (x : X) (before old new : List X) (n : ℕ) → old ≡ before ++ replicate n x → new ≡ old ++ x ∷ [] → new ≡ before ++ replicate (n + 1) x

@@ -6,7 +6,8 @@ use Rattle.std.proofs.lemmas.List.{same_lists, length-map, get_or-map}
 use Rattle.std.proofs.lemmas.List.FromFn.{length-range_with_len, get_or-range_with_len}
 use Rattle.std.proofs.lemmas.Option.{slice_get-get_or, slice_get_within}
 use Rattle.cq_theory.specs.Canonical.{below}
-use Rattle.cq_model.specs.Numbering.{positions_from, positions, rank, members}
+use Rattle.cq_theory.specs.Groups.{positions_from, positions}
+use Rattle.cq_model.specs.Numbering.{rank, members}
 
 module _ (x : ℕ) (xs : List ℕ) (e : ℕ) where
   rank_same : (x == e) ≡ true → (n : ℕ) → rank (x ∷ xs) e (suc n) ≡ suc (rank xs e n)

@@ -3,9 +3,12 @@ use Rattle.std.specs.Prelude.{ℕ, List, [], map, length}
 use Rattle.cq_tables.specs.Content.{Content}
 use Rattle.cq_model.specs.declared.building.BuildRefusal.{BuildRefusal}
 use Rattle.cq_model.specs.declared.building.BuildRefusal.TheVariants.{Depth, TooManyRows, Inconsistent, Memory}
+use Rattle.cq_model.specs.declared.building.ClosedRows.{ClosedRows}
 use Rattle.cq_model.specs.declared.building.ModelParts.{ModelParts}
 use Rattle.cq_model.specs.declared.numbers.NumberedRows.{NumberedRows}
+use Rattle.cq_model.specs.declared.places.ClosedPlaces.{ClosedPlaces}
 use Rattle.cq_model.specs.declared.places.Places.{Places}
+use Rattle.cq_model.specs.Built.{tables_of, assignment_of}
 use Rattle.cq_model.specs.Equating.{IsPresented}
 use Rattle.cq_model.specs.InstanceData.{InstanceData}
 use Rattle.cq_model.specs.NodeListData.{NodeListData}
@@ -18,6 +21,7 @@ use Rattle.cq_theory.specs.declared.presentation.Presentation.{Presentation}
 use Rattle.cq_theory.specs.SchemaData.{SchemaData as Schema}
 use Rattle.cq_theory.specs.declared.term.EntTerm.{EntTerm}
 use Rattle.cq_theory.specs.Closing.{IsInconsistentAt}
+use Rattle.cq_theory.specs.Tables.{Tables, Assignment}
 
 module _ (S : Schema) (P : Presentation) where
   module _ (m : Content) (entries : List ℕ) where
@@ -50,3 +54,13 @@ module _ (S : Schema) (P : Presentation) where
   IsRefusal TooManyRows = ⊥
   IsRefusal (Inconsistent c d) = IsInconsistentAt S P c d
   IsRefusal Memory = Unit {0}
+
+-- the tables, and what the generators stand for, where nodes of these types were closed
+module _ (rows : ClosedRows) (numbered : NumberedRows) (closed : ClosedPlaces) where
+  abbrev pub tables_read : List ℕ → Tables
+  tables_read types = tables_of rows.schema.now rows.presentation.now rows.tables.now rows.entries.now numbered.order numbered.numbers
+      closed.places.now types closed.flat.now
+
+  abbrev pub assignment_read : Assignment
+  assignment_read = assignment_of rows.schema.now rows.presentation.now rows.tables.now rows.entries.now numbered.order numbered.numbers
+      closed.places.now closed.flat.now.values

@@ -10,6 +10,7 @@ pub mod RowNumbers
 pub mod NodeListData
 pub mod Pushing
 pub mod Equating
+pub mod Grounds
 pub mod LeafPlaces
 pub mod Standing
 pub mod Given

@@ -3,14 +3,7 @@
 use Rattle.std.specs.Prelude.{ℕ, zero, suc, List, [], ◌∷◌, ◌+◌, ◌*◌, ◌==◌, if◌then◌else◌, map, length, slice_index, slice_index_or}
 use Rattle.std.specs.List.{flat_map}
 use Rattle.cq_theory.specs.Canonical.{below}
-
--- the numbers of the members that are e, where the first member has the number s
-abbrev pub positions_from : ℕ → List ℕ → ℕ → List ℕ
-positions_from s [] e = []
-positions_from s (x ∷ xs) e = if x == e then s ∷ positions_from (s + 1) xs e else positions_from (s + 1) xs e
-
-abbrev pub positions : List ℕ → ℕ → List ℕ
-positions xs e = positions_from 0 xs e
+use Rattle.cq_theory.specs.Groups.{positions}
 
 -- how many of the first n members are e
 abbrev pub rank : List ℕ → ℕ → ℕ → ℕ

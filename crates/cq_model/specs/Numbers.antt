@@ -1,7 +1,7 @@
 -- What the generators and the equations of the canonical presentation are made of: the numbers of generators, and the edges of each entity
 -- by their numbers.
 use Rattle.std.specs.Prelude.{ℕ, List, [], ◌∷◌, ◌++◌, ◌+◌, ◌<◌, ◌^◌, All, map, length, sum, take, replicate, slice_index, slice_index_or}
-use Rattle.std.specs.List.{flat_map, range_with_len}
+use Rattle.std.specs.List.{flat_map}
 use Rattle.cq_theory.specs.declared.constant.Con.TheVariants.{Named}
 use Rattle.cq_theory.specs.declared.presentation.Equation.{Equation}
 use Rattle.cq_theory.specs.declared.presentation.Equation.TheVariants.{Ent, Typ}
@@ -9,17 +9,14 @@ use Rattle.cq_theory.specs.declared.presentation.Sort.{Sort}
 use Rattle.cq_theory.specs.declared.presentation.Sort.TheVariants.{Plain, Entity}
 use Rattle.cq_theory.specs.declared.schema.Edge.{Edge}
 use Rattle.cq_theory.specs.declared.term.EntTerm.{EntTerm}
-use Rattle.cq_theory.specs.declared.term.TypeTerm.{TypeTerm}
 use Rattle.cq_theory.specs.declared.term.TypeTerm.TheVariants as term
-use Rattle.cq_theory.specs.declared.value.Value.{Value}
 use Rattle.cq_theory.specs.declared.value.Value.TheVariants as value
-use Rattle.cq_theory.specs.declared.value.Value.TheOpen.{Value-F, Const, Null, Fun}
-use Rattle.cq_theory.specs.declared.value.Value.TheFolds.{fold-Value}
 use Rattle.cq_theory.specs.declared.value.Entry.{Entry}
 use Rattle.cq_theory.specs.declared.value.Sheet.{Sheet}
 use Rattle.cq_theory.specs.Tables.{Meaning, AtRow, AtValue}
 use Rattle.cq_theory.specs.Canonical.{below}
-use Rattle.cq_model.specs.Numbering.{positions}
+use Rattle.cq_theory.specs.Groups.{positions}
+use Rattle.cq_terms.specs.ValueTerms.{value_term, entry_equation}
 use Rattle.cq_model.specs.declared.canonical.Numbers.{Numbers}
 
 module _ (counts : List ℕ) where
@@ -45,19 +42,6 @@ module _ (counts : List ℕ) where
   meanings nulls = flat_map (λ entity. map AtRow (below (slice_index counts entity))) (below (length counts))
       ++ map (λ n. AtValue (value.Null n)) (below nulls)
 
-module _ (first count : ℕ) where
-  abbrev pub value_made_step : Value-F TypeTerm → TypeTerm
-  value_made_step (Const c) = term.Const c
-  value_made_step (Null n) = term.Gen (slice_index (range_with_len first count) n)
-  value_made_step (Fun f args) = term.Fun f args
-
-  -- a value as a term, in which a null stands as its generator; these are `count` from `first` on
-  abbrev pub value_made : Value → TypeTerm
-  value_made = fold-Value TypeTerm value_made_step
-
-  abbrev pub entry_made : Entry → Equation
-  entry_made entry = Typ (term.Fun entry.function (map value_made entry.args)) (value_made entry.value)
-
 module _ (sheet : Sheet) (numbers : Numbers) where
   -- the row in a key's column, and the value in an attribute's
   abbrev pub key_row : ℕ → ℕ → ℕ
@@ -69,7 +53,7 @@ module _ (sheet : Sheet) (numbers : Numbers) where
   abbrev pub cell_made : ℕ → ℕ → ℕ → Equation
   cell_made generator row a =
       Typ (term.Att a (record { generator = generator; path = [] }))
-      (value_made numbers.first_null numbers.nulls (slice_index_or (slice_index_or sheet.cells a []) row (value.Const (Named 0))))
+      (value_term numbers.first_null numbers.nulls (slice_index_or (slice_index_or sheet.cells a []) row (value.Const (Named 0))))
 
   abbrev pub key_made : ℕ → ℕ → ℕ → Equation
   key_made generator row k = Ent (record { generator = generator; path = k ∷ [] })
@@ -91,7 +75,7 @@ module _ (sheet : Sheet) (numbers : Numbers) where
   rows_made = flat_map entity_made (below (length sheet.counts))
 
   abbrev pub equations : List Entry → List Equation
-  equations entries = rows_made ++ map (entry_made numbers.first_null numbers.nulls) entries
+  equations entries = rows_made ++ map (entry_equation numbers.first_null numbers.nulls) entries
 
   -- each number of a generator has 32 bits
   pub record HaveRoom : Type 0 where

@@ -4,7 +4,7 @@ use Rattle.cq_tables.specs.Content.{Content}
 use Rattle.cq_tables.specs.Content.{entity_of as row_entity}
 use Rattle.cq_theory.specs.declared.term.EntTerm.{EntTerm}
 use Rattle.cq_theory.specs.Canonical.{below}
-use Rattle.cq_model.specs.Numbering.{positions}
+use Rattle.cq_theory.specs.Groups.{positions}
 use Rattle.cq_model.specs.declared.numbers.NumberedRows.{NumberedRows}
 
 -- the term in a list of names

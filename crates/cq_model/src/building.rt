@@ -6,8 +6,9 @@ ghost use Rattle.cq_rows.specs.Saturated.{NoneCloses, SomeWide};
 ghost use Rattle.cq_theory.specs.declared.constant.Con.{Con};
 ghost use Rattle.cq_theory.specs.Closing.{IsInconsistent, IsInconsistentAt};
 ghost use Rattle.cq_theory.specs.Presentation.{IsPresentation};
-ghost use Rattle.cq_model.specs.Built.{IsBuilt, IsClosureOf, tables_of, assignment_of};
-ghost use Rattle.cq_model.specs.BuiltParts.{AreNamedRows, AreLeaves, instance_of, IsRefusal};
+ghost use Rattle.cq_model.specs.Built.{IsBuilt, IsClosureOf};
+ghost use Rattle.cq_model.specs.BuiltParts.{AreNamedRows, AreLeaves, instance_of, tables_read, assignment_read};
+ghost use Rattle.cq_model.specs.BuiltParts.{IsRefusal};
 ghost use Rattle.cq_model.specs.Closed.{AreClosed};
 ghost use Rattle.cq_model.specs.InstanceData.{IsInstance};
 ghost use Rattle.cq_model.specs.Listed.{IsListed};
@@ -23,7 +24,7 @@ use crate::leaves::{first_places, push_generators, push_leaves, ranks};
 use crate::nodes::NodeList;
 use crate::nulls::count_nulls;
 use crate::numbers::{NumberedRows, number_rows};
-use crate::places::Places;
+use crate::places::{ClosedPlaces, Ground, Places};
 use crate::reading::{read_algebra, read_sheet, read_standings};
 use crate::standing::Standing;
 use crate::walk::least_names;
@@ -138,23 +139,13 @@ fn make_nodes(
 {
     schema.is_well_sorted();
     let (mut list, places) = place_leaves(alloc, schema, presentation, tables, numbered)?;
-    push_given(
-        alloc,
-        schema,
-        presentation,
-        tables,
-        &places,
-        entries,
-        &mut list,
-    )?;
-    push_observations(
-        alloc,
+    let ground = Ground {
         schema,
         tables,
-        &places,
-        numbered.order.as_slice(),
-        &mut list,
-    )?;
+        places: &places,
+    };
+    push_given(alloc, &ground, presentation, entries, &mut list)?;
+    push_observations(alloc, &ground, numbered.order.as_slice(), &mut list)?;
     Ok((list, places))
 }
 
@@ -182,34 +173,40 @@ struct ModelParts {
     standings: Seq<Standing>,
 }
 
-/// The parts of the listed model, read from numbered rows and from the closure of nodes that have these types and
-/// places.
+/// A presentation over a schema with its closed rows: the tables, and the row of each generator of an entity.
+#[derive(Clone, Copy)]
+struct ClosedRows<'a> {
+    schema: &'a Schema,
+    presentation: &'a Presentation,
+    tables: &'a Tables,
+    entries: &'a [u64],
+}
+
+/// The parts of the listed model, read from numbered rows and from the closure of nodes that have these types.
 fn read_parts(
     alloc: Global,
-    schema: &Schema,
-    presentation: &Presentation,
-    tables: &Tables,
-    entries: &[u64],
+    rows: &ClosedRows,
     numbered: &NumberedRows,
-    places: &Places,
     types: &[u32],
-    flat: &Flat,
+    closed: &ClosedPlaces,
 ) -> Result<ModelParts, AllocError>
     requires few_types { length types.now < 2 ^ 64 }
-    requires closed { AreClosed schema.now presentation.now tables.now entries.now }
-    requires built { (nodes : List Node) × (equations : List (ℕ × ℕ))
-        × IsBuilt schema.now presentation.now tables.now entries.now numbered.now.order numbered.now.names
-        numbered.now.numbers places.now nodes equations types.now × IsClosureOf nodes equations flat.now }
+    requires closed { AreClosed rows.now.schema.now rows.now.presentation.now rows.now.tables.now
+        rows.now.entries.now }
+    requires built { (nodes : List Node) × (equations : List (ℕ × ℕ)) × IsBuilt rows.now.schema.now
+        rows.now.presentation.now rows.now.tables.now rows.now.entries.now numbered.now.order numbered.now.names
+        numbered.now.numbers closed.now.places.now nodes equations types.now
+        × IsClosureOf nodes equations closed.now.flat.now }
     ensures tables { IfOk result (λ parts. record { sheet = parts.sheet; algebra = parts.algebra }
-        ≡ tables_of schema.now presentation.now tables.now entries.now numbered.now.order numbered.now.numbers places.now types.now flat.now) }
+        ≡ tables_read rows.now numbered.now closed.now types.now) }
     ensures assignment { IfOk result (λ parts. map meaning parts.standings
-        ≡ assignment_of schema.now presentation.now tables.now entries.now numbered.now.order numbered.now.numbers places.now flat.now.values) }
+        ≡ assignment_read rows.now numbered.now closed.now) }
 {
     let order = numbered.order.as_slice();
     let numbers = numbered.numbers.as_slice();
-    let sheet = read_sheet(alloc, schema, tables, order, numbers, places, flat)?;
-    let algebra = read_algebra(alloc, types, flat)?;
-    let standings = read_standings(alloc, presentation, entries, numbers, places, flat)?;
+    let sheet = read_sheet(alloc, rows.schema, rows.tables, order, numbers, closed)?;
+    let algebra = read_algebra(alloc, types, closed.flat)?;
+    let standings = read_standings(alloc, rows.presentation, rows.entries, numbers, closed)?;
     Ok(ModelParts {
         sheet,
         algebra: EntryTable::new(alloc, algebra)?,
@@ -243,17 +240,17 @@ fn model_parts(
     if let Some((least, greater)) = flat.clash() {
         return Err(BuildRefusal::Inconsistent(least.clone()?, greater.clone()?));
     }
-    let parts = read_parts(
-        alloc,
+    let rows = ClosedRows {
         schema,
         presentation,
         tables,
         entries,
-        numbered,
-        &places,
-        types.as_slice(),
-        &flat,
-    )?;
+    };
+    let closed = ClosedPlaces {
+        places: &places,
+        flat: &flat,
+    };
+    let parts = read_parts(alloc, &rows, numbered, types.as_slice(), &closed)?;
     Ok(parts)
 }
 

@@ -2,11 +2,10 @@
 //! foreign key and entry.
 mod equations;
 pub(crate) mod generators;
-mod terms;
 
 ghost use Rattle.std.specs.Prelude.{◌≡◌, ◌+◌, ◌++◌, ◌∷◌, ◌<◌, ◌≤◌, ◌^◌, IfOk, All, map, length, sum};
 ghost use Rattle.cq_theory.specs.Canonical.{below, canonical};
-ghost use Rattle.cq_model.specs.Numbering.{positions};
+ghost use Rattle.cq_theory.specs.Groups.{positions};
 ghost use Rattle.cq_model.specs.Given.{IsModel, tables, size_of};
 ghost use Rattle.cq_model.specs.Numbers as made_of;
 

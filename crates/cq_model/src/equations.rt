@@ -4,76 +4,72 @@ ghost use Rattle.std.specs.Prelude.{OnOk};
 ghost use Rattle.std.specs.List.{flat_map};
 ghost use Rattle.cq_tables.specs.Content.{live_of};
 ghost use Rattle.cq_tables.specs.Content.{entity_of as row_entity};
+ghost use Rattle.cq_theory.specs.Groups.{AreGroups, positions, obs_eq_sources};
 ghost use Rattle.cq_theory.specs.Presentation.{IsPresentation};
 ghost use Rattle.cq_model.specs.NodeTerms.{equation_sides};
-ghost use Rattle.cq_model.specs.Pushing.{HavePlaces};
-ghost use Rattle.cq_model.specs.Equating.{AddsSides, AddsAtRow, AddsAtRows, AddsObservations, IsPresented};
+ghost use Rattle.cq_model.specs.Grounds.{HavePlaces, IsPresented, AddsSides, AddsAtRow, AddsAtRows, AddsObservations};
 
 use crate::nodes::{NodeList, push_equation};
-use crate::places::Places;
+use crate::places::Ground;
 use cq_base::Seq;
-use cq_tables::Tables;
-use cq_theory::{Equation, Presentation, Schema};
+use cq_theory::{Equation, Groups, Presentation, Schema, observation_equations_by_entity};
 use std::alloc::{AllocError, Global};
 
 /// Adds the equations between type terms of a presentation.
 pub fn push_given(
     alloc: Global,
-    schema: &Schema,
+    ground: &Ground,
     presentation: &Presentation,
-    tables: &Tables,
-    places: &Places,
     entries: &[u64],
     list: &mut NodeList,
 ) -> Result<(), AllocError>
-    requires places { HavePlaces schema.now tables.now places.now (length list.old.nodes) }
-    requires presented { IsPresented schema.now tables.now places.now presentation.now entries.now
-        (length list.old.nodes) }
-    requires presentation { IsPresentation schema.now presentation.now }
+    requires places { HavePlaces ground.now (length list.old.nodes) }
+    requires presented { IsPresented ground.now presentation.now entries.now (length list.old.nodes) }
+    requires presentation { IsPresentation ground.now.schema.now presentation.now }
     ensures grows { OnOk result (length list.old.nodes ≤ length list.new.nodes) }
-    ensures added { OnOk result (AddsSides schema.now tables.now places.now presentation.now entries.now
+    ensures added { OnOk result (AddsSides ground.now presentation.now entries.now
         (flat_map equation_sides presentation.now.equations) list.old list.new) }
 {
     for equation in presentation.equations.as_slice() {
         let Equation::Typ(left, right) = equation else {
             continue;
         };
-        push_equation(alloc, schema, tables, places, entries, list, left, right)?;
+        push_equation(alloc, ground, entries, list, left, right)?;
     }
     Ok(())
 }
 
-/// Adds the observation equations of an entity at a row.
+/// The numbers of an entity, and none past the last entity.
+fn group_at(groups: &[Seq<usize>], entity: usize) -> &[usize]
+    ensures { result.now ≡ slice_index_or groups.now entity [] }
+{
+    match groups.get(entity) {
+        Some(numbers) => numbers.as_slice(),
+        None => &[],
+    }
+}
+
+/// Adds at a row the observation equations of its entity, which have these numbers.
 fn push_row(
     alloc: Global,
-    schema: &Schema,
-    tables: &Tables,
-    places: &Places,
-    entity: u32,
+    ground: &Ground,
+    numbers: &[usize],
     row: u64,
     list: &mut NodeList,
 ) -> Result<(), AllocError>
-    requires places { HavePlaces schema.now tables.now places.now (length list.old.nodes) }
-    requires live { live_of tables.now row ≡ true }
-    requires entity { row_entity tables.now row ≡ entity }
+    requires places { HavePlaces ground.now (length list.old.nodes) }
+    requires live { live_of ground.now.tables.now row ≡ true }
+    requires numbers { numbers.now ≡ positions (obs_eq_sources ground.now.schema.now.obs_eqs)
+        (row_entity ground.now.tables.now row) }
     ensures grows { OnOk result (length list.old.nodes ≤ length list.new.nodes) }
-    ensures added { OnOk result (AddsAtRow schema.now tables.now places.now entity schema.now.obs_eqs row
-        list.old list.new) }
+    ensures added { OnOk result (AddsAtRow ground.now (row_entity ground.now.tables.now row)
+        ground.now.schema.now.obs_eqs row list.old list.new) }
 {
-    for equation in schema.obs_eqs.as_slice() {
-        if equation.entity != entity {
-            continue;
-        }
-        push_equation(
-            alloc,
-            schema,
-            tables,
-            places,
-            &[row],
-            list,
-            &equation.left,
-            &equation.right,
-        )?;
+    let schema: &Schema = ground.schema;
+    let equations = schema.obs_eqs.as_slice();
+    for number in numbers {
+        let equation = &equations[*number];
+        push_equation(alloc, ground, &[row], list, &equation.left, &equation.right)?;
     }
     Ok(())
 }
@@ -81,20 +77,24 @@ fn push_row(
 /// Adds the observation equations of an entity at its rows.
 fn push_entity(
     alloc: Global,
-    schema: &Schema,
-    tables: &Tables,
-    places: &Places,
-    entity: u32,
+    ground: &Ground,
+    groups: &Groups,
+    entity: usize,
     rows: &[u64],
     list: &mut NodeList,
 ) -> Result<(), AllocError>
-    requires places { HavePlaces schema.now tables.now places.now (length list.old.nodes) }
-    requires rows { All (λ row. (live_of tables.now row ≡ true) × (row_entity tables.now row ≡ entity)) rows.now }
+    requires places { HavePlaces ground.now (length list.old.nodes) }
+    requires groups { AreGroups (obs_eq_sources ground.now.schema.now.obs_eqs)
+        (length ground.now.schema.now.entities) groups.now }
+    requires rows { All (λ row. (live_of ground.now.tables.now row ≡ true)
+        × (row_entity ground.now.tables.now row ≡ entity)) rows.now }
     ensures grows { OnOk result (length list.old.nodes ≤ length list.new.nodes) }
-    ensures added { OnOk result (AddsAtRows schema.now tables.now places.now entity rows.now list.old list.new) }
+    ensures added { OnOk result (AddsAtRows ground.now entity rows.now list.old list.new) }
 {
+    ground.schema.is_well_sorted();
+    let numbers = group_at(groups.groups.as_slice(), entity);
     for row in rows {
-        push_row(alloc, schema, tables, places, entity, *row, list)?;
+        push_row(alloc, ground, numbers, *row, list)?;
     }
     Ok(())
 }
@@ -102,30 +102,20 @@ fn push_entity(
 /// Adds the observation equations of each entity at each of its rows.
 pub fn push_observations(
     alloc: Global,
-    schema: &Schema,
-    tables: &Tables,
-    places: &Places,
+    ground: &Ground,
     order: &[Seq<u64>],
     list: &mut NodeList,
 ) -> Result<(), AllocError>
-    requires places { HavePlaces schema.now tables.now places.now (length list.old.nodes) }
-    requires rows { (e r i : ℕ) → slice_get (slice_index_or order.now e []) i ≡ Some r → (live_of tables.now r ≡ true)
-        × (row_entity tables.now r ≡ e) }
+    requires places { HavePlaces ground.now (length list.old.nodes) }
+    requires rows { (e r i : ℕ) → slice_get (slice_index_or order.now e []) i ≡ Some r
+        → (live_of ground.now.tables.now r ≡ true) × (row_entity ground.now.tables.now r ≡ e) }
     requires few { length order.now < 2 ^ 32 }
     ensures grows { OnOk result (length list.old.nodes ≤ length list.new.nodes) }
-    ensures added { OnOk result (AddsObservations schema.now tables.now places.now order.now
-        (length order.now) list.old list.new) }
+    ensures added { OnOk result (AddsObservations ground.now order.now (length order.now) list.old list.new) }
 {
+    let groups = observation_equations_by_entity(alloc, ground.schema)?;
     for (entity, rows) in order.iter().enumerate() {
-        push_entity(
-            alloc,
-            schema,
-            tables,
-            places,
-            entity as u32,
-            rows.as_slice(),
-            list,
-        )?;
+        push_entity(alloc, ground, &groups, entity, rows.as_slice(), list)?;
     }
     Ok(())
 }

@@ -1,7 +1,7 @@
 //! Numbers grouped by what they belong to.
 ghost use Rattle.std.specs.Prelude.{◌≡◌, ◌<◌, ◌≤◌, ◌^◌, map, length, All, IfOk, []};
 ghost use Rattle.cq_theory.specs.Canonical.{below};
-ghost use Rattle.cq_model.specs.Numbering.{positions};
+ghost use Rattle.cq_theory.specs.Groups.{positions};
 
 use cq_base::Seq;
 use std::alloc::{AllocError, Global};

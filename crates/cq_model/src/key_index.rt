@@ -2,7 +2,7 @@
 ghost use Rattle.std.specs.Prelude.{ℕ, ◌≡◌, ◌<◌, [], All, IfOk, length, map, slice_index_or};
 ghost use Rattle.cq_theory.specs.Canonical.{below};
 ghost use Rattle.cq_theory.specs.Tables.{row_from};
-ghost use Rattle.cq_model.specs.Numbering.{positions};
+ghost use Rattle.cq_theory.specs.Groups.{positions};
 ghost use Rattle.cq_model.specs.Terms.{IsOnWay};
 
 use crate::canonical::generators::number_at;

@@ -2,7 +2,8 @@
 ghost use Rattle.std.specs.Prelude.{ℕ, ◌≡◌, ◌<◌, ◌+◌, ◌*◌, ◌^◌, [], Some, All, map, length, slice_get, slice_index};
 ghost use Rattle.std.specs.Prelude.{slice_index_or, IfOk, OnOk};
 ghost use Rattle.cq_theory.specs.Canonical.{below};
-ghost use Rattle.cq_model.specs.Numbering.{positions, rank};
+ghost use Rattle.cq_theory.specs.Groups.{positions};
+ghost use Rattle.cq_model.specs.Numbering.{rank};
 ghost use Rattle.cq_model.specs.LeafPlaces.{AreFirsts, AddsLeaves, AddsGenerators};
 
 use crate::nodes::NodeList;

@@ -5,9 +5,10 @@ ghost use Rattle.cq_theory.specs.SchemaData.{SchemaData as Over};
 ghost use Rattle.cq_theory.specs.Typeside.{constant_type};
 ghost use Rattle.cq_theory.specs.declared.term.TypeTerm.TheVariants.{Att};
 ghost use Rattle.cq_model.specs.NodeTerms.{cell_place};
-ghost use Rattle.cq_model.specs.Pushing.{HavePlaces, IsReadable, IsPushed, IsEquated};
+ghost use Rattle.cq_model.specs.Grounds.{HavePlaces, IsReadable, IsPushed, IsEquated};
+ghost use Rattle.cq_model.specs.Pushing as pushing;
 
-use crate::places::Places;
+use crate::places::{Ground, Places};
 use cq_base::Seq;
 use cq_flat::Node;
 use cq_tables::Tables;
@@ -91,8 +92,8 @@ fn place_of_cell(
     attribute: u32,
     term: &EntTerm,
 ) -> u64
-    requires { (S : Over) × (count : ℕ) × (count < 2 ^ 64) × HavePlaces S tables.now places.now count
-        × IsReadable S tables.now places.now rows.now count (Att attribute term.now) }
+    requires { (S : Over) × (count : ℕ) × (count < 2 ^ 64) × pushing.HavePlaces S tables.now places.now count
+        × pushing.IsReadable S tables.now places.now rows.now count (Att attribute term.now) }
     ensures { (r : ℕ) × (row_of_term tables.now rows.now term.now ≡ Some r)
         × (result ≡ cell_place places.now r attribute) }
 {
@@ -122,18 +123,19 @@ fn type_of(schema: &Schema, constant: &Con) -> u32
 /// term's own node. An attribute of an entity term is the cell of the row to which that term leads.
 fn push_term(
     alloc: Global,
-    schema: &Schema,
-    tables: &Tables,
-    places: &Places,
+    ground: &Ground,
     rows: &[u64],
     list: &mut NodeList,
     term: &TypeTerm,
 ) -> Result<u64, AllocError>
-    requires places { HavePlaces schema.now tables.now places.now (length list.old.nodes) }
-    requires term { IsReadable schema.now tables.now places.now rows.now (length list.old.nodes) term.now }
-    ensures { IfOk result (λ place. IsPushed schema.now tables.now places.now rows.now list.old list.new
+    requires places { HavePlaces ground.now (length list.old.nodes) }
+    requires term { IsReadable ground.now rows.now (length list.old.nodes) term.now }
+    ensures { IfOk result (λ place. IsPushed ground.now rows.now list.old list.new
         term.now place) }
 {
+    let schema: &Schema = ground.schema;
+    let tables: &Tables = ground.tables;
+    let places: &Places = ground.places;
     match term {
         TypeTerm::Gen(generator) => Ok(places.generators.as_slice()[*generator as usize]),
         TypeTerm::Const(constant) => {
@@ -150,7 +152,7 @@ fn push_term(
             let kind = schema.typeside.functions.as_slice()[*function as usize].result;
             let mut found = Vec::new(alloc);
             for arg in args.as_slice() {
-                let place = push_term(alloc, schema, tables, places, rows, list, arg)?;
+                let place = push_term(alloc, ground, rows, list, arg)?;
                 found.push(place)?;
             }
             list.push(Node::Fun(*function, Seq::from_vec(found)), kind)
@@ -161,21 +163,19 @@ fn push_term(
 /// Adds an equation with the nodes of its sides.
 pub fn push_equation(
     alloc: Global,
-    schema: &Schema,
-    tables: &Tables,
-    places: &Places,
+    ground: &Ground,
     rows: &[u64],
     list: &mut NodeList,
     left: &TypeTerm,
     right: &TypeTerm,
 ) -> Result<(), AllocError>
-    requires places { HavePlaces schema.now tables.now places.now (length list.old.nodes) }
-    requires left { IsReadable schema.now tables.now places.now rows.now (length list.old.nodes) left.now }
-    requires right { IsReadable schema.now tables.now places.now rows.now (length list.old.nodes) right.now }
-    ensures { OnOk result (IsEquated schema.now tables.now places.now rows.now list.old list.new left.now right.now) }
+    requires places { HavePlaces ground.now (length list.old.nodes) }
+    requires left { IsReadable ground.now rows.now (length list.old.nodes) left.now }
+    requires right { IsReadable ground.now rows.now (length list.old.nodes) right.now }
+    ensures { OnOk result (IsEquated ground.now rows.now list.old list.new left.now right.now) }
 {
-    let first = push_term(alloc, schema, tables, places, rows, list, left)?;
-    let second = push_term(alloc, schema, tables, places, rows, list, right)?;
+    let first = push_term(alloc, ground, rows, list, left)?;
+    let second = push_term(alloc, ground, rows, list, right)?;
     list.equate(first, second)?;
     Ok(())
 }

@@ -1,5 +1,8 @@
 //! Where terms stand among the nodes.
 use cq_base::Seq;
+use cq_flat::Flat;
+use cq_tables::Tables;
+use cq_theory::Schema;
 
 /// Where the cells and the generators of types stand in the list of nodes.
 #[derive(Drop)]
@@ -10,4 +13,19 @@ pub struct Places {
     pub ranks: Seq<u32>,
     /// The place of each generator of a type, by the number of the generator.
     pub generators: Seq<u64>,
+}
+
+/// What type terms become nodes over: a schema, the tables of its rows, and where their cells stand among the nodes.
+#[derive(Clone, Copy)]
+pub struct Ground<'a> {
+    pub schema: &'a Schema,
+    pub tables: &'a Tables,
+    pub places: &'a Places,
+}
+
+/// The closure of nodes, and where the cells and the generators of types stand among them.
+#[derive(Clone, Copy)]
+pub struct ClosedPlaces<'a> {
+    pub places: &'a Places,
+    pub flat: &'a Flat,
 }

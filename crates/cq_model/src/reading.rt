@@ -15,7 +15,7 @@ ghost use Rattle.cq_model.specs.NodeTerms.{cell_place};
 ghost use Rattle.cq_model.specs.Built.{number_in, sheet_of, standing, assignment_of};
 ghost use Rattle.cq_model.specs.Standing.{meaning, HasPlace};
 
-use crate::places::Places;
+use crate::places::ClosedPlaces;
 use crate::standing::Standing;
 use crate::values::{copied, copied_entries};
 use cq_base::Seq;
@@ -102,21 +102,21 @@ fn key_columns(
 fn cell_column(
     alloc: Global,
     rows: &[u64],
-    places: &Places,
-    flat: &Flat,
+    closed: &ClosedPlaces,
     attribute: u32,
 ) -> Result<Seq<Value>, AllocError>
-    requires few { length flat.now.values < 2 ^ 64 }
-    requires places { All (λ r. cell_place places.now r attribute < length flat.now.values) rows.now }
-    ensures { IfOk result (λ column. column ≡ map (λ r. value_at flat.now.values
-        (cell_place places.now r attribute)) rows.now) }
+    requires few { length closed.now.flat.now.values < 2 ^ 64 }
+    requires places { All (λ r. cell_place closed.now.places.now r attribute < length closed.now.flat.now.values)
+        rows.now }
+    ensures { IfOk result (λ column. column ≡ map (λ r. value_at closed.now.flat.now.values
+        (cell_place closed.now.places.now r attribute)) rows.now) }
 {
-    let rank = number_at(places.ranks.as_slice(), attribute as u64) as u64;
-    let firsts = places.firsts.as_slice();
+    let rank = number_at(closed.places.ranks.as_slice(), attribute as u64) as u64;
+    let firsts = closed.places.firsts.as_slice();
     let mut column = Vec::with_capacity(alloc, rows.len())?;
     for row in rows {
         let first = place_at(firsts, *row);
-        column.push(copied(alloc, flat.value(first + rank))?)?;
+        column.push(copied(alloc, closed.flat.value(first + rank))?)?;
     }
     Ok(Seq::from_vec(column))
 }
@@ -126,22 +126,23 @@ fn cell_columns(
     alloc: Global,
     attributes: &[Edge],
     order: &[Seq<u64>],
-    places: &Places,
-    flat: &Flat,
+    closed: &ClosedPlaces,
 ) -> Result<Seq<Seq<Value>>, AllocError>
     requires few { length attributes.now < 2 ^ 32 }
-    requires few_values { length flat.now.values < 2 ^ 64 }
+    requires few_values { length closed.now.flat.now.values < 2 ^ 64 }
     requires within { All (λ edge. edge.from < length order.now) attributes.now }
     requires places { (a n r : ℕ) (edge : Edge) → slice_get attributes.now a ≡ Some edge
-        → slice_get (rows_at order.now edge.from) n ≡ Some r → cell_place places.now r a < length flat.now.values }
+        → slice_get (rows_at order.now edge.from) n ≡ Some r
+        → cell_place closed.now.places.now r a < length closed.now.flat.now.values }
     ensures { IfOk result (λ columns. columns ≡ map
-        (λ a. map (λ r. value_at flat.now.values (cell_place places.now r a.0)) (rows_at order.now a.1.from))
+        (λ a. map (λ r. value_at closed.now.flat.now.values (cell_place closed.now.places.now r a.0))
+        (rows_at order.now a.1.from))
         (enumerate_from 0 attributes.now)) }
 {
     let mut columns = Vec::with_capacity(alloc, attributes.len())?;
     for (attribute, edge) in attributes.iter().enumerate() {
         let rows = order[edge.from as usize].as_slice();
-        columns.push(cell_column(alloc, rows, places, flat, attribute as u32)?)?;
+        columns.push(cell_column(alloc, rows, closed, attribute as u32)?)?;
     }
     Ok(Seq::from_vec(columns))
 }
@@ -161,29 +162,30 @@ fn row_counts(alloc: Global, order: &[Seq<u64>]) -> Result<Seq<u32>, AllocError>
 }
 
 /// The sheet of a model: `order` has the rows of each entity, by their numbers in the tables, `numbers` the number of
-/// each row among those of its entity, and `places` says where its cells stand among the closed terms.
+/// each row among those of its entity, and `closed` says where its cells stand among the closed terms.
 pub fn read_sheet(
     alloc: Global,
     schema: &Schema,
     tables: &Tables,
     order: &[Seq<u64>],
     numbers: &[u32],
-    places: &Places,
-    flat: &Flat,
+    closed: &ClosedPlaces,
 ) -> Result<Sheet, AllocError>
     requires entities { length order.now ≡ length schema.now.entities }
-    requires few_values { length flat.now.values < 2 ^ 64 }
+    requires few_values { length closed.now.flat.now.values < 2 ^ 64 }
     requires keys { keys_of tables.now ≡ map ends_of schema.now.keys }
     requires rows { (e n r : ℕ) → slice_get (rows_at order.now e) n ≡ Some r → (live_of tables.now r ≡ true)
         × (entity_of tables.now r ≡ e) }
     requires places { (a n r : ℕ) (edge : Edge) → slice_get schema.now.attributes a ≡ Some edge
-        → slice_get (rows_at order.now edge.from) n ≡ Some r → cell_place places.now r a < length flat.now.values }
+        → slice_get (rows_at order.now edge.from) n ≡ Some r
+        → cell_place closed.now.places.now r a < length closed.now.flat.now.values }
     ensures { (P : Presentation) (rows : _) → IfOk result
-        (λ sheet. sheet ≡ sheet_of schema.now P tables.now rows order.now numbers.now places.now flat.now.values) }
+        (λ sheet. sheet ≡ sheet_of schema.now P tables.now rows order.now numbers.now closed.now.places.now
+        closed.now.flat.now.values) }
 {
     let counts = row_counts(alloc, order)?;
     let keys = key_columns(alloc, tables, schema.keys.as_slice(), order, numbers)?;
-    let cells = cell_columns(alloc, schema.attributes.as_slice(), order, places, flat)?;
+    let cells = cell_columns(alloc, schema.attributes.as_slice(), order, closed)?;
     Ok(Sheet {
         counts,
         keys,
@@ -221,44 +223,42 @@ fn read_standing(
     sort: &Sort,
     rows: &[u64],
     numbers: &[u32],
-    places: &Places,
-    flat: &Flat,
+    closed: &ClosedPlaces,
 ) -> Result<Standing, AllocError>
-    requires { HasPlace places.now flat.now.values generator sort.now }
+    requires { HasPlace closed.now.places.now closed.now.flat.now.values generator sort.now }
     ensures { (S : SchemaData) (P : Presentation) (m : Content) (order : _)
-        → IfOk result (λ made. meaning made ≡ standing S P m rows.now order numbers.now places.now flat.now.values
-        generator sort.now) }
+        → IfOk result (λ made. meaning made ≡ standing S P m rows.now order numbers.now closed.now.places.now
+        closed.now.flat.now.values generator sort.now) }
 {
     match sort {
         Sort::Entity(_) => Ok(Standing::Row(number_at(numbers, place_at(rows, generator)))),
         Sort::Plain(_) => {
-            let place = place_at(places.generators.as_slice(), generator);
-            Ok(Standing::Value(copied(alloc, flat.value(place))?))
+            let place = place_at(closed.places.generators.as_slice(), generator);
+            Ok(Standing::Value(copied(alloc, closed.flat.value(place))?))
         }
     }
 }
 
 /// What each generator stands for: `rows` has the row of each generator of an entity, `numbers` the number of each
-/// row among those of its entity, and `places` says where the generators of types stand among the closed terms.
+/// row among those of its entity, and `closed` says where the generators of types stand among the closed terms.
 pub fn read_standings(
     alloc: Global,
     presentation: &Presentation,
     rows: &[u64],
     numbers: &[u32],
-    places: &Places,
-    flat: &Flat,
+    closed: &ClosedPlaces,
 ) -> Result<Seq<Standing>, AllocError>
     requires { (n : ℕ) (g : Name × Sort) → slice_get presentation.now.generators n ≡ Some g
-        → HasPlace places.now flat.now.values n g.1 }
+        → HasPlace closed.now.places.now closed.now.flat.now.values n g.1 }
     ensures { (S : SchemaData) (m : Content) (order : _)
         → IfOk result (λ made. map meaning made ≡ assignment_of S presentation.now m rows.now order numbers.now
-        places.now flat.now.values) }
+        closed.now.places.now closed.now.flat.now.values) }
 {
     let generators = presentation.generators.as_slice();
     let mut made = Vec::with_capacity(alloc, generators.len())?;
     for (number, generator) in generators.iter().enumerate() {
         let sort = &generator.1;
-        made.push(read_standing(alloc, number as u64, sort, rows, numbers, places, flat)?)?;
+        made.push(read_standing(alloc, number as u64, sort, rows, numbers, closed)?)?;
     }
     Ok(Seq::from_vec(made))
 }

@@ -3,6 +3,7 @@ ghost use Rattle.std.specs.Prelude.{◌≡◌, ◌↔◌, IfOk, IsTrue};
 ghost use Rattle.cq_model.specs.SameValue.{same_value};
 
 use cq_base::Seq;
+use cq_terms::is_same_value;
 use cq_theory::{Algebra, Entry, Value};
 use std::alloc::{AllocError, Global};
 
@@ -70,44 +71,9 @@ pub fn copied_algebra(alloc: Global, algebra: &Algebra) -> Result<Algebra, Alloc
     })
 }
 
-/// Whether both are the same value.
-pub fn is_same(left: &Value, right: &Value) -> bool
-    ensures { IsTrue result ↔ (left.now ≡ right.now) }
-{
-    match left {
-        Value::Const(constant) => match right {
-            Value::Const(other) => constant == other,
-            Value::Null(_) => false,
-            Value::Fun(_, _) => false,
-        },
-        Value::Null(label) => match right {
-            Value::Const(_) => false,
-            Value::Null(other) => *label == *other,
-            Value::Fun(_, _) => false,
-        },
-        Value::Fun(function, args) => match right {
-            Value::Const(_) => false,
-            Value::Null(_) => false,
-            Value::Fun(other, others) => {
-                let args = args.as_slice();
-                let others = others.as_slice();
-                if *function != *other || args.len() != others.len() {
-                    return false;
-                }
-                for (place, arg) in args.iter().enumerate() {
-                    if !is_same(arg, &others[place]) {
-                        return false;
-                    }
-                }
-                true
-            }
-        },
-    }
-}
-
 /// Whether both are the same value, as a test that definitions cite.
 pub(crate) fn equals(left: &Value, right: &Value) -> bool
     ensures { result ≡ same_value left.now right.now }
 {
-    is_same(left, right)
+    is_same_value(left, right)
 }

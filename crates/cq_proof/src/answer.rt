@@ -5,9 +5,9 @@ ghost use Rattle.cq_proof.specs.Answers.{IsInitial, AreOne, Proves, Explains};
 
 use crate::enumeration::{proves, sought_among_all};
 use cq_model::Instance;
-use cq_model::values::is_same as is_same_value;
 use cq_search::sought::sought;
 use cq_steps::Step;
+use cq_terms::is_same_value;
 use cq_theory::{Equation, Presentation, Schema};
 use std::alloc::{AllocError, Global};
 

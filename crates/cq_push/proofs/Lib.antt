@@ -1,4 +1,3 @@
-pub mod Naming
 pub mod ShiftedSorts
 pub mod Beside
 pub mod Presented

@@ -28,7 +28,7 @@ use Rattle.cq_model.proofs.Lists.{All_at, All_from}
 use Rattle.cq_push.specs.Gluing.{presented, is_long, has_long_side, is_oversized}
 use Rattle.cq_push.specs.Sorted.{HasOneSort, AreSorted}
 use Rattle.cq_push.specs.Answers.{IsModelOrCause}
-use Rattle.cq_push.proofs.Naming.{named_length, sort_of_named}
+use Rattle.cq_terms.proofs.Naming.{named_length, sort_of_named}
 
 few : (n : ℕ) → n ≤ 16000000 → nat_lt 16000000 n ≡ false
 few n h = grind (arith, nat_tests)

@@ -21,7 +21,7 @@ use Rattle.cq_transform.specs.Transforms.{term_of}
 use Rattle.cq_push.specs.Shifted.{shifted_equation, shifted_term}
 use Rattle.cq_push.specs.Gluing.{sorts_of, equations_from, glued, glued_images}
 use Rattle.cq_push.specs.Sorted.{HasOneSort, AreSorted}
-use Rattle.cq_push.proofs.Naming.{has_sort}
+use Rattle.cq_terms.proofs.Naming.{has_sort}
 use Rattle.cq_push.proofs.ShiftedSorts.{AreBehind, term_itself, term_keeps, equation_keeps}
 use Rattle.cq_push.proofs.Beside.{own_sorts, own_count}
 

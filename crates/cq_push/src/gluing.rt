@@ -8,11 +8,12 @@ ghost use Rattle.cq_push.specs.Gluing.{presented, is_oversized};
 ghost use Rattle.cq_push.specs.Sorted.{AreSorted};
 ghost use Rattle.cq_push.specs.Answers.{IsModelOrCause};
 
-use crate::generators::{name_generators, push_sorts};
+use crate::generators::push_sorts;
 use crate::shifting::push_shifted;
 use crate::sizes::has_long_sides;
 use cq_base::Seq;
 use cq_model::{Instance, MoveRefusal, build};
+use cq_terms::name_generators;
 use cq_theory::{Equation, Presentation, Schema, SizeRefusal, Sort};
 use std::alloc::{AllocError, Global};
 use std::rc::Rc;

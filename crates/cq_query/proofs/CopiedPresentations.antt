@@ -42,7 +42,8 @@ use Rattle.cq_theory.specs.Groups.{positions}
 use Rattle.cq_query.specs.Puts.{alone, generators_from, put, put_type, put_equation}
 use Rattle.cq_query.specs.Translation.{key_sources, attribute_sources, variables_at, tests_at, assigned, term_or_constant}
 use Rattle.cq_query.specs.IsQuery.{IsQuery}
-use Rattle.cq_query.specs.Coeval.{value_term, value_term_step, entry_equation, size_of, start_of, null_start, row_sorts, terms_from, row_terms, is_large, is_oversized, key_equations, key_equations_at, cell_equation, row_equations, entity_equations, coeval_of}
+use Rattle.cq_terms.specs.ValueTerms.{value_term, value_term_step, entry_equation}
+use Rattle.cq_query.specs.Coeval.{size_of, start_of, null_start, row_sorts, terms_from, row_terms, is_large, is_oversized, key_equations, key_equations_at, cell_equation, row_equations, entity_equations, coeval_of}
 use Rattle.cq_theory.proofs.Grouped.{made_at}
 use Rattle.cq_query.proofs.Parted.{below_at}
 use Rattle.cq_query.proofs.Standing.{HasOneSort, Stand, generators_at, put_type_sorted, put_equation_sorted, put_stand, alone_at}

@@ -1,14 +1,13 @@
 -- The generators and the equations of the coeval presentation, one step at a time.
 use Rattle.std.proofs.Common.{ℕ, zero, suc, true, false, List, [], ◌∷◌, ◌++◌, Some, ◌≡◌, ◌<◌, ◌≤◌, ◌+◌, ◌-◌, ◌*◌, ◌||◌, ◌⊎◌, inl, inr, Result, Ok, Err, IfOk, map, take, length, get_or, sym, ap, subst, ◌∙◌, append_assoc, arith}
-use Rattle.std.specs.Prelude.{slice_get, slice_index, nat_lt, codes, decimal}
+use Rattle.std.specs.Prelude.{slice_get, slice_index, nat_lt}
 use Rattle.std.specs.List.{sum_by, list_any}
 use Rattle.std.proofs.lemmas.List.{length-append, length-map}
 use Rattle.std.proofs.lemmas.List.Concat.{length-flat_map}
 use Rattle.std.proofs.lemmas.List.Sums.{sum_by-cons, sum-map}
-use Rattle.std.proofs.lemmas.List.FromFn.{length-enumerate_from}
-use Rattle.std.specs.List.{range_with_len, flat_map, enumerate_from}
+use Rattle.std.specs.List.{range_with_len, flat_map}
 use Rattle.std.proofs.lemmas.Bool.Decides.{nat_tests}
-use Rattle.std.proofs.lemmas.List.{append-nil, take_more, map-append, length-take-le}
+use Rattle.std.proofs.lemmas.List.{append-nil, take_more, map-append}
 use Rattle.std.proofs.lemmas.List.FromFn.{length-map-range_with_len, sum_by-map-range_with_len_more}
 use Rattle.std.proofs.lemmas.Grind.{flat_map-append}
 use Rattle.std.proofs.lemmas.Option.{slice_get_within}
@@ -19,11 +18,12 @@ use Rattle.cq_theory.specs.declared.presentation.Sort.TheVariants.{Plain, Entity
 use Rattle.cq_theory.specs.declared.lookup.SizeRefusal.{SizeRefusal}
 use Rattle.cq_theory.specs.declared.presentation.Presentation.{Presentation}
 use Rattle.cq_theory.specs.Tables.{Tables}
-use Rattle.cq_theory.specs.Canonical.{below, named}
+use Rattle.cq_theory.specs.Canonical.{below}
 use Rattle.cq_query.specs.QueryData.{QueryData as Query}
 use Rattle.cq_query.specs.Translation.{variables_at}
 use Rattle.cq_query.specs.Coeval.{size_of, start_of, starts, null_start, row_sorts, is_large, is_oversized, coeval_of}
 use Rattle.cq_theory.proofs.Grouped.{made_at}
+use Rattle.cq_terms.proofs.Naming.{named_length}
 
 -- one number more
 range_more : (s n : ℕ) → range_with_len s (suc n) ≡ range_with_len s n ++ (s + n) ∷ []
@@ -47,25 +47,6 @@ mapped_more f before old new items xs i d same within are is =
     let inside : i < length xs = omega (arith, ap length same) in
     is ∙ (λ j. are j ++ f (get_or (same j) i d) ∷ []) ∙ append_assoc before (map f (take i xs)) (f (get_or xs i d) ∷ [])
     ∙ ap (λ l. before ++ l) (sym (map-append f (take i xs) (get_or xs i d ∷ [])) ∙ ap (map f) (sym (take_more xs i d inside)))
-
-enumerate_from-append : {X : Type 0} (s : ℕ) (xs : List X) (x : X) → enumerate_from s (xs ++ x ∷ []) ≡ enumerate_from s xs ++ (s + length xs, x) ∷ []
-enumerate_from-append s [] x = let here : s ≡ s + 0 = omega arith in ap (λ n. (n, x) ∷ []) here
-enumerate_from-append s (y ∷ ys) x =
-    let there : s + 1 + length ys ≡ s + length (y ∷ ys) = omega arith in
-    ap (λ l. (s, y) ∷ l) (enumerate_from-append (s + 1) ys x ∙ ap (λ n. enumerate_from (s + 1) ys ++ (n, x) ∷ []) there)
-
-abbrev generator_at : ℕ × Sort → Name × Sort
-generator_at p = (codes "g" ++ decimal p.0, p.1)
-
--- one generator more
-pub named_more : (sorts : List Sort) (i n : ℕ) (d : Sort) (old new : List (Name × Sort)) → i < length sorts → n ≡ 1 + i → old ≡ named (take i sorts)
-    → new ≡ old ++ (codes "g" ++ decimal n, get_or sorts i d) ∷ [] → new ≡ named (take (i + 1) sorts)
-named_more sorts i n d old new within number are is =
-    let so_far : length (take i sorts) ≡ i = length-take-le i sorts (omega arith) in
-    let last : n ≡ 1 + length (take i sorts) = omega arith in
-    is ∙ (λ j. are j ++ generator_at (last j, get_or sorts i d) ∷ [])
-    ∙ sym (map-append generator_at (enumerate_from 1 (take i sorts)) ((1 + length (take i sorts), get_or sorts i d) ∷ []))
-    ∙ ap (map generator_at) (sym (enumerate_from-append 1 (take i sorts) (get_or sorts i d))) ∙ ap named (sym (take_more sorts i d within))
 
 module _ (Q : Query) (counts : List ℕ) where
   pub start_more : (e : ℕ) → start_of Q counts (e + 1) ≡ start_of Q counts e + size_of Q counts e
@@ -122,7 +103,7 @@ module _ (Q : Query) (M : Tables) where
       omega (arith, rows_count, length-append (flat_map (row_sorts Q M.sheet.counts) (below (length Q.target.entities))) (map Plain M.algebra.nulls), length-map M.algebra.nulls Plain)
 
   generators_count : length (coeval_of Q M).generators ≡ null_start Q M.sheet.counts + length M.algebra.nulls
-  generators_count = length-map (enumerate_from 1 sorts) generator_at ∙ length-enumerate_from 1 sorts ∙ sorts_count
+  generators_count = named_length sorts ∙ sorts_count
 
   -- too many generators
   pub many_generators : 16000000 < null_start Q M.sheet.counts + length M.algebra.nulls → is_oversized (coeval_of Q M) ≡ true

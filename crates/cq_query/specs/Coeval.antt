@@ -1,7 +1,7 @@
 -- The presentation of coeval: a generator for each row and variable, and the equations that the query makes of the tables.
 use Rattle.std.specs.Prelude.{ℕ, Bool, List, [], ◌++◌, ◌+◌, ◌*◌, ◌||◌, if◌then◌else◌, map, length, sum, Option, Some, None, nat_lt}
 use Rattle.std.specs.Prelude.{slice_get, slice_index, slice_index_or}
-use Rattle.std.specs.List.{flat_map, list_any, range_with_len}
+use Rattle.std.specs.List.{flat_map, list_any}
 use Rattle.cq_theory.specs.declared.constant.Con.TheVariants.{Named}
 use Rattle.cq_theory.specs.declared.presentation.Equation.{Equation}
 use Rattle.cq_theory.specs.declared.presentation.Equation.TheVariants.{Ent as EntEquation, Typ as TypEquation}
@@ -12,11 +12,7 @@ use Rattle.cq_theory.specs.declared.schema.Edge.{Edge}
 use Rattle.cq_theory.specs.declared.term.EntTerm.{EntTerm}
 use Rattle.cq_theory.specs.declared.term.TypeTerm.{TypeTerm}
 use Rattle.cq_theory.specs.declared.term.TypeTerm.TheVariants as term
-use Rattle.cq_theory.specs.declared.value.Value.{Value}
 use Rattle.cq_theory.specs.declared.value.Value.TheVariants as value
-use Rattle.cq_theory.specs.declared.value.Value.TheOpen.{Value-F, Const, Null, Fun}
-use Rattle.cq_theory.specs.declared.value.Value.TheFolds.{fold-Value}
-use Rattle.cq_theory.specs.declared.value.Entry.{Entry}
 use Rattle.cq_theory.specs.declared.value.Sheet.{Sheet}
 use Rattle.cq_theory.specs.EntTerm as ent
 use Rattle.cq_theory.specs.TypeTerm as typ
@@ -24,22 +20,10 @@ use Rattle.cq_theory.specs.Tables.{Tables}
 use Rattle.cq_theory.specs.Canonical.{below, named}
 use Rattle.cq_query.specs.QueryData.{QueryData as Query}
 use Rattle.cq_theory.specs.Groups.{positions}
+use Rattle.cq_terms.specs.ValueTerms.{value_term, entry_equation}
 use Rattle.cq_query.specs.Puts.{generators_from, put, put_type, put_equation}
 use Rattle.cq_query.specs.Translation.{key_sources, attribute_sources, variables_at, tests_at, assigned, attribute_term}
 use Rattle.cq_query.specs.Duties.{equal_terms}
-
--- a value as a term, in which a null stands as its generator; the generators of the nulls are those from `first` on
-module _ (first count : ℕ) where
-  abbrev pub value_term_step : Value-F TypeTerm → TypeTerm
-  value_term_step (Const c) = term.Const c
-  value_term_step (Null n) = term.Gen (slice_index (range_with_len first count) n)
-  value_term_step (Fun f args) = term.Fun f args
-
-  abbrev pub value_term : Value → TypeTerm
-  value_term = fold-Value TypeTerm value_term_step
-
-  abbrev pub entry_equation : Entry → Equation
-  entry_equation entry = TypEquation (term.Fun entry.function (map value_term entry.args)) (value_term entry.value)
 
 module _ (Q : Query) (counts : List ℕ) where
   -- how many generators the rows of an entity have: one for each row and variable

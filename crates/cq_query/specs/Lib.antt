@@ -4,10 +4,12 @@ pub mod Puts
 pub mod Translation
 pub mod Duties
 pub mod IsQuery
+pub mod Layout
 pub mod Coeval
 pub mod QueryParts
 pub mod Answers
 pub mod Given
 pub mod Index
+pub mod Making
 pub mod Assigned
 pub mod Leading

@@ -4,9 +4,10 @@ ghost use Rattle.std.specs.Prelude.{slice_get};
 ghost use Rattle.cq_theory.specs.Canonical.{below};
 ghost use Rattle.cq_theory.specs.Parts.{equation_of};
 ghost use Rattle.cq_theory.specs.Resolved.{entity_term_in, resolved};
-ghost use Rattle.cq_theory.specs.Groups.{positions, AreGroups};
+ghost use Rattle.cq_theory.specs.Groups.{positions};
 ghost use Rattle.cq_query.specs.Assigned.{IsAssigned};
 ghost use Rattle.cq_query.specs.Index.{IsIndex};
+ghost use Rattle.cq_query.specs.Making.{AreTablesOf, IsMaking};
 ghost use Rattle.cq_query.specs.Puts.{alone};
 ghost use Rattle.cq_theory.specs.Groups.{edge_sources};
 ghost use Rattle.cq_query.specs.QueryParts.{names_of, sorts_of, type_made, entity_made, test_made, tests_made};
@@ -15,13 +16,22 @@ ghost use Rattle.cq_query.specs.QueryParts.{assigned_in};
 
 use crate::assigned::{Assigned, find_assigned, make_assigned};
 use crate::index::{Index, find_attribute};
+use crate::making::Making;
 use crate::parts::Clause;
 use crate::query::Block;
 use crate::scopes::Scope;
+use crate::tables::Tables;
 use cq_base::{Name, Raw, Seq};
 use cq_theory::lookup::{build, type_term};
-use cq_theory::{Con, Edge, EntTerm, Equation, Groups, Schema, Term, TypeTerm};
+use cq_theory::{Con, Edge, EntTerm, Equation, Schema, Term, TypeTerm};
 use std::alloc::{AllocError, Global};
+
+/// The attributes and the foreign keys from an entity.
+#[derive(Clone, Copy)]
+struct Edges<'a> {
+    attributes: &'a [usize],
+    keys: &'a [usize],
+}
 
 /// An equation of two terms of one kind, which they are where the parts break no rule.
 fn make_equation(left: Term, right: Term) -> Equation
@@ -175,41 +185,38 @@ fn build_tests(
 /// The term of an attribute.
 fn make_attribute(
     alloc: Global,
-    source: &Schema,
-    target: &Schema,
-    scopes: &[Scope],
-    clauses: &[(u32, Clause)],
+    making: &Making,
     index: &Index,
     attribute: usize,
 ) -> Result<TypeTerm, AllocError>
-    requires index { IsIndex target.now clauses.now index.now }
-    ensures { IfOk result (λ made. made ≡ attribute_made source.now target.now scopes.now clauses.now attribute) }
+    requires index { IsIndex making.now.target.now making.now.clauses.now index.now }
+    ensures { IfOk result (λ made. made ≡ attribute_made
+        making.now.source.now making.now.target.now making.now.scopes.now making.now.clauses.now attribute) }
 {
+    let target = making.target;
     let Some(edge) = target.attributes.as_slice().get(attribute) else {
         return Ok(TypeTerm::Const(Con::Named(0)));
     };
-    let scope = scopes.get(edge.from as usize);
-    let raw = find_attribute(target, clauses, index, attribute);
-    let made = make_type(alloc, source, scope, raw)?;
+    let scope = making.scopes.get(edge.from as usize);
+    let raw = find_attribute(target, making.clauses, index, attribute);
+    let made = make_type(alloc, making.source, scope, raw)?;
     Ok(made)
 }
 
 fn build_attributes(
     alloc: Global,
-    source: &Schema,
-    target: &Schema,
-    scopes: &[Scope],
-    clauses: &[(u32, Clause)],
+    making: &Making,
     index: &Index,
     attributes: &[usize],
 ) -> Result<Vec<TypeTerm>, AllocError>
-    requires index { IsIndex target.now clauses.now index.now }
-    ensures { IfOk result (λ made. made.items ≡ map (attribute_made source.now target.now scopes.now clauses.now)
+    requires index { IsIndex making.now.target.now making.now.clauses.now index.now }
+    ensures { IfOk result (λ made. made.items ≡ map
+        (attribute_made making.now.source.now making.now.target.now making.now.scopes.now making.now.clauses.now)
         attributes.now) }
 {
     let mut made = Vec::new(alloc);
     for attribute in attributes {
-        made.push(make_attribute(alloc, source, target, scopes, clauses, index, *attribute)?)?;
+        made.push(make_attribute(alloc, making, index, *attribute)?)?;
     }
     Ok(made)
 }
@@ -217,23 +224,21 @@ fn build_attributes(
 /// The terms that a foreign key assigns to the variables, over those of a block.
 fn build_assigned(
     alloc: Global,
-    source: &Schema,
-    target: &Schema,
+    making: &Making,
     scope: Option<&Scope>,
-    clauses: &[(u32, Clause)],
     assigned: &Assigned,
     key: usize,
     vars: &[(Name, u32)],
 ) -> Result<Vec<EntTerm>, AllocError>
-    requires { IsAssigned target.now clauses.now key assigned.now }
+    requires { IsAssigned making.now.target.now making.now.clauses.now key assigned.now }
     ensures { IfOk result (λ made. made.items ≡ map
-        (λ v. entity_made source.now (option_copied scope.entry)
-        (assigned_in target.now clauses.now key v.0)) vars.now) }
+        (λ v. entity_made making.now.source.now (option_copied scope.entry)
+        (assigned_in making.now.target.now making.now.clauses.now key v.0)) vars.now) }
 {
     let mut made = Vec::new(alloc);
     for var in vars {
-        let raw = find_assigned(target, clauses, assigned, key, &var.0);
-        made.push(make_entity(alloc, source, scope, raw)?)?;
+        let raw = find_assigned(making.target, making.clauses, assigned, key, &var.0);
+        made.push(make_entity(alloc, making.source, scope, raw)?)?;
     }
     Ok(made)
 }
@@ -241,30 +246,20 @@ fn build_assigned(
 /// The same for the variables of a block, where there is one.
 fn build_assigned_to(
     alloc: Global,
-    source: &Schema,
-    target: &Schema,
+    making: &Making,
     from: Option<&Scope>,
     to: Option<&Scope>,
-    clauses: &[(u32, Clause)],
     assigned: &Assigned,
     key: usize,
 ) -> Result<Vec<EntTerm>, AllocError>
-    requires { IsAssigned target.now clauses.now key assigned.now }
+    requires { IsAssigned making.now.target.now making.now.clauses.now key assigned.now }
     ensures { IfOk result (λ made. made.items ≡ map
-        (λ v. entity_made source.now (option_copied from.entry) (assigned_in target.now clauses.now key v.0))
+        (λ v. entity_made making.now.source.now (option_copied from.entry)
+        (assigned_in making.now.target.now making.now.clauses.now key v.0))
         (scope_or_none (option_copied to.entry))) }
 {
     match to {
-        Some(to) => build_assigned(
-            alloc,
-            source,
-            target,
-            from,
-            clauses,
-            assigned,
-            key,
-            to.vars(),
-        ),
+        Some(to) => build_assigned(alloc, making, from, assigned, key, to.vars()),
         None => Ok(Vec::new(alloc)),
     }
 }
@@ -279,23 +274,20 @@ fn scope_at(scopes: &[Scope], entity: u32) -> Option<&Scope>
 /// The terms that a foreign key from block to block assigns.
 fn make_key_at(
     alloc: Global,
-    source: &Schema,
-    target: &Schema,
-    scopes: &[Scope],
-    clauses: &[(u32, Clause)],
+    making: &Making,
     index: &Index,
     key: usize,
     edge: &Edge,
 ) -> Result<Vec<EntTerm>, AllocError>
-    requires index { IsIndex target.now clauses.now index.now }
-    requires key { key < length target.now.keys }
-    ensures { IfOk result (λ made. made.items ≡ key_made_at source.now target.now scopes.now clauses.now key
-        (Some edge.now)) }
+    requires index { IsIndex making.now.target.now making.now.clauses.now index.now }
+    requires key { key < length making.now.target.now.keys }
+    ensures { IfOk result (λ made. made.items ≡ key_made_at
+        making.now.source.now making.now.target.now making.now.scopes.now making.now.clauses.now key (Some edge.now)) }
 {
-    let from = scope_at(scopes, edge.from);
-    let to = scope_at(scopes, edge.to);
-    let assigned = make_assigned(alloc, target, clauses, index, key)?;
-    let terms = build_assigned_to(alloc, source, target, from, to, clauses, &assigned, key)?;
+    let from = scope_at(making.scopes, edge.from);
+    let to = scope_at(making.scopes, edge.to);
+    let assigned = make_assigned(alloc, making.target, making.clauses, index, key)?;
+    let terms = build_assigned_to(alloc, making, from, to, &assigned, key)?;
     Ok(terms)
 }
 
@@ -308,37 +300,33 @@ fn key_at(target: &Schema, key: usize) -> Option<&Edge>
 /// The terms that a foreign key assigns to the variables of the block to which it leads.
 fn make_key(
     alloc: Global,
-    source: &Schema,
-    target: &Schema,
-    scopes: &[Scope],
-    clauses: &[(u32, Clause)],
+    making: &Making,
     index: &Index,
     key: usize,
 ) -> Result<Vec<EntTerm>, AllocError>
-    requires index { IsIndex target.now clauses.now index.now }
-    ensures { IfOk result (λ made. made.items ≡ key_made source.now target.now scopes.now clauses.now key) }
+    requires index { IsIndex making.now.target.now making.now.clauses.now index.now }
+    ensures { IfOk result (λ made. made.items ≡ key_made
+        making.now.source.now making.now.target.now making.now.scopes.now making.now.clauses.now key) }
 {
-    match key_at(target, key) {
-        Some(edge) => make_key_at(alloc, source, target, scopes, clauses, index, key, edge),
+    match key_at(making.target, key) {
+        Some(edge) => make_key_at(alloc, making, index, key, edge),
         None => Ok(Vec::new(alloc)),
     }
 }
 
 fn build_keys(
     alloc: Global,
-    source: &Schema,
-    target: &Schema,
-    scopes: &[Scope],
-    clauses: &[(u32, Clause)],
+    making: &Making,
     index: &Index,
     keys: &[usize],
 ) -> Result<Vec<Seq<EntTerm>>, AllocError>
-    requires index { IsIndex target.now clauses.now index.now }
-    ensures { IfOk result (λ made. made.items ≡ map (key_made source.now target.now scopes.now clauses.now) keys.now) }
+    requires index { IsIndex making.now.target.now making.now.clauses.now index.now }
+    ensures { IfOk result (λ made. made.items ≡ map
+        (key_made making.now.source.now making.now.target.now making.now.scopes.now making.now.clauses.now) keys.now) }
 {
     let mut made = Vec::new(alloc);
     for key in keys {
-        let terms = make_key(alloc, source, target, scopes, clauses, index, *key)?;
+        let terms = make_key(alloc, making, index, *key)?;
         made.push(Seq::from_vec(terms))?;
     }
     Ok(made)
@@ -369,29 +357,28 @@ fn build_variables(
 /// The block of an entity with these where equations, by the attributes and foreign keys from it.
 fn make_block(
     alloc: Global,
-    source: &Schema,
-    target: &Schema,
-    scopes: &[Scope],
-    clauses: &[(u32, Clause)],
+    making: &Making,
     index: &Index,
-    attributes: &[usize],
-    keys: &[usize],
+    edges: &Edges,
     entity: usize,
     tests: Vec<Equation>,
 ) -> Result<Block, AllocError>
-    requires index { IsIndex target.now clauses.now index.now }
-    requires entity { entity < length scopes.now }
+    requires index { IsIndex making.now.target.now making.now.clauses.now index.now }
+    requires entity { entity < length making.now.scopes.now }
     ensures { IfOk result (λ made. made ≡ record {
-      vars = scope_or_none (slice_get scopes.now entity);
+      vars = scope_or_none (slice_get making.now.scopes.now entity);
       tests = tests.items;
-      attributes = map (attribute_made source.now target.now scopes.now clauses.now)
-          attributes.now;
-      keys = map (key_made source.now target.now scopes.now clauses.now) keys.now;
+      attributes = map
+          (attribute_made making.now.source.now making.now.target.now making.now.scopes.now making.now.clauses.now)
+          edges.now.attributes.now;
+      keys = map
+          (key_made making.now.source.now making.now.target.now making.now.scopes.now making.now.clauses.now)
+          edges.now.keys.now;
     }) }
 {
-    let vars = build_variables(alloc, scopes, entity)?;
-    let attributes = build_attributes(alloc, source, target, scopes, clauses, index, attributes)?;
-    let keys = build_keys(alloc, source, target, scopes, clauses, index, keys)?;
+    let vars = build_variables(alloc, making.scopes, entity)?;
+    let attributes = build_attributes(alloc, making, index, edges.attributes)?;
+    let keys = build_keys(alloc, making, index, edges.keys)?;
     Ok(Block {
         vars: Seq::from_vec(vars),
         tests: Seq::from_vec(tests),
@@ -403,64 +390,57 @@ fn make_block(
 /// The block of an entity with these where equations.
 fn make_block_at(
     alloc: Global,
-    source: &Schema,
-    target: &Schema,
-    scopes: &[Scope],
-    clauses: &[(u32, Clause)],
+    making: &Making,
     index: &Index,
-    attributes: &Groups,
-    keys: &Groups,
+    tables: &Tables,
     entity: usize,
     tests: Vec<Equation>,
 ) -> Result<Block, AllocError>
-    requires index { IsIndex target.now clauses.now index.now }
-    requires attributes { AreGroups (edge_sources target.now.attributes) (length target.now.entities) attributes.now }
-    requires keys { AreGroups (edge_sources target.now.keys) (length target.now.entities) keys.now }
-    requires scopes { length scopes.now ≡ length target.now.entities }
-    requires entity { entity < length target.now.entities }
+    requires making { IsMaking making.now }
+    requires index { IsIndex making.now.target.now making.now.clauses.now index.now }
+    requires tables { AreTablesOf making.now.target.now tables.now }
+    requires entity { entity < length making.now.target.now.entities }
     ensures { IfOk result (λ made. made ≡ record {
-      vars = scope_or_none (slice_get scopes.now entity);
+      vars = scope_or_none (slice_get making.now.scopes.now entity);
       tests = tests.items;
-      attributes = map (attribute_made source.now target.now scopes.now clauses.now)
-          (positions (edge_sources target.now.attributes) entity);
-      keys = map (key_made source.now target.now scopes.now clauses.now)
-          (positions (edge_sources target.now.keys) entity);
+      attributes = map
+          (attribute_made making.now.source.now making.now.target.now making.now.scopes.now making.now.clauses.now)
+          (positions (edge_sources making.now.target.now.attributes) entity);
+      keys = map
+          (key_made making.now.source.now making.now.target.now making.now.scopes.now making.now.clauses.now)
+          (positions (edge_sources making.now.target.now.keys) entity);
     }) }
 {
-    let attributes = attributes.of(entity);
-    let keys = keys.of(entity);
-    make_block(
-        alloc, source, target, scopes, clauses, index, attributes, keys, entity, tests,
-    )
+    let attributes = tables.attributes.of(entity);
+    let keys = tables.keys.of(entity);
+    let edges = Edges { attributes, keys };
+    make_block(alloc, making, index, &edges, entity, tests)
 }
 
 /// The blocks of the entities of the target.
 pub(crate) fn build_blocks(
     alloc: Global,
-    source: &Schema,
-    target: &Schema,
-    entities: &[u32],
-    scopes: &[Scope],
-    clauses: &[(u32, Clause)],
+    making: &Making,
     index: &Index,
-    attributes: &Groups,
-    keys: &Groups,
+    tables: &Tables,
 ) -> Result<Vec<Block>, AllocError>
-    requires index { IsIndex target.now clauses.now index.now }
-    requires attributes { AreGroups (edge_sources target.now.attributes) (length target.now.entities) attributes.now }
-    requires keys { AreGroups (edge_sources target.now.keys) (length target.now.entities) keys.now }
-    requires scopes { length scopes.now ≡ length target.now.entities }
-    requires entities { All (λ entity. entity < length target.now.entities) entities.now }
-    requires blocks { All (λ part. part.0 < length entities.now) clauses.now }
-    ensures { IfOk result (λ made. made.items ≡ blocks_made source.now target.now entities.now scopes.now clauses.now) }
+    requires making { IsMaking making.now }
+    requires index { IsIndex making.now.target.now making.now.clauses.now index.now }
+    requires tables { AreTablesOf making.now.target.now tables.now }
+    ensures { IfOk result (λ made. made.items ≡ blocks_made making.now.source.now making.now.target.now
+        making.now.entities.now making.now.scopes.now making.now.clauses.now) }
 {
-    let lists = build_tests(alloc, source, entities, scopes, clauses)?;
+    let lists = build_tests(
+        alloc,
+        making.source,
+        making.entities,
+        making.scopes,
+        making.clauses,
+    )?;
     let mut made = Vec::new(alloc);
     for tests in lists {
         let entity = made.len();
-        made.push(make_block_at(
-            alloc, source, target, scopes, clauses, index, attributes, keys, entity, tests,
-        )?)?;
+        made.push(make_block_at(alloc, making, index, tables, entity, tests)?)?;
     }
     Ok(made)
 }

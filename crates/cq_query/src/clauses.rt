@@ -7,6 +7,7 @@ ghost use Rattle.cq_theory.specs.SchemaData.{SchemaData};
 ghost use Rattle.cq_base.specs.declared.name.Name.{Name};
 ghost use Rattle.cq_query.specs.declared.parts.Clause.{Clause as ClausePart};
 ghost use Rattle.cq_query.specs.declared.parts.Clause.TheVariants as clause;
+ghost use Rattle.cq_query.specs.Making.{IsMaking};
 ghost use Rattle.cq_query.specs.QueryParts.{of_query as refusal_of_query, least_rule as rule_least};
 ghost use Rattle.cq_query.specs.QueryParts.{is_from as from_entity, is_right_attribute as right_attribute};
 ghost use Rattle.cq_query.specs.QueryParts.{attribute_edge as edge_of_attribute, key_edge as edge_of_key};
@@ -15,6 +16,7 @@ ghost use Rattle.cq_query.specs.QueryParts.{clause_rule, rule_over, rule_in, giv
 ghost use Rattle.cq_query.specs.QueryParts.{clauses_fault, names_of, sorts_of};
 
 use crate::given::add_clause;
+use crate::making::Making;
 use crate::owners::{entity_at, of_query};
 use crate::parts::Clause;
 use crate::scopes::Scope;
@@ -185,19 +187,19 @@ fn key_rule(target: &Schema, entity: u32, name: &Name) -> Option<TermRefusal>
 
 /// The least rule that an assigned term breaks.
 fn assign_rule(
-    source: &Schema,
-    target: &Schema,
-    scopes: &[Scope],
+    making: &Making,
     scope: &Scope,
     entity: u32,
     key: &Name,
     variable: &Name,
     raw: &Raw,
 ) -> Option<TermRefusal>
-    ensures { result ≡ clause_rule source.now target.now scopes.now scope.now entity
+    ensures { result ≡ clause_rule making.now.source.now making.now.target.now making.now.scopes.now scope.now entity
         (clause.Assign key.now variable.now raw.now) }
 {
-    let wanted = target_sort(target, scopes, key, variable);
+    let source = making.source;
+    let target = making.target;
+    let wanted = target_sort(target, making.scopes, key, variable);
     let sort = sort_in(source, scope, raw);
     let symbol = target.find_symbol(key);
     least_rule(
@@ -210,86 +212,68 @@ fn assign_rule(
 }
 
 /// The least rule that a clause breaks, with these variables.
-fn rule_with(
-    source: &Schema,
-    target: &Schema,
-    scopes: &[Scope],
-    scope: &Scope,
-    entity: u32,
-    part: &Clause,
-) -> Option<TermRefusal>
-    ensures { result ≡ clause_rule source.now target.now scopes.now scope.now entity part.now }
+fn rule_with(making: &Making, scope: &Scope, entity: u32, part: &Clause) -> Option<TermRefusal>
+    ensures { result ≡ clause_rule making.now.source.now making.now.target.now making.now.scopes.now scope.now entity
+        part.now }
 {
+    let source = making.source;
+    let target = making.target;
     match part {
         Clause::Test(left, right) => test_rule(source, scope, left, right),
         Clause::Att(name, raw) => attribute_rule(source, target, scope, entity, name, raw),
         Clause::Key(name) => key_rule(target, entity, name),
         Clause::Assign(key, variable, raw) => {
-            assign_rule(source, target, scopes, scope, entity, key, variable, raw)
+            assign_rule(making, scope, entity, key, variable, raw)
         }
     }
 }
 
 /// The least rule that a clause in the block of an entity breaks.
 #[tactic(auto, unfolding(crate::specs::QueryParts::rule_in))]
-fn rule_of(
-    source: &Schema,
-    target: &Schema,
-    scopes: &[Scope],
-    entity: u32,
-    part: &Clause,
-) -> Option<TermRefusal>
-    ensures { result ≡ rule_in source.now target.now scopes.now entity part.now }
+fn rule_of(making: &Making, entity: u32, part: &Clause) -> Option<TermRefusal>
+    ensures { result ≡ rule_in making.now.source.now making.now.target.now making.now.scopes.now entity part.now }
 {
-    match scopes.get(entity as usize) {
-        Some(scope) => rule_with(source, target, scopes, scope, entity, part),
+    match making.scopes.get(entity as usize) {
+        Some(scope) => rule_with(making, scope, entity, part),
         None => Some(TermRefusal::Unknown),
     }
 }
 
 /// The fault of clause `number`, which gives what an earlier one gives or not.
 fn fault_of_clause(
-    source: &Schema,
-    target: &Schema,
-    entities: &[u32],
-    scopes: &[Scope],
+    making: &Making,
     is_given: bool,
     number: u32,
     part: &(u32, Clause),
 ) -> Option<TheoryRefusal>
     ensures { (earlier : List (ℕ × ClausePart)) → is_given ≡ list_any (λ c. same_given part.now.1 c.1) earlier
-        → result ≡ clause_fault source.now target.now entities.now scopes.now earlier number part.now }
+        → result ≡ clause_fault
+        making.now.source.now making.now.target.now making.now.entities.now making.now.scopes.now earlier number
+        part.now }
 {
     if is_given {
         return Some(TheoryRefusal::Duplicate(number));
     }
-    let entity = entity_at(entities, part.0);
-    match rule_of(source, target, scopes, entity, &part.1) {
+    let entity = entity_at(making.entities, part.0);
+    match rule_of(making, entity, &part.1) {
         Some(rule) => Some(in_part_of(number, rule)),
         None => None,
     }
 }
 
-/// The first fault of the clauses, of which the first is part `first`.
-fn first_clause_fault(
-    alloc: Global,
-    source: &Schema,
-    target: &Schema,
-    entities: &[u32],
-    scopes: &[Scope],
-    first: u32,
-    parts: &[(u32, Clause)],
-) -> Result<Option<TheoryRefusal>, AllocError>
-    requires { first + length parts.now < 2 ^ 32 }
-    ensures { IfOk result (λ fault. fault ≡ clauses_fault source.now target.now entities.now scopes.now first
-        parts.now) }
+/// The first fault of the clauses.
+fn first_clause_fault(alloc: Global, making: &Making) -> Result<Option<TheoryRefusal>, AllocError>
+    requires { making.now.first + length making.now.clauses.now < 2 ^ 32 }
+    ensures { IfOk result (λ fault. fault ≡ clauses_fault
+        making.now.source.now making.now.target.now making.now.entities.now making.now.scopes.now
+        making.now.first making.now.clauses.now) }
 {
     let mut symbols = HashSet::with_hasher(alloc, Hashing::new());
     let mut assigned = HashSet::with_hasher(alloc, Hashing::new());
-    let mut number = first;
-    for part in parts {
+    let mut number = making.first;
+    for part in making.clauses {
         let is_given = add_clause(&mut symbols, &mut assigned, &part.1)?;
-        let fault = fault_of_clause(source, target, entities, scopes, is_given, number, part);
+        let fault = fault_of_clause(making, is_given, number, part);
         if fault.is_some() {
             return Ok(fault);
         }
@@ -298,24 +282,18 @@ fn first_clause_fault(
     Ok(None)
 }
 
-/// Tests the clauses, of which the first is part `first`.
-pub(crate) fn check_clauses(
-    alloc: Global,
-    source: &Schema,
-    target: &Schema,
-    entities: &[u32],
-    scopes: &[Scope],
-    first: u32,
-    parts: &[(u32, Clause)],
-) -> Result<(), ArrowRefusal>
-    requires { first + length parts.now < 2 ^ 32 }
-    ensures accepted { IfOk result (λ _. clauses_fault source.now target.now entities.now scopes.now first
-        parts.now ≡ None) }
+/// Tests the clauses.
+pub(crate) fn check_clauses(alloc: Global, making: &Making) -> Result<(), ArrowRefusal>
+    requires making { IsMaking making.now }
+    ensures accepted { IfOk result (λ _. clauses_fault
+        making.now.source.now making.now.target.now making.now.entities.now making.now.scopes.now
+        making.now.first making.now.clauses.now ≡ None) }
     ensures refused { IfErr result (λ refusal. (refusal ≡ ArrowRefusal.Memory)
-        ⊎ (option_map refusal_of_query (clauses_fault source.now target.now entities.now scopes.now first parts.now)
-        ≡ Some refusal)) }
+        ⊎ (option_map refusal_of_query (clauses_fault
+        making.now.source.now making.now.target.now making.now.entities.now making.now.scopes.now
+        making.now.first making.now.clauses.now) ≡ Some refusal)) }
 {
-    let Ok(fault) = first_clause_fault(alloc, source, target, entities, scopes, first, parts) else {
+    let Ok(fault) = first_clause_fault(alloc, making) else {
         return Err(ArrowRefusal::Memory);
     };
     match fault {

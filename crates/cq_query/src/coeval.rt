@@ -8,12 +8,13 @@ ghost use Rattle.cq_theory.specs.Presentation.{IsPresentation};
 ghost use Rattle.cq_theory.specs.Tables.{Tables, IsWellFormed};
 ghost use Rattle.cq_query.specs.Coeval.{start_of, size_of, starts as starts_of, null_start, is_large as large};
 ghost use Rattle.cq_query.specs.Coeval.{is_oversized, coeval_of};
+ghost use Rattle.cq_query.specs.Layout.{IsLayout};
 
 use crate::query::Query;
-use crate::rows::push_rows;
+use crate::rows::{Layout, push_rows};
 use crate::sorts::{build_generators, count_at};
-use crate::values::push_entries;
 use cq_base::Seq;
+use cq_terms::push_entries;
 use cq_theory::{Algebra, EntTerm, Equation, Presentation, Sheet, SizeRefusal, TypeTerm};
 use std::alloc::{AllocError, Global};
 
@@ -120,39 +121,42 @@ fn coeval_from(
     if nulls > (MOST_GENERATORS - first) as usize {
         return Err(SizeRefusal::TooLarge);
     }
-    match build_coeval(alloc, query, sheet, algebra, starts, first, nulls as u32) {
+    let layout = Layout {
+        query,
+        sheet,
+        starts,
+        first,
+        nulls: nulls as u32,
+    };
+    match build_coeval(alloc, &layout, algebra) {
         Ok(made) => check_size(made),
         Err(_) => Err(SizeRefusal::Memory),
     }
 }
 
+/// The presentation over this layout.
 fn build_coeval(
     alloc: Global,
-    query: &Query,
-    sheet: &Sheet,
+    layout: &Layout,
     algebra: &Algebra,
-    starts: &[u32],
-    first: u32,
-    nulls: u32,
 ) -> Result<Presentation, AllocError>
-    requires starts { starts.now ≡ starts_of query.now sheet.now.counts }
-    requires first { first ≡ null_start query.now sheet.now.counts }
-    requires nulls { nulls ≡ length algebra.now.nulls }
-    requires small { first + nulls ≤ 16000000 }
-    ensures { IfOk result (λ made. made ≡ coeval_of query.now (record { sheet = sheet.now; algebra = algebra.now })) }
+    requires layout { IsLayout layout.now }
+    requires nulls { layout.now.nulls ≡ length algebra.now.nulls }
+    ensures { IfOk result (λ made. made ≡ coeval_of layout.now.query.now
+        (record { sheet = layout.now.sheet.now; algebra = algebra.now })) }
 {
     let generators = build_generators(
         alloc,
-        query,
-        sheet.counts.as_slice(),
+        layout.query,
+        layout.sheet.counts.as_slice(),
         algebra.nulls.as_slice(),
     )?;
     let mut equations = Vec::new(alloc);
-    push_rows(alloc, query, sheet, starts, first, nulls, &mut equations)?;
+    push_rows(alloc, layout, &mut equations)?;
     push_entries(
         alloc,
-        first,
-        nulls,
+        layout.first,
+        layout.nulls,
         algebra.entries.as_slice(),
         &mut equations,
     )?;

@@ -21,7 +21,6 @@ mod scopes;
 mod sorts;
 mod tables;
 pub mod translation;
-mod values;
 
 pub use parts::{Clause, QueryParts};
 pub use query::{Block, Query};

@@ -4,10 +4,9 @@ ghost use Rattle.std.specs.Prelude.{slice_get};
 ghost use Rattle.std.specs.List.{list_any};
 ghost use Rattle.cq_theory.specs.Canonical.{below};
 ghost use Rattle.cq_theory.specs.Resolve.{or_else};
-ghost use Rattle.cq_theory.specs.Groups.{positions, AreGroups};
 ghost use Rattle.cq_query.specs.Assigned.{IsAssigned};
 ghost use Rattle.cq_query.specs.Index.{IsIndex};
-ghost use Rattle.cq_theory.specs.Groups.{edge_sources};
+ghost use Rattle.cq_query.specs.Making.{AreTablesOf};
 ghost use Rattle.cq_query.specs.QueryParts.{is_attribute as is_the_attribute, is_key as is_the_key};
 ghost use Rattle.cq_query.specs.QueryParts.{attribute_given as given_attribute, key_given as given_key};
 ghost use Rattle.cq_query.specs.QueryParts.{assigned_given as given_assigned, first_of, missing_attribute, missing_key};
@@ -16,11 +15,13 @@ ghost use Rattle.cq_query.specs.QueryParts.{missing_assigned, missing_in, missin
 
 use crate::assigned::{Assigned, find_assigned, make_assigned};
 use crate::index::{Index, find_attribute, has_key};
+use crate::making::Making;
 use crate::owners::missing;
 use crate::parts::Clause;
 use crate::scopes::Scope;
+use crate::tables::Tables;
 use cq_base::{Name, Raw};
-use cq_theory::{ArrowRefusal, Groups, Schema, Symbol};
+use cq_theory::{ArrowRefusal, Schema, Symbol};
 use std::alloc::Global;
 
 fn is_attribute(attribute: usize, symbol: Option<Symbol>) -> bool
@@ -267,69 +268,69 @@ fn check_all_assigned(
 /// Whether the attributes and foreign keys of an entity are given whole.
 fn check_entity(
     alloc: Global,
-    target: &Schema,
-    scopes: &[Scope],
-    clauses: &[(u32, Clause)],
+    making: &Making,
     index: &Index,
-    attributes: &Groups,
-    keys: &Groups,
+    tables: &Tables,
     entity: usize,
 ) -> Result<(), ArrowRefusal>
-    requires index { IsIndex target.now clauses.now index.now }
-    requires attributes { AreGroups (edge_sources target.now.attributes) (length target.now.entities) attributes.now }
-    requires keys { AreGroups (edge_sources target.now.keys) (length target.now.entities) keys.now }
-    requires entity { entity < length target.now.entities }
-    ensures accepted { IfOk result (λ _. missing_at target.now scopes.now clauses.now entity ≡ None) }
+    requires index { IsIndex making.now.target.now making.now.clauses.now index.now }
+    requires tables { AreTablesOf making.now.target.now tables.now }
+    requires entity { entity < length making.now.target.now.entities }
+    ensures accepted { IfOk result (λ _. missing_at
+        making.now.target.now making.now.scopes.now making.now.clauses.now entity ≡ None) }
     ensures refused { IfErr result (λ refusal. (refusal ≡ ArrowRefusal.Memory)
-        ⊎ (missing_at target.now scopes.now clauses.now entity ≡ Some refusal)) }
+        ⊎ (missing_at making.now.target.now making.now.scopes.now making.now.clauses.now entity ≡ Some refusal)) }
 {
-    let attributes = attributes.of(entity);
-    let keys = keys.of(entity);
-    check_lists(alloc, target, scopes, clauses, index, attributes, keys)
+    let attributes = tables.attributes.of(entity);
+    let keys = tables.keys.of(entity);
+    check_lists(alloc, making, index, attributes, keys)
 }
 
 /// Whether these attributes and foreign keys are given whole.
 #[tactic(auto, unfolding(crate::specs::QueryParts::missing_in))]
 fn check_lists(
     alloc: Global,
-    target: &Schema,
-    scopes: &[Scope],
-    clauses: &[(u32, Clause)],
+    making: &Making,
     index: &Index,
     attributes: &[usize],
     keys: &[usize],
 ) -> Result<(), ArrowRefusal>
-    requires index { IsIndex target.now clauses.now index.now }
-    ensures accepted { IfOk result (λ _. missing_in target.now scopes.now clauses.now attributes.now keys.now ≡ None) }
+    requires index { IsIndex making.now.target.now making.now.clauses.now index.now }
+    ensures accepted { IfOk result (λ _. missing_in
+        making.now.target.now making.now.scopes.now making.now.clauses.now attributes.now keys.now ≡ None) }
     ensures refused { IfErr result (λ refusal. (refusal ≡ ArrowRefusal.Memory)
-        ⊎ (missing_in target.now scopes.now clauses.now attributes.now keys.now ≡ Some refusal)) }
+        ⊎ (missing_in making.now.target.now making.now.scopes.now making.now.clauses.now
+        attributes.now keys.now ≡ Some refusal)) }
 {
-    check_attributes(target, clauses, index, attributes)?;
-    check_keys(target, clauses, index, keys)?;
-    check_all_assigned(alloc, target, scopes, clauses, index, keys)
+    check_attributes(making.target, making.clauses, index, attributes)?;
+    check_keys(making.target, making.clauses, index, keys)?;
+    check_all_assigned(
+        alloc,
+        making.target,
+        making.scopes,
+        making.clauses,
+        index,
+        keys,
+    )
 }
 
 /// Whether the attributes and foreign keys of each entity are given whole.
 pub(crate) fn check_missing(
     alloc: Global,
-    target: &Schema,
-    scopes: &[Scope],
-    clauses: &[(u32, Clause)],
+    making: &Making,
     index: &Index,
-    attributes: &Groups,
-    keys: &Groups,
+    tables: &Tables,
 ) -> Result<(), ArrowRefusal>
-    requires index { IsIndex target.now clauses.now index.now }
-    requires attributes { AreGroups (edge_sources target.now.attributes) (length target.now.entities) attributes.now }
-    requires keys { AreGroups (edge_sources target.now.keys) (length target.now.entities) keys.now }
-    ensures accepted { IfOk result (λ _. missing_part target.now scopes.now clauses.now ≡ None) }
+    requires index { IsIndex making.now.target.now making.now.clauses.now index.now }
+    requires tables { AreTablesOf making.now.target.now tables.now }
+    ensures accepted { IfOk result (λ _. missing_part
+        making.now.target.now making.now.scopes.now making.now.clauses.now ≡ None) }
     ensures refused { IfErr result (λ refusal. (refusal ≡ ArrowRefusal.Memory)
-        ⊎ (missing_part target.now scopes.now clauses.now ≡ Some refusal)) }
+        ⊎ (missing_part making.now.target.now making.now.scopes.now making.now.clauses.now ≡ Some refusal)) }
 {
+    let target = making.target;
     for entity in 0..target.entities.len() {
-        check_entity(
-            alloc, target, scopes, clauses, index, attributes, keys, entity,
-        )?;
+        check_entity(alloc, making, index, tables, entity)?;
     }
     Ok(())
 }

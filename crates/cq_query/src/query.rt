@@ -7,7 +7,7 @@ ghost use Rattle.cq_query.specs.Translation.{variables_at, key_sources, attribut
 ghost use Rattle.cq_query.specs.Translation.{observation_sources};
 ghost use Rattle.cq_query.specs.IsQuery.{IsQuery};
 
-use crate::making::make_blocks;
+use crate::making::{BlockParts, make_blocks};
 use crate::owners::make_entities;
 use crate::parts::QueryParts;
 use crate::tables::Tables;
@@ -104,15 +104,13 @@ impl Query {
         target.is_well_sorted();
         let first = entities.len() as u32;
         let blocks = make_entities(alloc, &target, entities.as_slice())?;
-        match make_blocks(
-            alloc,
-            &source,
-            &target,
-            blocks.as_slice(),
+        let parts = BlockParts {
+            entities: blocks.as_slice(),
             first,
-            vars.as_slice(),
-            clauses.as_slice(),
-        ) {
+            vars: vars.as_slice(),
+            clauses: clauses.as_slice(),
+        };
+        match make_blocks(alloc, &source, &target, &parts) {
             Ok((blocks, tables)) => {
                 let Tables {
                     keys,

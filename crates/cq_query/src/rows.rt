@@ -9,18 +9,38 @@ ghost use Rattle.cq_theory.specs.Groups.{positions};
 ghost use Rattle.cq_query.specs.Puts.{generators_from, put, put_equation, put_type};
 ghost use Rattle.cq_query.specs.Translation.{key_sources, attribute_sources, tests_at, assigned, attribute_term};
 ghost use Rattle.cq_query.specs.Duties.{equal_terms};
-ghost use Rattle.cq_query.specs.Coeval.{starts as starts_of, size_of, null_start, row_terms as terms_of_row};
+ghost use Rattle.cq_query.specs.Coeval.{size_of, row_terms as terms_of_row};
 ghost use Rattle.cq_query.specs.Coeval.{terms_from, key_equations, cell_equation, row_equations, entity_equations};
-ghost use Rattle.cq_query.specs.Coeval.{value_term};
+ghost use Rattle.cq_terms.specs.ValueTerms.{value_term};
+ghost use Rattle.cq_query.specs.Layout.{IsLayout, IsRow};
 
 use crate::duties::push_equal_terms;
 use crate::puts::{generators, push_equations};
 use crate::query::Query;
 use crate::sorts::count_at;
 use crate::translation::{put_assigned, put_attribute};
-use crate::values::cell_term;
+use cq_terms::cell_term;
 use cq_theory::{EntTerm, Equation, Sheet, Value};
 use std::alloc::{AllocError, Global};
+
+/// Where the generators of coeval stand: the first of each entity's rows, and the first of the nulls, with how many
+/// nulls there are.
+#[derive(Clone, Copy)]
+pub(crate) struct Layout<'a> {
+    pub query: &'a Query,
+    pub sheet: &'a Sheet,
+    pub starts: &'a [u32],
+    pub first: u32,
+    pub nulls: u32,
+}
+
+/// A row of an entity, with its generators.
+#[derive(Clone, Copy)]
+struct Row<'a> {
+    entity: usize,
+    number: u32,
+    terms: &'a [EntTerm],
+}
 
 /// The generators of a row, of rows with `width` generators from `start` on.
 fn generators_at(
@@ -38,17 +58,17 @@ fn generators_at(
 /// The generators of a row, where those of its entity begin at `start`.
 fn row_terms_from(
     alloc: Global,
-    query: &Query,
-    counts: &[u32],
+    layout: &Layout,
     start: u32,
     entity: usize,
     row: u32,
 ) -> Result<Vec<EntTerm>, AllocError>
-    requires { start + size_of query.now counts.now entity ≤ 16000000 }
-    ensures { IfOk result (λ made. made.items ≡ terms_from query.now counts.now entity row (Some start)) }
+    requires { start + size_of layout.now.query.now layout.now.sheet.now.counts entity ≤ 16000000 }
+    ensures { IfOk result (λ made. made.items
+        ≡ terms_from layout.now.query.now layout.now.sheet.now.counts entity row (Some start)) }
 {
-    let width = query.variable_count(entity);
-    if row < count_at(counts, entity) {
+    let width = layout.query.variable_count(entity);
+    if row < count_at(layout.sheet.counts.as_slice(), entity) {
         generators_at(alloc, start, row, width)
     } else {
         Ok(Vec::new(alloc))
@@ -64,18 +84,16 @@ fn start_at(starts: &[u32], entity: usize) -> Option<u32>
 /// The generators of a row, one for each variable.
 fn row_terms(
     alloc: Global,
-    query: &Query,
-    counts: &[u32],
-    starts: &[u32],
+    layout: &Layout,
     entity: usize,
     row: u32,
 ) -> Result<Vec<EntTerm>, AllocError>
-    requires starts { starts.now ≡ starts_of query.now counts.now }
-    requires small { null_start query.now counts.now ≤ 16000000 }
-    ensures { IfOk result (λ made. made.items ≡ terms_of_row query.now counts.now entity row) }
+    requires layout { IsLayout layout.now }
+    ensures { IfOk result (λ made. made.items
+        ≡ terms_of_row layout.now.query.now layout.now.sheet.now.counts entity row) }
 {
-    match start_at(starts, entity) {
-        Some(start) => row_terms_from(alloc, query, counts, start, entity, row),
+    match start_at(layout.starts, entity) {
+        Some(start) => row_terms_from(alloc, layout, start, entity, row),
         None => Ok(Vec::new(alloc)),
     }
 }
@@ -100,57 +118,43 @@ fn key_row(sheet: &Sheet, key: usize, row: u32) -> u32
     }
 }
 
-/// Appends the equalities of a row's generators and the terms that a foreign key assigns, over these terms.
+/// Appends the equalities of the generators of the row to which a foreign key leads, a row of entity `to`, and the
+/// terms that the key assigns.
 fn push_key_terms(
     alloc: Global,
-    query: &Query,
-    counts: &[u32],
-    starts: &[u32],
-    terms: &[EntTerm],
+    layout: &Layout,
+    row: &Row,
     key: usize,
-    entity: usize,
-    row: u32,
+    to: usize,
     made: &mut Vec<Equation>,
 ) -> Result<(), AllocError>
-    requires starts { starts.now ≡ starts_of query.now counts.now }
-    requires small { null_start query.now counts.now ≤ 16000000 }
+    requires layout { IsLayout layout.now }
     ensures { OnOk result (made.new.items ≡ made.old.items
-        ++ equal_terms (terms_of_row query.now counts.now entity row) (map (put terms.now) (assigned query.now key))) }
+        ++ equal_terms (terms_of_row layout.now.query.now layout.now.sheet.now.counts to
+        (slice_index (slice_index_or layout.now.sheet.now.keys key []) row.now.number))
+        (map (put row.now.terms.now) (assigned layout.now.query.now key))) }
 {
-    let left = row_terms(alloc, query, counts, starts, entity, row)?;
-    let right = put_assigned(alloc, query, terms, key)?;
+    let there = key_row(layout.sheet, key, row.number);
+    let left = row_terms(alloc, layout, to, there)?;
+    let right = put_assigned(alloc, layout.query, row.terms, key)?;
     push_equal_terms(alloc, left.as_slice(), right.as_slice(), made)
 }
 
 /// Appends the equations of a foreign key at a row.
 fn push_key_equations(
     alloc: Global,
-    query: &Query,
-    sheet: &Sheet,
-    starts: &[u32],
-    terms: &[EntTerm],
-    entity: usize,
-    row: u32,
+    layout: &Layout,
+    row: &Row,
     key: usize,
     made: &mut Vec<Equation>,
 ) -> Result<(), AllocError>
-    requires starts { starts.now ≡ starts_of query.now sheet.now.counts }
-    requires small { null_start query.now sheet.now.counts ≤ 16000000 }
-    requires terms { terms.now ≡ terms_of_row query.now sheet.now.counts entity row }
-    ensures { OnOk result (made.new.items ≡ made.old.items ++ key_equations query.now sheet.now entity row key) }
+    requires layout { IsLayout layout.now }
+    requires row { IsRow layout.now row.now }
+    ensures { OnOk result (made.new.items ≡ made.old.items
+        ++ key_equations layout.now.query.now layout.now.sheet.now row.now.entity row.now.number key) }
 {
-    match query.key(key) {
-        Some(edge) => push_key_terms(
-            alloc,
-            query,
-            sheet.counts.as_slice(),
-            starts,
-            terms,
-            key,
-            edge.to as usize,
-            key_row(sheet, key, row),
-            made,
-        ),
+    match layout.query.key(key) {
+        Some(edge) => push_key_terms(alloc, layout, row, key, edge.to as usize, made),
         None => Ok(()),
     }
 }
@@ -158,23 +162,18 @@ fn push_key_equations(
 /// Appends the equations of the foreign keys at a row.
 fn push_row_keys(
     alloc: Global,
-    query: &Query,
-    sheet: &Sheet,
-    starts: &[u32],
-    terms: &[EntTerm],
-    entity: usize,
-    row: u32,
+    layout: &Layout,
+    row: &Row,
     made: &mut Vec<Equation>,
 ) -> Result<(), AllocError>
-    requires starts { starts.now ≡ starts_of query.now sheet.now.counts }
-    requires small { null_start query.now sheet.now.counts ≤ 16000000 }
-    requires terms { terms.now ≡ terms_of_row query.now sheet.now.counts entity row }
-    requires entity { entity < length query.now.target.entities }
+    requires layout { IsLayout layout.now }
+    requires row { IsRow layout.now row.now }
     ensures { OnOk result (made.new.items ≡ made.old.items
-        ++ flat_map (key_equations query.now sheet.now entity row) (positions (key_sources query.now) entity)) }
+        ++ flat_map (key_equations layout.now.query.now layout.now.sheet.now row.now.entity row.now.number)
+        (positions (key_sources layout.now.query.now) row.now.entity)) }
 {
-    for key in query.keys_from(entity) {
-        push_key_equations(alloc, query, sheet, starts, terms, entity, row, *key, made)?;
+    for key in layout.query.keys_from(row.entity) {
+        push_key_equations(alloc, layout, row, *key, made)?;
     }
     Ok(())
 }
@@ -182,22 +181,20 @@ fn push_row_keys(
 /// Appends the equation of a cell in a column.
 fn push_cell_equation(
     alloc: Global,
-    query: &Query,
-    first: u32,
-    nulls: u32,
-    terms: &[EntTerm],
+    layout: &Layout,
+    row: &Row,
     column: &[Value],
-    row: u32,
     attribute: usize,
     made: &mut Vec<Equation>,
 ) -> Result<(), AllocError>
-    requires { first + nulls < 2 ^ 32 }
+    requires layout { IsLayout layout.now }
     ensures { OnOk result (made.new.items ≡ made.old.items
-        ++ Equation.Typ (put_type terms.now (attribute_term query.now attribute))
-        (value_term first nulls (slice_index_or column.now row (value_of.Const (Named 0)))) ∷ []) }
+        ++ Equation.Typ (put_type row.now.terms.now (attribute_term layout.now.query.now attribute))
+        (value_term layout.now.first layout.now.nulls
+        (slice_index_or column.now row.now.number (value_of.Const (Named 0)))) ∷ []) }
 {
-    let left = put_attribute(alloc, query, terms, attribute)?;
-    let right = cell_term(alloc, first, nulls, column, row)?;
+    let left = put_attribute(alloc, layout.query, row.terms, attribute)?;
+    let right = cell_term(alloc, layout.first, layout.nulls, column, row.number)?;
     made.push(Equation::Typ(left, right))?;
     Ok(())
 }
@@ -205,61 +202,40 @@ fn push_cell_equation(
 /// Appends the equation of an attribute at a row.
 fn push_cell(
     alloc: Global,
-    query: &Query,
-    sheet: &Sheet,
-    first: u32,
-    nulls: u32,
-    terms: &[EntTerm],
-    entity: usize,
-    row: u32,
+    layout: &Layout,
+    row: &Row,
     attribute: usize,
     made: &mut Vec<Equation>,
 ) -> Result<(), AllocError>
-    requires first { first ≡ null_start query.now sheet.now.counts }
-    requires small { first + nulls ≤ 16000000 }
-    requires terms { terms.now ≡ terms_of_row query.now sheet.now.counts entity row }
+    requires layout { IsLayout layout.now }
+    requires row { IsRow layout.now row.now }
     ensures { OnOk result (made.new.items ≡ made.old.items
-        ++ cell_equation query.now sheet.now nulls entity row attribute ∷ []) }
+        ++ cell_equation layout.now.query.now layout.now.sheet.now layout.now.nulls row.now.entity row.now.number
+        attribute ∷ []) }
 {
-    match sheet.cells.as_slice().get(attribute) {
-        Some(column) => push_cell_equation(
-            alloc,
-            query,
-            first,
-            nulls,
-            terms,
-            column.as_slice(),
-            row,
-            attribute,
-            made,
-        ),
-        None => push_cell_equation(alloc, query, first, nulls, terms, &[], row, attribute, made),
+    match layout.sheet.cells.as_slice().get(attribute) {
+        Some(column) => {
+            push_cell_equation(alloc, layout, row, column.as_slice(), attribute, made)
+        }
+        None => push_cell_equation(alloc, layout, row, &[], attribute, made),
     }
 }
 
 /// Appends the equations of the attributes at a row.
 fn push_row_cells(
     alloc: Global,
-    query: &Query,
-    sheet: &Sheet,
-    first: u32,
-    nulls: u32,
-    terms: &[EntTerm],
-    entity: usize,
-    row: u32,
+    layout: &Layout,
+    row: &Row,
     made: &mut Vec<Equation>,
 ) -> Result<(), AllocError>
-    requires first { first ≡ null_start query.now sheet.now.counts }
-    requires small { first + nulls ≤ 16000000 }
-    requires terms { terms.now ≡ terms_of_row query.now sheet.now.counts entity row }
-    requires entity { entity < length query.now.target.entities }
+    requires layout { IsLayout layout.now }
+    requires row { IsRow layout.now row.now }
     ensures { OnOk result (made.new.items ≡ made.old.items
-        ++ map (cell_equation query.now sheet.now nulls entity row) (positions (attribute_sources query.now) entity)) }
+        ++ map (cell_equation layout.now.query.now layout.now.sheet.now layout.now.nulls row.now.entity row.now.number)
+        (positions (attribute_sources layout.now.query.now) row.now.entity)) }
 {
-    for attribute in query.attributes_from(entity) {
-        push_cell(
-            alloc, query, sheet, first, nulls, terms, entity, row, *attribute, made,
-        )?;
+    for attribute in layout.query.attributes_from(row.entity) {
+        push_cell(alloc, layout, row, *attribute, made)?;
     }
     Ok(())
 }
@@ -284,48 +260,43 @@ fn push_row_tests(
 /// Appends the equations of a row.
 fn push_row(
     alloc: Global,
-    query: &Query,
-    sheet: &Sheet,
-    starts: &[u32],
-    first: u32,
-    nulls: u32,
+    layout: &Layout,
     entity: usize,
     row: u32,
     made: &mut Vec<Equation>,
 ) -> Result<(), AllocError>
-    requires starts { starts.now ≡ starts_of query.now sheet.now.counts }
-    requires first { first ≡ null_start query.now sheet.now.counts }
-    requires small { first + nulls ≤ 16000000 }
-    requires entity { entity < length query.now.target.entities }
-    ensures { OnOk result (made.new.items ≡ made.old.items ++ row_equations query.now sheet.now nulls entity row) }
+    requires layout { IsLayout layout.now }
+    requires entity { entity < length layout.now.query.now.target.entities }
+    ensures { OnOk result (made.new.items ≡ made.old.items
+        ++ row_equations layout.now.query.now layout.now.sheet.now layout.now.nulls entity row) }
 {
-    let terms = row_terms(alloc, query, sheet.counts.as_slice(), starts, entity, row)?;
+    let terms = row_terms(alloc, layout, entity, row)?;
     let terms = terms.as_slice();
-    push_row_tests(alloc, query, terms, entity, made)?;
-    push_row_keys(alloc, query, sheet, starts, terms, entity, row, made)?;
-    push_row_cells(alloc, query, sheet, first, nulls, terms, entity, row, made)
+    let row = Row {
+        entity,
+        number: row,
+        terms,
+    };
+    push_row_tests(alloc, layout.query, terms, entity, made)?;
+    push_row_keys(alloc, layout, &row, made)?;
+    push_row_cells(alloc, layout, &row, made)
 }
 
 /// Appends the equations of an entity's rows.
 fn push_entity_rows(
     alloc: Global,
-    query: &Query,
-    sheet: &Sheet,
-    starts: &[u32],
-    first: u32,
-    nulls: u32,
+    layout: &Layout,
     entity: usize,
     made: &mut Vec<Equation>,
 ) -> Result<(), AllocError>
-    requires starts { starts.now ≡ starts_of query.now sheet.now.counts }
-    requires first { first ≡ null_start query.now sheet.now.counts }
-    requires small { first + nulls ≤ 16000000 }
-    requires entity { entity < length query.now.target.entities }
-    ensures { OnOk result (made.new.items ≡ made.old.items ++ entity_equations query.now sheet.now nulls entity) }
+    requires layout { IsLayout layout.now }
+    requires entity { entity < length layout.now.query.now.target.entities }
+    ensures { OnOk result (made.new.items ≡ made.old.items
+        ++ entity_equations layout.now.query.now layout.now.sheet.now layout.now.nulls entity) }
 {
-    let count = count_at(sheet.counts.as_slice(), entity);
+    let count = count_at(layout.sheet.counts.as_slice(), entity);
     for row in 0..count {
-        push_row(alloc, query, sheet, starts, first, nulls, entity, row, made)?;
+        push_row(alloc, layout, entity, row, made)?;
     }
     Ok(())
 }
@@ -333,21 +304,17 @@ fn push_entity_rows(
 /// Appends the equations of all rows.
 pub(crate) fn push_rows(
     alloc: Global,
-    query: &Query,
-    sheet: &Sheet,
-    starts: &[u32],
-    first: u32,
-    nulls: u32,
+    layout: &Layout,
     made: &mut Vec<Equation>,
 ) -> Result<(), AllocError>
-    requires starts { starts.now ≡ starts_of query.now sheet.now.counts }
-    requires first { first ≡ null_start query.now sheet.now.counts }
-    requires small { first + nulls ≤ 16000000 }
+    requires layout { IsLayout layout.now }
     ensures { OnOk result (made.new.items ≡ made.old.items
-        ++ flat_map (entity_equations query.now sheet.now nulls) (below (length query.now.target.entities))) }
+        ++ flat_map (entity_equations layout.now.query.now layout.now.sheet.now layout.now.nulls)
+        (below (length layout.now.query.now.target.entities))) }
 {
+    let query = layout.query;
     for entity in 0..query.target.entities.len() {
-        push_entity_rows(alloc, query, sheet, starts, first, nulls, entity, made)?;
+        push_entity_rows(alloc, layout, entity, made)?;
     }
     Ok(())
 }

@@ -1,5 +1,5 @@
 //! The generators of the coeval presentation.
-ghost use Rattle.std.specs.Prelude.{ℕ, ◌≡◌, ◌+◌, ◌++◌, ◌∷◌, ◌<◌, ◌^◌, [], IfOk, OnOk, length, map, codes, decimal};
+ghost use Rattle.std.specs.Prelude.{ℕ, ◌≡◌, ◌++◌, ◌<◌, ◌^◌, [], IfOk, OnOk, length, map};
 ghost use Rattle.std.specs.Prelude.{slice_index};
 ghost use Rattle.std.specs.List.{flat_map};
 ghost use Rattle.cq_theory.specs.declared.presentation.Sort.TheVariants.{Plain, Entity};
@@ -8,8 +8,8 @@ ghost use Rattle.cq_query.specs.Coeval.{row_sorts};
 
 use crate::query::Query;
 use cq_base::Name;
+use cq_terms::{name_generators, push_null_sorts};
 use cq_theory::Sort;
-use itoa::Buffer;
 use std::alloc::{AllocError, Global};
 
 /// Appends the sorts of the generators of a row.
@@ -68,57 +68,6 @@ fn push_all_sorts(query: &Query, counts: &[u32], made: &mut Vec<Sort>) -> Result
         push_entity_sorts(query, counts, entity, made)?;
     }
     Ok(())
-}
-
-/// Appends the sorts of the nulls.
-fn push_null_sorts(nulls: &[u32], made: &mut Vec<Sort>) -> Result<(), AllocError>
-    ensures { OnOk result (made.new.items ≡ made.old.items ++ map Plain nulls.now) }
-{
-    for null in nulls {
-        made.push(Sort::Plain(*null))?;
-    }
-    Ok(())
-}
-
-/// The name of a generator with a number.
-fn generator_name(alloc: Global, number: u64) -> Result<Name, AllocError>
-    ensures { IfOk result (λ name. name ≡ codes "g" ++ decimal number) }
-{
-    let mut buffer = Buffer::new();
-    let mut text = String::from_str(alloc, "g")?;
-    text.push_str(buffer.format(number))?;
-    match Name::new(alloc, text.as_str()) {
-        Ok(name) => Ok(name),
-        Err(_) => Err(AllocError),
-    }
-}
-
-/// Appends the generator with a number.
-fn push_generator(
-    alloc: Global,
-    number: u64,
-    sort: Sort,
-    made: &mut Vec<(Name, Sort)>,
-) -> Result<(), AllocError>
-    ensures { OnOk result (made.new.items ≡ made.old.items ++ (codes "g" ++ decimal number, sort) ∷ []) }
-{
-    let name = generator_name(alloc, number)?;
-    made.push((name, sort))?;
-    Ok(())
-}
-
-/// The generators of these sorts, named `g1`, `g2` and so on.
-fn name_generators(alloc: Global, sorts: &[Sort]) -> Result<Vec<(Name, Sort)>, AllocError>
-    requires { length sorts.now < 2 ^ 32 }
-    ensures { IfOk result (λ made. made.items ≡ named sorts.now) }
-{
-    let mut made = Vec::new(alloc);
-    let mut number = 1;
-    for sort in sorts {
-        push_generator(alloc, number, *sort, &mut made)?;
-        number += 1;
-    }
-    Ok(made)
 }
 
 /// The generators of the rows and the nulls.

@@ -17,3 +17,5 @@ pub mod Passing
 pub mod Bridge
 pub mod WellSorted
 pub mod Answered
+pub mod ByEntity
+pub mod Ready

@@ -94,15 +94,6 @@ rule_sides s m row i u th k f e =
     sides : (a b : List (ℕ × ℕ)) (c d : ℕ) (p q : List ℕ) (t : ℕ) → a ≡ b → c ≡ d → end_of b d p ≡ Some t → end_of b d q ≡ Some t → IsSome (end_of a c p) × (end_of a c q ≡ end_of a c p)
     sides a b c d p q t ea ec l r = rw (ea, ec, l, r) (refl, refl)
 
--- the path equations below i hold at a row
-abbrev pub HoldBelow : List Rule → Content → ℕ → ℕ → Type 0
-HoldBelow rules m row i = live_of m row ≡ true → (j : ℕ) (u : Rule) → j < i → slice_get rules j ≡ Some u → entity_of m row ≡ u.entity → Agree m row u.left row u.right
-
-pub one_more_rule : (s : Theory) (m old : Content) (row i : ℕ) → m ≡ old → RuleHolds s m row i → HoldBelow s.rules old row i → HoldBelow s.rules old row (i + 1)
-one_more_rule s m old row i is here before l j u b f =
-    let h : RuleHolds s old row i = rw (← is) here in
-    ⊎_elim (λ p. before l j u p f) (λ q. h l u (rw q at f)) (below_or_at j i b)
-
 -- a path equation that was read holds at a row
 pub rule_holds : (s : Theory) (m : Content) (row i : ℕ) (x : Rule) → i < length s.rules → x ≡ get_or s.rules i x → (live_of m row ≡ true → entity_of m row ≡ x.entity → Agree m row x.left row x.right) → RuleHolds s m row i
 rule_holds s m row i x within is here l u f e a c ta tc =

@@ -6,3 +6,4 @@ pub mod Plain
 pub mod Rows
 pub mod Saturated
 pub mod Stage
+pub mod Origin

@@ -1,16 +1,16 @@
 //! One equation at a time: two rows that it joins are merged.
-ghost use Rattle.std.specs.Prelude.{◌≡◌, ℕ, ◌<◌, length, IfOk, OnOk, IfSome, IfNone, IsSome, true};
-ghost use Rattle.cq_tables.specs.Content.{keys_of, made_of, live_of, entity_of, end_of, IsWhole};
-ghost use Rattle.cq_rows.specs.Theory.{Term, IsTheory};
-ghost use Rattle.cq_rows.specs.Plain.{theory_of};
-ghost use Rattle.cq_rows.specs.Entries.{rows_of, IsCurrent};
-ghost use Rattle.cq_rows.specs.Rows.{IsApart, Agree, HaveRows, Passes, RuleHolds, GivenHolds};
+ghost use Rattle.std.specs.Prelude.{◌≡◌, ◌<◌, length, IfOk, IfSome, IfNone, IsSome, true};
+ghost use Rattle.cq_tables.specs.Content.{keys_of, made_of, live_of, entity_of, end_of};
+ghost use Rattle.cq_rows.specs.Origin.{theory_at, IsReady};
+ghost use Rattle.cq_rows.specs.Entries.{rows_of};
+ghost use Rattle.cq_rows.specs.Rows.{IsApart, Agree, Passes, RuleHolds, GivenHolds};
 
 use crate::entries::Entries;
 use crate::merge::merge;
-use crate::waiting::{Stopped, Waiting};
+use crate::origin::Origin;
+use crate::waiting::{RuleAt, Stopped, Waiting};
 use cq_tables::Tables;
-use cq_theory::{Equation, PathEq, Presentation, Schema};
+use cq_theory::{Equation, PathEq, Schema};
 use std::alloc::{AllocError, Global};
 
 // Where two paths lead, if it is to two rows that differ.
@@ -43,32 +43,18 @@ fn stop(tables: &Tables, row: u64, path: &[u32]) -> Option<u64>
     None
 }
 
-// Lists an equation where one of its sides stops, if it does.
-fn list(
-    tables: &Tables,
-    waits: &mut Waiting,
-    row: u64,
-    left: &[u32],
-    other: u64,
-    right: &[u32],
-    stopped: Stopped,
-) -> Result<(), AllocError>
+// The row at which the first of two paths stops that does.
+fn stop_of_either(tables: &Tables, row: u64, left: &[u32], other: u64, right: &[u32]) -> Option<u64>
     requires row { live_of tables.now row ≡ true }
     requires other { live_of tables.now other ≡ true }
     requires left { IsSome (end_of (keys_of tables.now) (entity_of tables.now row) left.now) }
     requires right { end_of (keys_of tables.now) (entity_of tables.now other) right.now ≡ end_of (keys_of tables.now)
         (entity_of tables.now row) left.now }
 {
-    if !waits.is_open() {
-        return Ok(());
-    }
     if let Some(at) = stop(tables, row, left) {
-        return waits.wait(at, stopped);
+        return Some(at);
     }
-    if let Some(at) = stop(tables, other, right) {
-        return waits.wait(at, stopped);
-    }
-    Ok(())
+    stop(tables, other, right)
 }
 
 // The path equations of a schema.
@@ -81,25 +67,20 @@ pub fn path_equations(schema: &Schema) -> &[PathEq]
 // Merges what a path equation joins at a row, and says whether it did.
 pub fn join_rule(
     alloc: Global,
-    schema: &Schema,
-    presentation: &Presentation,
+    origin: &Origin,
     tables: &mut Tables,
     rows: &mut Entries,
     waits: &mut Waiting,
-    row: u64,
-    place: usize,
+    at: RuleAt,
 ) -> Result<bool, AllocError>
-    requires theory { IsTheory (theory_of schema.now presentation.now) }
-    requires keys { keys_of tables.old ≡ (theory_of schema.now presentation.now).keys }
-    requires whole { IsWhole tables.old }
-    requires current { IsCurrent tables.old rows.old }
-    requires count { length (rows_of rows.old) ≡ length (theory_of schema.now presentation.now).generators }
-    requires row { row < made_of tables.old }
-    requires place { place < length schema.now.path_eqs }
-    ensures { IfOk result (λ merged. Passes (theory_of schema.now presentation.now) tables.old tables.new rows.old
-        rows.new merged (RuleHolds (theory_of schema.now presentation.now) tables.old row place)) }
+    requires ready { IsReady origin.now tables.old rows.old }
+    requires row { at.row < made_of tables.old }
+    requires place { at.place < length origin.now.schema.now.path_eqs }
+    ensures { IfOk result (λ merged. Passes (theory_at origin.now) tables.old tables.new rows.old
+        rows.new merged (RuleHolds (theory_at origin.now) tables.old at.row at.place)) }
 {
-    let rule = &path_equations(schema)[place];
+    let RuleAt { row, place } = at;
+    let rule = &path_equations(origin.schema)[place];
     if !tables.live(row) {
         return Ok(false);
     }
@@ -109,8 +90,10 @@ pub fn join_rule(
     let left = rule.left.as_slice();
     let right = rule.right.as_slice();
     let Some((a, b)) = apart(tables, row, left, row, right) else {
-        let stopped = Stopped::Rule(row, place);
-        list(tables, waits, row, left, row, right, stopped)?;
+        if waits.is_open() {
+            let stop = stop_of_either(tables, row, left, row, right);
+            waits.list(stop, Stopped::Rule(at))?;
+        }
         return Ok(false);
     };
     merge(alloc, tables, rows, waits, a, b)?;
@@ -120,24 +103,18 @@ pub fn join_rule(
 // Merges what an equation of the presentation joins, and says whether it did.
 pub fn join_given(
     alloc: Global,
-    schema: &Schema,
-    presentation: &Presentation,
+    origin: &Origin,
     tables: &mut Tables,
     rows: &mut Entries,
     waits: &mut Waiting,
     place: usize,
 ) -> Result<bool, AllocError>
-    requires theory { IsTheory (theory_of schema.now presentation.now) }
-    requires keys { keys_of tables.old ≡ (theory_of schema.now presentation.now).keys }
-    requires whole { IsWhole tables.old }
-    requires current { IsCurrent tables.old rows.old }
-    requires count { length (rows_of rows.old) ≡ length (theory_of schema.now presentation.now).generators }
-    requires rows { HaveRows (theory_of schema.now presentation.now) tables.old (rows_of rows.old) }
-    requires place { place < length presentation.now.equations }
-    ensures { IfOk result (λ merged. Passes (theory_of schema.now presentation.now) tables.old tables.new rows.old
-        rows.new merged (GivenHolds (theory_of schema.now presentation.now) tables.old (rows_of rows.old) place)) }
+    requires ready { IsReady origin.now tables.old rows.old }
+    requires place { place < length origin.now.presentation.now.equations }
+    ensures { IfOk result (λ merged. Passes (theory_at origin.now) tables.old tables.new rows.old
+        rows.new merged (GivenHolds (theory_at origin.now) tables.old (rows_of rows.old) place)) }
 {
-    let Equation::Ent(left, right) = &presentation.equations.as_slice()[place] else {
+    let Equation::Ent(left, right) = &origin.presentation.equations.as_slice()[place] else {
         return Ok(false);
     };
     let row = rows.row(left.generator);
@@ -145,8 +122,10 @@ pub fn join_given(
     let ahead = left.path.as_slice();
     let behind = right.path.as_slice();
     let Some((a, b)) = apart(tables, row, ahead, other, behind) else {
-        let stopped = Stopped::Given(place);
-        list(tables, waits, row, ahead, other, behind, stopped)?;
+        if waits.is_open() {
+            let stop = stop_of_either(tables, row, ahead, other, behind);
+            waits.list(stop, Stopped::Given(place))?;
+        }
         return Ok(false);
     };
     merge(alloc, tables, rows, waits, a, b)?;

@@ -6,6 +6,7 @@ mod fill;
 mod grow;
 mod join;
 mod merge;
+mod origin;
 mod renamings;
 mod settle;
 mod waiting;

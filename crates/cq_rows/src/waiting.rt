@@ -2,12 +2,18 @@
 //! merging ends where no equation joins two rows, whatever is kept here.
 use std::alloc::{AllocError, Global};
 
-/// An equation of the presentation by its number, or a path equation by its number and the row at which it is looked
-/// at.
+/// A path equation by its number, and a row at which it is looked at.
+#[derive(Clone, Copy)]
+pub struct RuleAt {
+    pub row: u64,
+    pub place: usize,
+}
+
+/// An equation of the presentation by its number, or a path equation at a row.
 #[derive(Clone, Copy)]
 pub enum Stopped {
     Given(usize),
-    Rule(u64, usize),
+    Rule(RuleAt),
 }
 
 impl Stopped {
@@ -15,7 +21,7 @@ impl Stopped {
     fn is_at(self, row: u64) -> bool {
         match self {
             Stopped::Given(_) => false,
-            Stopped::Rule(first, _) => first == row,
+            Stopped::Rule(at) => at.row == row,
         }
     }
 }
@@ -73,6 +79,14 @@ impl Waiting {
     /// No equation is listed from now on.
     pub fn close(&mut self) {
         self.open = false;
+    }
+
+    /// Lists an equation where it stops, if it does.
+    pub fn list(&mut self, stop: Option<u64>, stopped: Stopped) -> Result<(), AllocError> {
+        match stop {
+            Some(row) => self.wait(row, stopped),
+            None => Ok(()),
+        }
     }
 
     /// Lists an equation that stopped at a row. A path equation that stopped at its first row isn't listed: if that

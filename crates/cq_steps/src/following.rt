@@ -5,9 +5,10 @@ ghost use Rattle.cq_steps.specs.Right.{IsByFunction, IsPathAt, IsObsAt};
 ghost use Rattle.cq_theory.specs.Sorts.{entity_of as entity_of_term};
 
 use crate::premises::are_between;
-use crate::side::{has_sides, is_extended, is_same, is_same_entity_term, left, right};
+use crate::side::{has_sides, is_extended, is_same, left, right};
 use crate::sorts::{entity_of, is_ground};
 use crate::step::Step;
+use cq_terms::is_same_entity_term;
 use cq_theory::{EntTerm, Equation, ObsEq, Presentation, Schema, TypeTerm, substitute};
 use std::alloc::{AllocError, Global};
 

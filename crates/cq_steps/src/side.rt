@@ -5,6 +5,7 @@ ghost use Rattle.cq_theory.specs.EntTerm.{extended};
 ghost use Rattle.cq_theory.specs.declared.presentation.Equation.TheVariants.{Typ as TypEquation};
 ghost use Rattle.cq_steps.specs.Sides.{term_of};
 
+use cq_terms::{is_same_entity_term, is_same_type_term};
 use cq_theory::{EntTerm, Equation, TypeTerm};
 
 /// One side of an equation.
@@ -46,57 +47,6 @@ pub(crate) fn is_same(left: Side, right: Side) -> bool
         Side::Typ(term) => match right {
             Side::Ent(_) => false,
             Side::Typ(other) => is_same_type_term(term, other),
-        },
-    }
-}
-
-/// Whether both are the same term of an entity.
-pub(crate) fn is_same_entity_term(left: &EntTerm, right: &EntTerm) -> bool
-    ensures { IsTrue result ↔ (left.now ≡ right.now) }
-{
-    left.generator == right.generator && left.path.as_slice() == right.path.as_slice()
-}
-
-/// Whether both are the same term of a type.
-pub(crate) fn is_same_type_term(left: &TypeTerm, right: &TypeTerm) -> bool
-    ensures { IsTrue result ↔ (left.now ≡ right.now) }
-{
-    match left {
-        TypeTerm::Gen(number) => match right {
-            TypeTerm::Gen(other) => *number == *other,
-            TypeTerm::Const(_) => false,
-            TypeTerm::Att(_, _) => false,
-            TypeTerm::Fun(_, _) => false,
-        },
-        TypeTerm::Const(constant) => match right {
-            TypeTerm::Gen(_) => false,
-            TypeTerm::Const(other) => constant == other,
-            TypeTerm::Att(_, _) => false,
-            TypeTerm::Fun(_, _) => false,
-        },
-        TypeTerm::Att(attribute, term) => match right {
-            TypeTerm::Gen(_) => false,
-            TypeTerm::Const(_) => false,
-            TypeTerm::Att(other, with) => *attribute == *other && is_same_entity_term(term, with),
-            TypeTerm::Fun(_, _) => false,
-        },
-        TypeTerm::Fun(function, args) => match right {
-            TypeTerm::Gen(_) => false,
-            TypeTerm::Const(_) => false,
-            TypeTerm::Att(_, _) => false,
-            TypeTerm::Fun(other, others) => {
-                let args = args.as_slice();
-                let others = others.as_slice();
-                if *function != *other || args.len() != others.len() {
-                    return false;
-                }
-                for (place, arg) in args.iter().enumerate() {
-                    if !is_same_type_term(arg, &others[place]) {
-                        return false;
-                    }
-                }
-                true
-            }
         },
     }
 }

@@ -9,43 +9,9 @@ ghost use Rattle.cq_transform.specs.Refusals.{HasSides, IsEqual, AreEqualBefore,
 
 use crate::refusal::TransformRefusal;
 use cq_model::{Instance, Standing};
-use cq_theory::{EntTerm, Equation, TypeTerm, Value};
+use cq_terms::is_same_value;
+use cq_theory::{EntTerm, Equation, TypeTerm};
 use std::alloc::{AllocError, Global};
-
-/// Whether both are the same value.
-fn is_same(left: &Value, right: &Value) -> bool
-    ensures { IsTrue result ↔ (left.now ≡ right.now) }
-{
-    match left {
-        Value::Const(constant) => match right {
-            Value::Const(other) => constant == other,
-            Value::Null(_) => false,
-            Value::Fun(_, _) => false,
-        },
-        Value::Null(label) => match right {
-            Value::Const(_) => false,
-            Value::Null(other) => *label == *other,
-            Value::Fun(_, _) => false,
-        },
-        Value::Fun(function, args) => match right {
-            Value::Const(_) => false,
-            Value::Null(_) => false,
-            Value::Fun(other, others) => {
-                let args = args.as_slice();
-                let others = others.as_slice();
-                if *function != *other || args.len() != others.len() {
-                    return false;
-                }
-                for (place, arg) in args.iter().enumerate() {
-                    if !is_same(arg, &others[place]) {
-                        return false;
-                    }
-                }
-                true
-            }
-        },
-    }
-}
 
 /// Whether two entity terms name one row.
 fn rows_kept(target: &Instance, standings: &[Standing], left: &EntTerm, right: &EntTerm) -> bool
@@ -76,7 +42,7 @@ fn values_kept(
 {
     let first = target.value_over(alloc, standings, left)?;
     let second = target.value_over(alloc, standings, right)?;
-    Ok(is_same(&first, &second))
+    Ok(is_same_value(&first, &second))
 }
 
 /// Whether both sides of an equation mean the same, where generators stand for these rows and values.

@@ -7,10 +7,17 @@ ghost use Rattle.cq_model.specs.Numbers as made_of;
 
 use crate::canonical::Numbers;
 use crate::canonical::generators::{alone, number_at};
-use crate::canonical::terms::{cell_term, push_entries};
 use cq_base::Seq;
+use cq_terms::{cell_term, push_entries};
 use cq_theory::{EntTerm, Entry, Equation, Sheet, TypeTerm, Value};
 use std::alloc::{AllocError, Global};
+
+/// A row of an entity: its number among the entity's rows, and its generator.
+#[derive(Clone, Copy)]
+struct Row {
+    number: u32,
+    generator: u32,
+}
 
 /// The list at a place, and the empty list past the end.
 fn list_at(lists: &[Seq<u32>], place: usize) -> &[u32]
@@ -42,87 +49,83 @@ fn target_generator(sheet: &Sheet, numbers: &Numbers, key: u32, row: u32) -> u32
     start + number_at(list_at(sheet.keys.as_slice(), key as usize), row as usize)
 }
 
-/// The equation of a foreign key at a row with this generator.
+/// The equation of a foreign key at a row.
 fn key_equation(
     alloc: Global,
     sheet: &Sheet,
     numbers: &Numbers,
-    generator: u32,
-    row: u32,
+    row: Row,
     key: u32,
 ) -> Result<Equation, AllocError>
-    requires { made_of.target_generator sheet.now numbers.now key row < 2 ^ 32 }
-    ensures { IfOk result (λ made. made ≡ made_of.key_made sheet.now numbers.now generator row key) }
+    requires { made_of.target_generator sheet.now numbers.now key row.number < 2 ^ 32 }
+    ensures { IfOk result (λ made. made ≡ made_of.key_made sheet.now numbers.now row.generator row.number key) }
 {
     let mut path = Vec::with_capacity(alloc, 1)?;
     path.push(key)?;
     let left = EntTerm {
-        generator,
+        generator: row.generator,
         path: Seq::from_vec(path),
     };
-    let right = alone(alloc, target_generator(sheet, numbers, key, row));
+    let right = alone(alloc, target_generator(sheet, numbers, key, row.number));
     Ok(Equation::Ent(left, right))
 }
 
-/// Appends the equations of foreign keys at a row with this generator.
+/// Appends the equations of foreign keys at a row.
 fn push_keys(
     alloc: Global,
     sheet: &Sheet,
     numbers: &Numbers,
-    generator: u32,
-    row: u32,
+    row: Row,
     keys: &[u32],
     made: &mut Vec<Equation>,
 ) -> Result<(), AllocError>
-    requires { All (λ k. made_of.target_generator sheet.now numbers.now k row < 2 ^ 32) keys.now }
+    requires { All (λ k. made_of.target_generator sheet.now numbers.now k row.number < 2 ^ 32) keys.now }
     ensures { OnOk result (made.new.items ≡ made.old.items
-        ++ map (made_of.key_made sheet.now numbers.now generator row) keys.now) }
+        ++ map (made_of.key_made sheet.now numbers.now row.generator row.number) keys.now) }
 {
     for key in keys {
-        made.push(key_equation(alloc, sheet, numbers, generator, row, *key)?)?;
+        made.push(key_equation(alloc, sheet, numbers, row, *key)?)?;
     }
     Ok(())
 }
 
-/// The equation of an attribute at a row with this generator.
+/// The equation of an attribute at a row.
 fn cell_equation(
     alloc: Global,
     sheet: &Sheet,
     numbers: &Numbers,
-    generator: u32,
-    row: u32,
+    row: Row,
     attribute: u32,
 ) -> Result<Equation, AllocError>
     requires { numbers.now.first_null + numbers.now.nulls < 2 ^ 32 }
-    ensures { IfOk result (λ made. made ≡ made_of.cell_made sheet.now numbers.now generator row attribute) }
+    ensures { IfOk result (λ made. made ≡ made_of.cell_made sheet.now numbers.now row.generator row.number attribute) }
 {
-    let left = TypeTerm::Att(attribute, alone(alloc, generator));
+    let left = TypeTerm::Att(attribute, alone(alloc, row.generator));
     let right = cell_term(
         alloc,
         numbers.first_null,
         numbers.nulls,
         values_at(sheet.cells.as_slice(), attribute as usize),
-        row,
+        row.number,
     )?;
     Ok(Equation::Typ(left, right))
 }
 
-/// Appends the equations of attributes at a row with this generator.
+/// Appends the equations of attributes at a row.
 fn push_cells(
     alloc: Global,
     sheet: &Sheet,
     numbers: &Numbers,
-    generator: u32,
-    row: u32,
+    row: Row,
     attributes: &[u32],
     made: &mut Vec<Equation>,
 ) -> Result<(), AllocError>
     requires { numbers.now.first_null + numbers.now.nulls < 2 ^ 32 }
     ensures { OnOk result (made.new.items ≡ made.old.items
-        ++ map (made_of.cell_made sheet.now numbers.now generator row) attributes.now) }
+        ++ map (made_of.cell_made sheet.now numbers.now row.generator row.number) attributes.now) }
 {
     for attribute in attributes {
-        made.push(cell_equation(alloc, sheet, numbers, generator, row, *attribute)?)?;
+        made.push(cell_equation(alloc, sheet, numbers, row, *attribute)?)?;
     }
     Ok(())
 }
@@ -141,10 +144,14 @@ fn push_row(
     ensures { OnOk result (made.new.items ≡ made.old.items ++ made_of.row_made sheet.now numbers.now entity row) }
 {
     let generator = number_at(numbers.starts.as_slice(), entity) + row;
+    let at = Row {
+        number: row,
+        generator,
+    };
     let attributes = list_at(numbers.attributes.as_slice(), entity);
-    push_cells(alloc, sheet, numbers, generator, row, attributes, made)?;
+    push_cells(alloc, sheet, numbers, at, attributes, made)?;
     let keys = list_at(numbers.keys.as_slice(), entity);
-    push_keys(alloc, sheet, numbers, generator, row, keys, made)?;
+    push_keys(alloc, sheet, numbers, at, keys, made)?;
     Ok(())
 }
 

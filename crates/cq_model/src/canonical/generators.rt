@@ -1,8 +1,8 @@
 //! The generators of rows and nulls, as terms, with their names and with what they stand for.
-ghost use Rattle.std.specs.Prelude.{ℕ, ◌≡◌, ◌+◌, ◌++◌, ◌∷◌, ◌<◌, ◌≤◌, ◌^◌, [], IfOk, OnOk, length, map, codes, decimal};
+ghost use Rattle.std.specs.Prelude.{ℕ, ◌≡◌, ◌+◌, ◌++◌, ◌<◌, ◌≤◌, ◌^◌, [], IfOk, OnOk, length, map};
 ghost use Rattle.std.specs.Prelude.{replicate, slice_index, sum};
 ghost use Rattle.std.specs.List.{flat_map};
-ghost use Rattle.cq_theory.specs.declared.presentation.Sort.TheVariants.{Plain, Entity};
+ghost use Rattle.cq_theory.specs.declared.presentation.Sort.TheVariants.{Entity};
 ghost use Rattle.cq_theory.specs.declared.value.Value.TheVariants as value_of;
 ghost use Rattle.cq_theory.specs.Tables.{AtRow, AtValue};
 ghost use Rattle.cq_theory.specs.Canonical.{below, named};
@@ -11,8 +11,8 @@ ghost use Rattle.cq_model.specs.Standing.{meaning};
 
 use crate::standing::Standing;
 use cq_base::{Name, Seq};
+use cq_terms::{name_generators, push_null_sorts};
 use cq_theory::{EntTerm, Sort, Value};
-use itoa::Buffer;
 use std::alloc::{AllocError, Global};
 
 /// Appends the sorts of that many rows of an entity.
@@ -54,57 +54,6 @@ fn push_all_sorts(counts: &[u32], made: &mut Vec<Sort>) -> Result<(), AllocError
         push_entity_sorts(counts, entity, made)?;
     }
     Ok(())
-}
-
-/// Appends the sorts of the nulls.
-fn push_null_sorts(nulls: &[u32], made: &mut Vec<Sort>) -> Result<(), AllocError>
-    ensures { OnOk result (made.new.items ≡ made.old.items ++ map Plain nulls.now) }
-{
-    for null in nulls {
-        made.push(Sort::Plain(*null))?;
-    }
-    Ok(())
-}
-
-/// The name of a generator with a number.
-fn generator_name(alloc: Global, number: u64) -> Result<Name, AllocError>
-    ensures { IfOk result (λ name. name ≡ codes "g" ++ decimal number) }
-{
-    let mut buffer = Buffer::new();
-    let mut text = String::from_str(alloc, "g")?;
-    text.push_str(buffer.format(number))?;
-    match Name::new(alloc, text.as_str()) {
-        Ok(name) => Ok(name),
-        Err(_) => Err(AllocError),
-    }
-}
-
-/// Appends the generator with a number.
-fn push_generator(
-    alloc: Global,
-    number: u64,
-    sort: Sort,
-    made: &mut Vec<(Name, Sort)>,
-) -> Result<(), AllocError>
-    ensures { OnOk result (made.new.items ≡ made.old.items ++ (codes "g" ++ decimal number, sort) ∷ []) }
-{
-    let name = generator_name(alloc, number)?;
-    made.push((name, sort))?;
-    Ok(())
-}
-
-/// The generators of these sorts, named `g1`, `g2` and so on.
-fn name_generators(alloc: Global, sorts: &[Sort]) -> Result<Vec<(Name, Sort)>, AllocError>
-    requires { length sorts.now < 2 ^ 32 }
-    ensures { IfOk result (λ made. made.items ≡ named sorts.now) }
-{
-    let mut made = Vec::with_capacity(alloc, sorts.len())?;
-    let mut number = 1;
-    for sort in sorts {
-        push_generator(alloc, number, *sort, &mut made)?;
-        number += 1;
-    }
-    Ok(made)
 }
 
 /// The generators of the rows, entity by entity, and then those of the nulls.

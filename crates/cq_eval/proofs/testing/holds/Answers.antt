@@ -12,5 +12,5 @@ returns-in_ok-right-in-Typ c =
     c.in_ok-left-in-Typ.ensures ∙ ap (λ (A : Assignment). value_of M A c.in-Typ.left) c.standings-standings.ensures in
     let right : c.in_ok-right-in-Typ.right ≡ value_of M (map AtRow c.args.choice.now) c.in-Typ.right =
     c.in_ok-right-in-Typ.ensures ∙ ap (λ (A : Assignment). value_of M A c.in-Typ.right) c.standings-standings.ensures in
-    same_is c.is_same.result c.in_ok-left-in-Typ.left c.in_ok-right-in-Typ.right c.is_same.ensures
+    same_is c.is_same_value.result c.in_ok-left-in-Typ.left c.in_ok-right-in-Typ.right c.is_same_value.ensures
     ∙ (λ j. same_value (left j) (right j)) ∙ ap (holds_at M c.args.choice.now) (sym c.in-Typ.is)

@@ -16,35 +16,35 @@ read_sheet-requires c =
     let built = c.requires.built in
     let order : c.as_slice-order.result.now ≡ c.args.numbered.now.order = c.as_slice-order.ensures in
     record {
-      entities = ap length order ∙ reading.entities_counted c.args.schema.now c.args.presentation.now c.args.tables.now c.args.entries.now c.requires.closed c.args.numbered.now.order c.args.numbered.now.names c.args.numbered.now.numbers c.args.places.now built.0 built.1 c.args.types.now built.2 c.args.flat.now built.3;
-      few_values = omega (arith, c.requires.few_types, reading.types_counted c.args.schema.now c.args.presentation.now c.args.tables.now c.args.entries.now c.requires.closed c.args.numbered.now.order c.args.numbered.now.names c.args.numbered.now.numbers c.args.places.now built.0 built.1 c.args.types.now built.2 c.args.flat.now built.3);
+      entities = ap length order ∙ reading.entities_counted c.args.rows.now.schema.now c.args.rows.now.presentation.now c.args.rows.now.tables.now c.args.rows.now.entries.now c.requires.closed c.args.numbered.now.order c.args.numbered.now.names c.args.numbered.now.numbers c.args.closed.now.places.now built.0 built.1 c.args.types.now built.2 c.args.closed.now.flat.now built.3;
+      few_values = omega (arith, c.requires.few_types, reading.types_counted c.args.rows.now.schema.now c.args.rows.now.presentation.now c.args.rows.now.tables.now c.args.rows.now.entries.now c.requires.closed c.args.numbered.now.order c.args.numbered.now.names c.args.numbered.now.numbers c.args.closed.now.places.now built.0 built.1 c.args.types.now built.2 c.args.closed.now.flat.now built.3);
       keys = c.requires.closed.keys;
-      rows = subst (λ (l : List (List ℕ)). (e n r : ℕ) → slice_get (rows_at l e) n ≡ Some r → (live_of c.args.tables.now r ≡ true) × (row_entity c.args.tables.now r ≡ e)) (sym order)
-          (reading.rows_are c.args.schema.now c.args.presentation.now c.args.tables.now c.args.entries.now c.requires.closed c.args.numbered.now.order c.args.numbered.now.names c.args.numbered.now.numbers c.args.places.now built.0 built.1 c.args.types.now built.2 c.args.flat.now built.3);
-      places = subst (λ (l : List (List ℕ)). (a n r : ℕ) (edge : Edge) → slice_get c.args.schema.now.attributes a ≡ Some edge → slice_get (rows_at l edge.from) n ≡ Some r → cell_place c.args.places.now r a < length c.args.flat.now.values) (sym order)
-          (reading.places_within c.args.schema.now c.args.presentation.now c.args.tables.now c.args.entries.now c.requires.closed c.args.numbered.now.order c.args.numbered.now.names c.args.numbered.now.numbers c.args.places.now built.0 built.1 c.args.types.now built.2 c.args.flat.now built.3);
+      rows = subst (λ (l : List (List ℕ)). (e n r : ℕ) → slice_get (rows_at l e) n ≡ Some r → (live_of c.args.rows.now.tables.now r ≡ true) × (row_entity c.args.rows.now.tables.now r ≡ e)) (sym order)
+          (reading.rows_are c.args.rows.now.schema.now c.args.rows.now.presentation.now c.args.rows.now.tables.now c.args.rows.now.entries.now c.requires.closed c.args.numbered.now.order c.args.numbered.now.names c.args.numbered.now.numbers c.args.closed.now.places.now built.0 built.1 c.args.types.now built.2 c.args.closed.now.flat.now built.3);
+      places = subst (λ (l : List (List ℕ)). (a n r : ℕ) (edge : Edge) → slice_get c.args.rows.now.schema.now.attributes a ≡ Some edge → slice_get (rows_at l edge.from) n ≡ Some r → cell_place c.args.closed.now.places.now r a < length c.args.closed.now.flat.now.values) (sym order)
+          (reading.places_within c.args.rows.now.schema.now c.args.rows.now.presentation.now c.args.rows.now.tables.now c.args.rows.now.entries.now c.requires.closed c.args.numbered.now.order c.args.numbered.now.names c.args.numbered.now.numbers c.args.closed.now.places.now built.0 built.1 c.args.types.now built.2 c.args.closed.now.flat.now built.3);
     }
 
 pub read_algebra-requires : goal.read_algebra-requires
 read_algebra-requires c =
     let built = c.requires.built in
-    reading.nulls_within c.args.schema.now c.args.presentation.now c.args.tables.now c.args.entries.now c.requires.closed c.args.numbered.now.order c.args.numbered.now.names c.args.numbered.now.numbers c.args.places.now built.0 built.1 c.args.types.now built.2 c.args.flat.now built.3
+    reading.nulls_within c.args.rows.now.schema.now c.args.rows.now.presentation.now c.args.rows.now.tables.now c.args.rows.now.entries.now c.requires.closed c.args.numbered.now.order c.args.numbered.now.names c.args.numbered.now.numbers c.args.closed.now.places.now built.0 built.1 c.args.types.now built.2 c.args.closed.now.flat.now built.3
 
 pub read_standings-requires : goal.read_standings-requires
 read_standings-requires c =
     let built = c.requires.built in
-    reading.generators_within c.args.schema.now c.args.presentation.now c.args.tables.now c.args.entries.now c.requires.closed c.args.numbered.now.order c.args.numbered.now.names c.args.numbered.now.numbers c.args.places.now built.0 built.1 c.args.types.now built.2 c.args.flat.now built.3
+    reading.generators_within c.args.rows.now.schema.now c.args.rows.now.presentation.now c.args.rows.now.tables.now c.args.rows.now.entries.now c.requires.closed c.args.numbered.now.order c.args.numbered.now.names c.args.numbered.now.numbers c.args.closed.now.places.now built.0 built.1 c.args.types.now built.2 c.args.closed.now.flat.now built.3
 
 pub returns-clause-tables : goal.returns-clause-tables
 returns-clause-tables c =
     let built = c.requires.built in
-    let sheet = c.in_ok-sheet.ensures c.args.presentation.now c.args.entries.now
-    ∙ (λ i. sheet_of c.args.schema.now c.args.presentation.now c.args.tables.now c.args.entries.now (c.as_slice-order.ensures i) (c.as_slice-numbers.ensures i) c.args.places.now c.args.flat.now.values) in
+    let sheet = c.in_ok-sheet.ensures c.args.rows.now.presentation.now c.args.rows.now.entries.now
+    ∙ (λ i. sheet_of c.args.rows.now.schema.now c.args.rows.now.presentation.now c.args.rows.now.tables.now c.args.rows.now.entries.now (c.as_slice-order.ensures i) (c.as_slice-numbers.ensures i) c.args.closed.now.places.now c.args.closed.now.flat.now.values) in
     ap (λ (a : Algebra). tables c.in_ok-sheet.sheet a) c.in_ok-new.ensures
-    ∙ reading.tables_read c.args.schema.now c.args.presentation.now c.args.tables.now c.args.entries.now c.requires.closed c.args.numbered.now.order c.args.numbered.now.names c.args.numbered.now.numbers c.args.places.now built.0 built.1 c.args.types.now built.2 c.args.flat.now built.3
+    ∙ reading.tables_read c.args.rows.now.schema.now c.args.rows.now.presentation.now c.args.rows.now.tables.now c.args.rows.now.entries.now c.requires.closed c.args.numbered.now.order c.args.numbered.now.names c.args.numbered.now.numbers c.args.closed.now.places.now built.0 built.1 c.args.types.now built.2 c.args.closed.now.flat.now built.3
     c.in_ok-sheet.sheet c.in_ok-algebra.algebra sheet c.in_ok-algebra.ensures.nulls c.in_ok-algebra.ensures.entries
 
 pub returns-clause-assignment : goal.returns-clause-assignment
 returns-clause-assignment c =
-    c.in_ok-standings.ensures c.args.schema.now c.args.tables.now c.args.numbered.now.order
-    ∙ (λ i. assignment_of c.args.schema.now c.args.presentation.now c.args.tables.now c.args.entries.now c.args.numbered.now.order (c.as_slice-numbers.ensures i) c.args.places.now c.args.flat.now.values)
+    c.in_ok-standings.ensures c.args.rows.now.schema.now c.args.rows.now.tables.now c.args.numbered.now.order
+    ∙ (λ i. assignment_of c.args.rows.now.schema.now c.args.rows.now.presentation.now c.args.rows.now.tables.now c.args.rows.now.entries.now c.args.numbered.now.order (c.as_slice-numbers.ensures i) c.args.closed.now.places.now c.args.closed.now.flat.now.values)

@@ -2,7 +2,7 @@ use Rattle.std.proofs.Common.{ℕ, List, length, map, arith, ◌≡◌, ◌∙�
 use Rattle.cq_theory.specs.Canonical.{below}
 use Rattle.cq_theory.specs.declared.value.Entry.{Entry}
 use Rattle.cq_model.specs.EntryLists.{AreEntryLists}
-use Rattle.cq_model.specs.Numbering.{positions}
+use Rattle.cq_theory.specs.Groups.{positions}
 use Rattle.cq_model.proofs.Grouped.{if_ok}
 use Rattle.cq_model.proofs.EntryPlaces.{entry_numbers_within, are_entry_lists}
 use Rattle.cq_model.proofs.entries.entry_lists.Goals as goal

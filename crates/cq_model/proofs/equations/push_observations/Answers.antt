@@ -16,11 +16,11 @@ pub loop-entity-preserved : goal.loop-entity-preserved
 loop-entity-preserved c =
     let e : ℕ = c.loop-entity.entity in
     let rows : c.as_slice.result.now ≡ slice_index_or c.args.order.now e [] = c.as_slice.ensures ∙ c.index-order-entity.is ∙ get_or_default c.args.order.now e c.index-order-entity.result [] c.loop-entity-test.true in
-    observed_more c.args.schema.now c.args.tables.now c.args.places.now c.args.order.now e c.args.list.now c.loop-entity.list c.push_entity.new.list c.loop-entity.invariant c.in_ok-push_entity.ensures.grows
-    (subst (λ (l : List ℕ). AddsAtRows c.args.schema.now c.args.tables.now c.args.places.now e l c.loop-entity.list c.push_entity.new.list) rows c.in_ok-push_entity.ensures.added)
+    observed_more c.args.ground.now.schema.now c.args.ground.now.tables.now c.args.ground.now.places.now c.args.order.now e c.args.list.now c.loop-entity.list c.push_entity.new.list c.loop-entity.invariant c.in_ok-push_entity.ensures.grows
+    (subst (λ (l : List ℕ). AddsAtRows c.args.ground.now.schema.now c.args.ground.now.tables.now c.args.ground.now.places.now e l c.loop-entity.list c.push_entity.new.list) rows c.in_ok-push_entity.ensures.added)
 
 pub returns-clause-added : goal.returns-clause-added
 returns-clause-added c =
     let all : c.loop-entity.entity ≡ length c.args.order.now = omega (arith, c.loop-entity-test.false) in
-    let are = subst (λ n. AreObserved c.args.schema.now c.args.tables.now c.args.places.now c.args.order.now n c.args.list.now c.loop-entity.list) all c.loop-entity.invariant in
+    let are = subst (λ n. AreObserved c.args.ground.now.schema.now c.args.ground.now.tables.now c.args.ground.now.places.now c.args.order.now n c.args.list.now c.loop-entity.list) all c.loop-entity.invariant in
     are.added

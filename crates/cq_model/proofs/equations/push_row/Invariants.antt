@@ -1,6 +1,8 @@
 use Rattle.std.proofs.Common.{take}
+use Rattle.cq_tables.specs.Content.{entity_of as row_entity}
 use Rattle.cq_model.proofs.AddedSides.{AreAtRow}
+use Rattle.cq_model.proofs.NumberedEquations.{found_at}
 use Rattle.cq_model.proofs.equations.push_row.Given as goal
 
-abbrev pub invariant-loop-equation : goal.invariant-loop-equation
-invariant-loop-equation l = AreAtRow l.schema l.tables l.places l.entity l.row (take l.equation-index l.schema.obs_eqs) l.initial.list l.list
+abbrev pub invariant-loop-number : goal.invariant-loop-number
+invariant-loop-number l = AreAtRow l.ground.schema.now l.ground.tables.now l.ground.places.now (row_entity l.ground.tables.now l.row) l.row (found_at l.ground.schema.now.obs_eqs (take l.number-index l.numbers)) l.initial.list l.list

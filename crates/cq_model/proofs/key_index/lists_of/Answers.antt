@@ -1,7 +1,7 @@
 use Rattle.std.proofs.Common.{ℕ, List, [], ◌≡◌, map}
 use Rattle.std.specs.Prelude.{slice_index_or}
 use Rattle.cq_theory.specs.Canonical.{below}
-use Rattle.cq_model.specs.Numbering.{positions}
+use Rattle.cq_theory.specs.Groups.{positions}
 use Rattle.cq_model.proofs.Grouped.{if_ok}
 use Rattle.cq_model.proofs.IndexedRows.{positions_at}
 use Rattle.cq_model.proofs.key_index.lists_of.Goals as goal

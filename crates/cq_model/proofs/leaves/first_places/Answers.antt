@@ -2,7 +2,8 @@ use Rattle.std.proofs.Common.{ℕ, List, [], ◌≡◌, ◌<◌, ◌≤◌, ◌�
 use Rattle.std.proofs.Math.Nat.{mul-le-mul_left}
 use Rattle.std.proofs.lemmas.List.{length-set, get_or_default}
 use Rattle.std.proofs.lemmas.Option.{slice_get-get_or}
-use Rattle.cq_model.specs.Numbering.{rank, positions}
+use Rattle.cq_theory.specs.Groups.{positions}
+use Rattle.cq_model.specs.Numbering.{rank}
 use Rattle.cq_model.proofs.Ranks.{rank_within}
 use Rattle.cq_model.proofs.Spreads.{AreSpread, spread_none, spread_more, spread_firsts, next_read}
 use Rattle.cq_model.proofs.leaves.first_places.Goals as goal

@@ -17,36 +17,36 @@ use Rattle.cq_model.proofs.ReadableTerms.{read_at, if_answered, IsReadable-wider
 use Rattle.cq_model.proofs.nodes.+push_term.Goals as goal
 
 pub type_of-kind-requires : goal.type_of-kind-requires
-type_of-kind-requires t c = constant_known c.args.schema.now c.args.tables.now c.args.places.now c.args.rows.now (length c.args.list.now.nodes) c.in-Const.constant c.args.term.now c.in-Const.is c.requires.term
+type_of-kind-requires t c = constant_known c.args.ground.now.schema.now c.args.ground.now.tables.now c.args.ground.now.places.now c.args.rows.now (length c.args.list.now.nodes) c.in-Const.constant c.args.term.now c.in-Const.is c.requires.term
 
 pub place_of_cell-requires : goal.place_of_cell-requires
 place_of_cell-requires t c =
-    let S : Schema = c.args.schema.now in
+    let S : Schema = c.args.ground.now.schema.now in
     let count : ℕ = length c.args.list.now.nodes in (
       S,
       count,
       omega (arith, c.count-count.ensures, c.count-count.type_inv),
       c.requires.places,
-      subst (λ (u : TypeTerm). IsReadable S c.args.tables.now c.args.places.now c.args.rows.now count u) c.in-Att.is c.requires.term,
+      subst (λ (u : TypeTerm). IsReadable S c.args.ground.now.tables.now c.args.ground.now.places.now c.args.rows.now count u) c.in-Att.is c.requires.term,
     )
 
 pub bounds-as_slice-function : goal.bounds-as_slice-function
 bounds-as_slice-function t c =
-    let S : Schema = c.args.schema.now in
+    let S : Schema = c.args.ground.now.schema.now in
     let same : c.as_slice-in-Fun.result.now ≡ S.typeside.functions = c.as_slice-in-Fun.ensures ∙ ap (λ (x : TypesideData). x.functions) (c.behind-schema.view_is ∙ c.deref.ensures) ∙ ap (λ (s : Schema). s.typeside.functions) c.schema.view_is in
-    function_known S c.args.tables.now c.args.places.now c.args.rows.now (length c.args.list.now.nodes) c.in-Fun.function c.in-Fun.args c.args.term.now c.as_slice-in-Fun.result.now c.in-Fun.is same c.requires.term
+    function_known S c.args.ground.now.tables.now c.args.ground.now.places.now c.args.rows.now (length c.args.list.now.nodes) c.in-Fun.function c.in-Fun.args c.args.term.now c.as_slice-in-Fun.result.now c.in-Fun.is same c.requires.term
 
 pub bounds-as_slice-function-in-Fun : goal.bounds-as_slice-function-in-Fun
 bounds-as_slice-function-in-Fun t c =
-    let S : Schema = c.args.schema.now in
+    let S : Schema = c.args.ground.now.schema.now in
     let same : c.as_slice-in-Fun.result.now ≡ S.typeside.functions = c.as_slice-in-Fun.ensures ∙ ap (λ (x : TypesideData). x.functions) (c.behind-schema.view_is ∙ c.deref.ensures) ∙ ap (λ (s : Schema). s.typeside.functions) c.schema.view_is in
-    function_known S c.args.tables.now c.args.places.now c.args.rows.now (length c.args.list.now.nodes) c.in-Fun.function c.in-Fun.args c.args.term.now c.as_slice-in-Fun.result.now c.in-Fun.is same c.requires.term
+    function_known S c.args.ground.now.tables.now c.args.ground.now.places.now c.args.rows.now (length c.args.list.now.nodes) c.in-Fun.function c.in-Fun.args c.args.term.now c.as_slice-in-Fun.result.now c.in-Fun.is same c.requires.term
 
 pub push_term-requires : goal.push_term-requires
 push_term-requires t c =
-    let S : Schema = c.args.schema.now in
-    let m : Content = c.args.tables.now in
-    let places : Places = c.args.places.now in
+    let S : Schema = c.args.ground.now.schema.now in
+    let m : Content = c.args.ground.now.tables.now in
+    let places : Places = c.args.ground.now.places.now in
     let rows : List ℕ = c.args.rows.now in
     let old : ℕ = length c.args.list.now.nodes in
     let now : ℕ = length c.loop-arg.list.nodes in
@@ -59,9 +59,9 @@ push_term-requires t c =
 
 pub loop-arg-preserved : goal.loop-arg-preserved
 loop-arg-preserved t c =
-    let S : Schema = c.args.schema.now in
-    let m : Content = c.args.tables.now in
-    let places : Places = c.args.places.now in
+    let S : Schema = c.args.ground.now.schema.now in
+    let m : Content = c.args.ground.now.tables.now in
+    let places : Places = c.args.ground.now.places.now in
     let rows : List ℕ = c.args.rows.now in
     let list : NodeListData = c.args.list.now in
     pushed_next S m places rows list c.loop-arg.list c.push_term.new.list c.as_slice-arg-items.result.now c.loop-arg.arg-index c.loop-arg.found.items c.push-in-loop-arg.new.self.items c.arg-item.result c.in_ok-place-in-Fun.place
@@ -69,9 +69,9 @@ loop-arg-preserved t c =
 
 pub returns-in-Gen : goal.returns-in-Gen
 returns-in-Gen t c =
-    let S : Schema = c.args.schema.now in
-    let m : Content = c.args.tables.now in
-    let places : Places = c.args.places.now in
+    let S : Schema = c.args.ground.now.schema.now in
+    let m : Content = c.args.ground.now.tables.now in
+    let places : Places = c.args.ground.now.places.now in
     let rows : List ℕ = c.args.rows.now in
     let n : ℕ = c.in-Gen.generator in
     let place : ℕ = slice_index c.as_slice.result.now n in
@@ -81,9 +81,9 @@ returns-in-Gen t c =
 
 pub returns-in_ok-clone-in-Const : goal.returns-in_ok-clone-in-Const
 returns-in_ok-clone-in-Const t c =
-    let S : Schema = c.args.schema.now in
-    let m : Content = c.args.tables.now in
-    let places : Places = c.args.places.now in
+    let S : Schema = c.args.ground.now.schema.now in
+    let m : Content = c.args.ground.now.tables.now in
+    let places : Places = c.args.ground.now.places.now in
     let rows : List ℕ = c.args.rows.now in
     let old : NodeListData = c.args.list.now in
     let new : NodeListData = c.push.new.self in
@@ -99,9 +99,9 @@ returns-in_ok-clone-in-Const t c =
 
 pub returns-in-Att : goal.returns-in-Att
 returns-in-Att t c =
-    let S : Schema = c.args.schema.now in
-    let m : Content = c.args.tables.now in
-    let places : Places = c.args.places.now in
+    let S : Schema = c.args.ground.now.schema.now in
+    let m : Content = c.args.ground.now.tables.now in
+    let places : Places = c.args.ground.now.places.now in
     let rows : List ℕ = c.args.rows.now in
     let list : NodeListData = c.args.list.now in
     let a : ℕ = c.in-Att.attribute in
@@ -111,9 +111,9 @@ returns-in-Att t c =
 
 pub returns-after-loop-arg : goal.returns-after-loop-arg
 returns-after-loop-arg t c =
-    let S : Schema = c.args.schema.now in
-    let m : Content = c.args.tables.now in
-    let places : Places = c.args.places.now in
+    let S : Schema = c.args.ground.now.schema.now in
+    let m : Content = c.args.ground.now.tables.now in
+    let places : Places = c.args.ground.now.places.now in
     let rows : List ℕ = c.args.rows.now in
     let old : NodeListData = c.args.list.now in
     let mid : NodeListData = c.loop-arg.list in

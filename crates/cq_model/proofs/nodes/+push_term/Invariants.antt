@@ -6,4 +6,4 @@ abbrev pub decreases-push_term : goal.decreases-push_term
 decreases-push_term l = goal.size-push_term l
 
 abbrev pub invariant-loop-arg : goal.invariant-loop-arg
-invariant-loop-arg l = ArePushed l.schema l.tables l.places l.rows l.initial.list l.list (take l.arg-index l.arg-items) l.found.items
+invariant-loop-arg l = ArePushed l.ground.schema.now l.ground.tables.now l.ground.places.now l.rows l.initial.list l.list (take l.arg-index l.arg-items) l.found.items

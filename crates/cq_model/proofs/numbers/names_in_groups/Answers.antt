@@ -3,7 +3,7 @@ use Rattle.std.proofs.lemmas.List.{map-set, length-map, get_or-map, take_all}
 use Rattle.std.proofs.lemmas.List.FromFn.{length-map-range_with_len}
 use Rattle.cq_theory.specs.declared.term.EntTerm.{EntTerm}
 use Rattle.cq_theory.specs.Canonical.{below}
-use Rattle.cq_model.specs.Numbering.{positions}
+use Rattle.cq_theory.specs.Groups.{positions}
 use Rattle.cq_model.specs.RowNumbers.{name_in}
 use Rattle.cq_model.proofs.Counting.{mapped_more, next_inside, next_is, next_parts}
 use Rattle.cq_model.proofs.numbers.names_in_groups.Goals as goal

@@ -1,6 +1,6 @@
 use Rattle.std.proofs.Common.{◌≡◌, ◌++◌, map, take, length}
 use Rattle.cq_theory.specs.Canonical.{below}
-use Rattle.cq_model.specs.Numbering.{positions}
+use Rattle.cq_theory.specs.Groups.{positions}
 use Rattle.cq_model.specs.RowNumbers.{name_in}
 use Rattle.cq_model.proofs.numbers.names_in_groups.Given as goal
 

@@ -4,7 +4,7 @@ use Rattle.std.proofs.lemmas.List.{length-map}
 use Rattle.cq_tables.specs.Content.{made_of}
 use Rattle.cq_tables.specs.Content.{entity_of as row_entity}
 use Rattle.cq_theory.specs.Canonical.{below}
-use Rattle.cq_model.specs.Numbering.{positions}
+use Rattle.cq_theory.specs.Groups.{positions}
 use Rattle.cq_model.specs.RowNumbers.{row_entities, names_by, AreNumbers}
 use Rattle.cq_model.proofs.Lists.{map-map}
 use Rattle.cq_model.proofs.Counted.{members_within}

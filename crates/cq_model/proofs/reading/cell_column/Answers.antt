@@ -11,8 +11,8 @@ use Rattle.cq_model.proofs.reading.cell_column.Goals as goal
 
 pub loop-row-preserved : goal.loop-row-preserved
 loop-row-preserved c =
-    let places : Places = c.args.places.now in
-    let values : List Value = c.args.flat.now.values in
+    let places : Places = c.args.closed.now.places.now in
+    let values : List Value = c.args.closed.now.flat.now.values in
     let a : ℕ = c.args.attribute in
     let rows : List ℕ = c.args.rows.now in
     let i : ℕ = c.loop-row.row-index in

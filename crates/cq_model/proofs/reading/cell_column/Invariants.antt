@@ -4,4 +4,4 @@ use Rattle.cq_model.specs.NodeTerms.{cell_place}
 use Rattle.cq_model.proofs.reading.cell_column.Given as goal
 
 abbrev pub invariant-loop-row : goal.invariant-loop-row
-invariant-loop-row l = l.column.items ≡ map (λ r. value_at l.flat.values (cell_place l.places r l.attribute)) (take l.row-index l.rows)
+invariant-loop-row l = l.column.items ≡ map (λ r. value_at l.closed.flat.now.values (cell_place l.closed.places.now r l.attribute)) (take l.row-index l.rows)

@@ -11,19 +11,19 @@ use Rattle.cq_model.proofs.reading.cell_columns.Goals as goal
 pub cell_column-requires-clause-places : goal.cell_column-requires-clause-places
 cell_column-requires-clause-places c =
     let order : List (List ℕ) = c.args.order.now in
-    let places : Places = c.args.places.now in
+    let places : Places = c.args.closed.now.places.now in
     let i : ℕ = c.loop-attribute.attribute in
     let edge : Edge = c.index-attributes-attribute.result in
     let rows : List ℕ = c.as_slice-rows.result.now in
     let rows_are : rows ≡ rows_at order edge.from = rows_read c.args.attributes.now order i edge c.loop-attribute-test.true c.index-attributes-attribute.is rows c.requires.within cc in
     let found = edge_found c.args.attributes.now order i edge c.loop-attribute-test.true c.index-attributes-attribute.is in
-    All_rows (λ r. cell_place places r i < length c.args.flat.now.values) order edge.from rows rows_are (λ n r at. c.requires.places i n r edge found at)
+    All_rows (λ r. cell_place places r i < length c.args.closed.now.flat.now.values) order edge.from rows rows_are (λ n r at. c.requires.places i n r edge found at)
 
 pub loop-attribute-preserved : goal.loop-attribute-preserved
 loop-attribute-preserved c =
     let order : List (List ℕ) = c.args.order.now in
-    let places : Places = c.args.places.now in
-    let values : List Value = c.args.flat.now.values in
+    let places : Places = c.args.closed.now.places.now in
+    let values : List Value = c.args.closed.now.flat.now.values in
     let i : ℕ = c.loop-attribute.attribute in
     let edge : Edge = c.index-attributes-attribute.result in
     let rows : List ℕ = c.as_slice-rows.result.now in

@@ -6,4 +6,4 @@ use Rattle.cq_model.specs.NodeTerms.{cell_place}
 use Rattle.cq_model.proofs.reading.cell_columns.Given as goal
 
 abbrev pub invariant-loop-attribute : goal.invariant-loop-attribute
-invariant-loop-attribute l = l.columns.items ≡ map (λ a. map (λ r. value_at l.flat.values (cell_place l.places r a.0)) (rows_at l.order a.1.from)) (enumerate_from 0 (take l.attribute l.attributes))
+invariant-loop-attribute l = l.columns.items ≡ map (λ a. map (λ r. value_at l.closed.flat.now.values (cell_place l.closed.places.now r a.0)) (rows_at l.order a.1.from)) (enumerate_from 0 (take l.attribute l.attributes))

@@ -27,7 +27,7 @@ loop-number-preserved c = λ S m order.
     let P : Presentation = c.args.presentation.now in
     let g : Name × Sort = c.index-generators-number.result in
     let gens : List (Name × Sort) = c.as_slice-generators.result.now in
-    let f : ℕ × (Name × Sort) → Meaning = λ g. standing S P m c.args.rows.now order c.args.numbers.now c.args.places.now c.args.flat.now.values g.0 g.1.1 in
+    let f : ℕ × (Name × Sort) → Meaning = λ g. standing S P m c.args.rows.now order c.args.numbers.now c.args.closed.now.places.now c.args.closed.now.flat.now.values g.0 g.1.1 in
     ap (map meaning) c.in_ok-push.ensures.items
     ∙ map-append meaning c.loop-number.made.items (c.in_ok-read_standing.field-0 ∷ [])
     ∙ (λ j. c.loop-number.invariant S m order j ++ (c.in_ok-read_standing.ensures S P m order ∙ ap (λ (h : Name × Sort). f (i, h)) c.index-generators-number.is) j ∷ [])
@@ -36,7 +36,7 @@ loop-number-preserved c = λ S m order.
 pub returns : goal.returns
 returns c = λ S m order.
     let P : Presentation = c.args.presentation.now in
-    let f : ℕ × (Name × Sort) → Meaning = λ g. standing S P m c.args.rows.now order c.args.numbers.now c.args.places.now c.args.flat.now.values g.0 g.1.1 in
+    let f : ℕ × (Name × Sort) → Meaning = λ g. standing S P m c.args.rows.now order c.args.numbers.now c.args.closed.now.places.now c.args.closed.now.flat.now.values g.0 g.1.1 in
     ap (map meaning) c.from_vec.ensures
     ∙ c.loop-number.invariant S m order
     ∙ ap (λ (l : List (Name × Sort)). map f (enumerate_from 0 l)) (take_all c.loop-number.number c.as_slice-generators.result.now c.loop-number-test.false ∙ c.as_slice-generators.ensures)

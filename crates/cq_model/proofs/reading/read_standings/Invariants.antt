@@ -7,4 +7,4 @@ use Rattle.cq_model.specs.Standing.{meaning}
 use Rattle.cq_model.proofs.reading.read_standings.Given as goal
 
 abbrev pub invariant-loop-number : goal.invariant-loop-number
-invariant-loop-number l = (S : SchemaData) (m : Content) (order : _) → map meaning l.made.items ≡ map (λ g. standing S l.presentation m l.rows order l.numbers l.places l.flat.values g.0 g.1.1) (enumerate_from 0 (take l.number l.generators))
+invariant-loop-number l = (S : SchemaData) (m : Content) (order : _) → map meaning l.made.items ≡ map (λ g. standing S l.presentation m l.rows order l.numbers l.closed.places.now l.closed.flat.now.values g.0 g.1.1) (enumerate_from 0 (take l.number l.generators))

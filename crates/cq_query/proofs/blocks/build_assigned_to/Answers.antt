@@ -6,5 +6,5 @@ use Rattle.cq_query.proofs.blocks.build_assigned_to.Goals as goal
 pub returns-in-Some : goal.returns-in-Some
 returns-in-Some c =
     let there : option_copied c.args.to ≡ Some c.in-Some.to.now = ap option_copied c.in-Some.is in
-    subst (λ l. IfOk c.build_assigned.result (λ made. made.items ≡ map (λ v. entity_made c.args.source.now (option_copied c.args.from) (assigned_in c.args.target.now c.args.clauses.now c.args.key v.0)) l))
+    subst (λ l. IfOk c.build_assigned.result (λ made. made.items ≡ map (λ v. entity_made c.args.making.now.source.now (option_copied c.args.from) (assigned_in c.args.making.now.target.now c.args.making.now.clauses.now c.args.key v.0)) l))
     (c.vars.ensures ∙ sym (ap scope_or_none there)) c.build_assigned.ensures

@@ -3,4 +3,4 @@ use Rattle.cq_query.specs.QueryParts.{attribute_made}
 use Rattle.cq_query.proofs.blocks.build_attributes.Given as goal
 
 abbrev pub invariant-loop-attribute : goal.invariant-loop-attribute
-invariant-loop-attribute l = l.made.items ≡ map (attribute_made l.source l.target l.scopes l.clauses) (take l.attribute-index l.attributes)
+invariant-loop-attribute l = l.made.items ≡ map (attribute_made l.making.source.now l.making.target.now l.making.scopes.now l.making.clauses.now) (take l.attribute-index l.attributes)

@@ -3,4 +3,4 @@ use Rattle.cq_query.proofs.Blocking.{IsUpTo}
 use Rattle.cq_query.proofs.blocks.build_blocks.Given as goal
 
 abbrev pub invariant-loop-tests : goal.invariant-loop-tests
-invariant-loop-tests l = IsUpTo l.source l.target l.entities l.scopes l.clauses l.made.items (map (λ list. list.items) l.tests-iterator.rest.items)
+invariant-loop-tests l = IsUpTo l.making.source.now l.making.target.now l.making.entities.now l.making.scopes.now l.making.clauses.now l.made.items (map (λ list. list.items) l.tests-iterator.rest.items)

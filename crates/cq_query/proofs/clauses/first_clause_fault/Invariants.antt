@@ -5,6 +5,6 @@ use Rattle.cq_query.proofs.clauses.first_clause_fault.Given as goal
 
 abbrev pub invariant-loop-part : goal.invariant-loop-part
 invariant-loop-part l =
-    (l.number ≡ l.first + l.part-index)
-    × HasGiven (take l.part-index l.parts) l.symbols.keys l.assigned.keys
-    × (first_fault_after (clause_fault l.source l.target l.entities l.scopes) (take l.part-index l.parts) l.number (drop l.part-index l.parts) ≡ clauses_fault l.source l.target l.entities l.scopes l.first l.parts)
+    (l.number ≡ l.making.first + l.part-index)
+    × HasGiven (take l.part-index l.making.clauses.now) l.symbols.keys l.assigned.keys
+    × (first_fault_after (clause_fault l.making.source.now l.making.target.now l.making.entities.now l.making.scopes.now) (take l.part-index l.making.clauses.now) l.number (drop l.part-index l.making.clauses.now) ≡ clauses_fault l.making.source.now l.making.target.now l.making.entities.now l.making.scopes.now l.making.first l.making.clauses.now)

@@ -8,8 +8,8 @@ use Rattle.cq_query.proofs.missing.check_missing.Goals as goal
 
 pub loop-entity-preserved : goal.loop-entity-preserved
 loop-entity-preserved c =
-    let n : ℕ = length c.args.target.now.entities in
+    let n : ℕ = length c.args.making.now.target.now.entities in
     let e : ℕ = c.loop-entity.entity in
     let within : e < n = omega (arith, c.loop-entity-test.true, c.len-entity-end.ensures, ap (λ (S : SchemaData). length S.entities) c.target.view_is) in
-    sym (ap (λ o. or_else o (first_of (missing_at c.args.target.now c.args.scopes.now c.args.clauses.now) (range_with_len (e + 1) (n - (e + 1))))) c.in_ok-check_entity.ensures.accepted)
-    ∙ sym (first_of-range (missing_at c.args.target.now c.args.scopes.now c.args.clauses.now) e n within) ∙ c.loop-entity.invariant
+    sym (ap (λ o. or_else o (first_of (missing_at c.args.making.now.target.now c.args.making.now.scopes.now c.args.making.now.clauses.now) (range_with_len (e + 1) (n - (e + 1))))) c.in_ok-check_entity.ensures.accepted)
+    ∙ sym (first_of-range (missing_at c.args.making.now.target.now c.args.making.now.scopes.now c.args.making.now.clauses.now) e n within) ∙ c.loop-entity.invariant

@@ -4,4 +4,4 @@ use Rattle.cq_query.specs.QueryParts.{missing_at, missing_part, first_of}
 use Rattle.cq_query.proofs.missing.check_missing.Given as goal
 
 abbrev pub invariant-loop-entity : goal.invariant-loop-entity
-invariant-loop-entity l = first_of (missing_at l.target l.scopes l.clauses) (range_with_len l.entity (length l.target.entities - l.entity)) ≡ missing_part l.target l.scopes l.clauses
+invariant-loop-entity l = first_of (missing_at l.making.target.now l.making.scopes.now l.making.clauses.now) (range_with_len l.entity (length l.making.target.now.entities - l.entity)) ≡ missing_part l.making.target.now l.making.scopes.now l.making.clauses.now

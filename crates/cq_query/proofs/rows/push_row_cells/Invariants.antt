@@ -5,4 +5,4 @@ use Rattle.cq_query.specs.Coeval.{cell_equation}
 use Rattle.cq_query.proofs.rows.push_row_cells.Given as goal
 
 abbrev pub invariant-loop-attribute : goal.invariant-loop-attribute
-invariant-loop-attribute l = l.made.items ≡ l.initial.made.items ++ map (cell_equation l.query l.sheet l.nulls l.entity l.row) (take l.attribute-index (positions (attribute_sources l.query) l.entity))
+invariant-loop-attribute l = l.made.items ≡ l.initial.made.items ++ map (cell_equation l.layout.query.now l.layout.sheet.now l.layout.nulls l.row.entity l.row.number) (take l.attribute-index (positions (attribute_sources l.layout.query.now) l.row.entity))

@@ -4,5 +4,5 @@ use Rattle.cq_query.proofs.rows.push_row_keys.Goals as goal
 
 pub loop-key-preserved : goal.loop-key-preserved
 loop-key-preserved c =
-    pushed_more (key_equations c.args.query.now c.args.sheet.now c.args.entity c.args.row) c.args.made.now.items c.loop-key.made.items _ c.keys_from-key-items.result.now _ c.loop-key.key-index 0
+    pushed_more (key_equations c.args.layout.now.query.now c.args.layout.now.sheet.now c.args.row.now.entity c.args.row.now.number) c.args.made.now.items c.loop-key.made.items _ c.keys_from-key-items.result.now _ c.loop-key.key-index 0
     c.keys_from-key-items.ensures c.loop-key-test.true c.loop-key.invariant c.in_ok-push_key_equations.ensures

@@ -6,32 +6,27 @@ use Rattle.cq_query.proofs.query.Query.new.Goals as goal
 pub make_entities-requires : goal.make_entities-requires
 make_entities-requires c = omega (arith, c.requires.parts, ap length c.as_slice.ensures)
 
-pub make_blocks-requires-clause-parts : goal.make_blocks-requires-clause-parts
-make_blocks-requires-clause-parts c = omega (arith, c.requires.parts, c.len-first.ensures, ap length c.as_slice-3.ensures, ap length c.as_slice-4.ensures)
-
-pub make_blocks-requires-clause-entities : goal.make_blocks-requires-clause-entities
-make_blocks-requires-clause-entities c =
-    new_entities c.args.source.value c.args.target.value c.deref-4.result.now c.deref-5.result.now c.deref-3.result.now c.args.parts
-    c.as_slice.result.now c.as_slice-3.result.now c.as_slice-4.result.now c.in_ok-blocks.blocks.items c.as_slice-2.result.now c.len-first.result
-    c.deref-4.ensures c.deref-5.ensures c.deref-3.ensures c.as_slice.ensures c.as_slice-3.ensures c.as_slice-4.ensures c.len-first.ensures
-    c.in_ok-blocks.ensures.accepted c.in_ok-blocks.ensures.made c.as_slice-2.ensures.value
-    (subst IsSchema c.deref-2.ensures c.is_well_sorted-2.ensures)
-
-pub make_blocks-requires-clause-blocks : goal.make_blocks-requires-clause-blocks
-make_blocks-requires-clause-blocks c =
-    new_blocks c.args.source.value c.args.target.value c.deref-4.result.now c.deref-5.result.now c.deref-3.result.now c.args.parts
-    c.as_slice.result.now c.as_slice-3.result.now c.as_slice-4.result.now c.in_ok-blocks.blocks.items c.as_slice-2.result.now c.len-first.result
-    c.deref-4.ensures c.deref-5.ensures c.deref-3.ensures c.as_slice.ensures c.as_slice-3.ensures c.as_slice-4.ensures c.len-first.ensures
-    c.in_ok-blocks.ensures.accepted c.in_ok-blocks.ensures.made c.as_slice-2.ensures.value
-    c.requires.vars
-
-pub make_blocks-requires-clause-clauses : goal.make_blocks-requires-clause-clauses
-make_blocks-requires-clause-clauses c =
-    new_clauses c.args.source.value c.args.target.value c.deref-4.result.now c.deref-5.result.now c.deref-3.result.now c.args.parts
-    c.as_slice.result.now c.as_slice-3.result.now c.as_slice-4.result.now c.in_ok-blocks.blocks.items c.as_slice-2.result.now c.len-first.result
-    c.deref-4.ensures c.deref-5.ensures c.deref-3.ensures c.as_slice.ensures c.as_slice-3.ensures c.as_slice-4.ensures c.len-first.ensures
-    c.in_ok-blocks.ensures.accepted c.in_ok-blocks.ensures.made c.as_slice-2.ensures.value
-    c.requires.clauses
+pub make_blocks-requires : goal.make_blocks-requires
+make_blocks-requires c = record {
+  parts = record {
+    numbers = omega (arith, c.requires.parts, c.len-first.ensures, ap length c.as_slice-3.ensures, ap length c.as_slice-4.ensures);
+    entities = new_entities c.args.source.value c.args.target.value c.deref-4.result.now c.deref-5.result.now c.deref-3.result.now c.args.parts
+        c.as_slice.result.now c.as_slice-3.result.now c.as_slice-4.result.now c.in_ok-blocks.blocks.items c.as_slice-2.result.now c.len-first.result
+        c.deref-4.ensures c.deref-5.ensures c.deref-3.ensures c.as_slice.ensures c.as_slice-3.ensures c.as_slice-4.ensures c.len-first.ensures
+        c.in_ok-blocks.ensures.accepted c.in_ok-blocks.ensures.made c.as_slice-2.ensures.value
+        (subst IsSchema c.deref-2.ensures c.is_well_sorted-2.ensures);
+    vars = new_blocks c.args.source.value c.args.target.value c.deref-4.result.now c.deref-5.result.now c.deref-3.result.now c.args.parts
+        c.as_slice.result.now c.as_slice-3.result.now c.as_slice-4.result.now c.in_ok-blocks.blocks.items c.as_slice-2.result.now c.len-first.result
+        c.deref-4.ensures c.deref-5.ensures c.deref-3.ensures c.as_slice.ensures c.as_slice-3.ensures c.as_slice-4.ensures c.len-first.ensures
+        c.in_ok-blocks.ensures.accepted c.in_ok-blocks.ensures.made c.as_slice-2.ensures.value
+        c.requires.vars;
+    clauses = new_clauses c.args.source.value c.args.target.value c.deref-4.result.now c.deref-5.result.now c.deref-3.result.now c.args.parts
+        c.as_slice.result.now c.as_slice-3.result.now c.as_slice-4.result.now c.in_ok-blocks.blocks.items c.as_slice-2.result.now c.len-first.result
+        c.deref-4.ensures c.deref-5.ensures c.deref-3.ensures c.as_slice.ensures c.as_slice-3.ensures c.as_slice-4.ensures c.len-first.ensures
+        c.in_ok-blocks.ensures.accepted c.in_ok-blocks.ensures.made c.as_slice-2.ensures.value
+        c.requires.clauses;
+  };
+}
 
 pub invariant_of-result : goal.invariant_of-result
 invariant_of-result c = (
@@ -41,10 +36,10 @@ invariant_of-result c = (
       c.in_ok-blocks.ensures.accepted c.in_ok-blocks.ensures.made c.as_slice-2.ensures.value
       c.from_vec.result c.in-Ok.blocks.items c.from_vec.ensures c.in-Ok.ensures.made
       (subst IsSchema c.deref.ensures c.is_well_sorted.ensures) (subst IsSchema c.deref-2.ensures c.is_well_sorted-2.ensures) c.requires.typeside c.in-Ok.ensures.accepted,
-  keys_at c.args.target.value c.deref-5.result.now c.in-Ok.tables.keys c.deref-5.ensures c.in-Ok.ensures.keys,
-  attributes_at c.args.target.value c.deref-5.result.now c.in-Ok.tables.attributes c.deref-5.ensures c.in-Ok.ensures.attributes,
-  path_eqs_at c.args.target.value c.deref-5.result.now c.in-Ok.tables.path_eqs c.deref-5.ensures c.in-Ok.ensures.path_eqs,
-  obs_eqs_at c.args.target.value c.deref-5.result.now c.in-Ok.tables.obs_eqs c.deref-5.ensures c.in-Ok.ensures.obs_eqs,
+  keys_at c.args.target.value c.deref-5.result.now c.in-Ok.tables.keys c.deref-5.ensures c.in-Ok.ensures.tables.keys,
+  attributes_at c.args.target.value c.deref-5.result.now c.in-Ok.tables.attributes c.deref-5.ensures c.in-Ok.ensures.tables.attributes,
+  path_eqs_at c.args.target.value c.deref-5.result.now c.in-Ok.tables.path_eqs c.deref-5.ensures c.in-Ok.ensures.tables.path_eqs,
+  obs_eqs_at c.args.target.value c.deref-5.result.now c.in-Ok.tables.obs_eqs c.deref-5.ensures c.in-Ok.ensures.tables.obs_eqs,
 )
 
 pub returns-in-Ok-clause-accepted : goal.returns-in-Ok-clause-accepted

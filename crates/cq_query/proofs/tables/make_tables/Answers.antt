@@ -1,0 +1,9 @@
+use Rattle.cq_query.proofs.tables.make_tables.Goals as goal
+
+pub returns : goal.returns
+returns c = record {
+  keys = c.in_ok-keys.ensures;
+  attributes = c.in_ok-attributes.ensures;
+  path_eqs = c.in_ok-path_eqs.ensures;
+  obs_eqs = c.in_ok-obs_eqs.ensures;
+}
