@@ -14,9 +14,9 @@ instance I = literal : S { generators a b c : E p q r : F
   f(a) = p f(b) = q f(c) = q g(p) = q g(q) = q g(r) = r x(a) = Al x(b) = Al y(p) = Al y(r) = h(Al) }
 ";
 
-// A value that no row has, and a row to which no key leads (`r`); an equation with its sides turned round; a null, which
-// is equal to itself alone; the value of a function; paths on both sides; two equations for one variable; and a key that
-// leads from a row to itself.
+// A value that no row has, and a row to which no key leads (`r`); an equation with its sides turned round; a null,
+// which is equal to itself alone; the value of a function; paths on both sides; two equations for one variable; and a
+// key that leads from a row to itself.
 static JOINS: Case = Case {
     words: RUN,
     text: "schema R = literal : T { entities Value Key Turned Null Built Path Two Itself

@@ -7,7 +7,8 @@ use std::test::Fail;
 
 const THREE_LINES: &str =
     "typeside T = literal { types s n constants Al Bob Carl : s functions h : s -> s succ : n -> n }
-schema S = literal : T { entities Emp Dep foreign_keys worksIn : Emp -> Dep secretary : Dep -> Emp path_equations secretary.worksIn = Dep }
+schema S = literal : T { entities Emp Dep foreign_keys worksIn : Emp -> Dep secretary : Dep -> Emp \
+path_equations secretary.worksIn = Dep }
 instance I = literal : S { generators c : Emp m d : Dep equations secretary(m) = c secretary(d) = c }
 ";
 

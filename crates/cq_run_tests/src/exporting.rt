@@ -1,8 +1,10 @@
 //! Runs with exporters.
-use crate::tests::{RUN, folder, run_with, words};
-use cq_io::{DirExporter, DirFolder, Exporter, Folder, Format, MemExporter, MemSink};
+use crate::devices::{both, devices_with};
+use crate::tests::RUN;
+use cq_io::{DirExporter, DirFolder, Exporter, Folder, Format};
 use cq_run::Status;
 use std::alloc::{AllocError, Global};
+use std::process::Abort;
 use std::test::Fail;
 
 const FIRST: &str = "typeside T = literal { types s constants Al Bob : s }
@@ -20,20 +22,6 @@ nulls 2
 entries 0
 end
 ";
-
-/// An exporter of each format, whose puts with these numbers fail.
-pub(crate) fn both(
-    alloc: Global,
-    csv: &[u64],
-    cql: &[u64],
-) -> Result<Vec<Box<dyn Exporter>>, AllocError> {
-    let csv = MemExporter::new(alloc, Format::Csv, Vec::from_slice(alloc, csv)?)?;
-    let cql = MemExporter::new(alloc, Format::Cql, Vec::from_slice(alloc, cql)?)?;
-    let mut exporters: Vec<Box<dyn Exporter>> = Vec::new(alloc);
-    exporters.push(Box::new(alloc, csv)?)?;
-    exporters.push(Box::new(alloc, cql)?)?;
-    Ok(exporters)
-}
 
 /// A line of words that is run on a text with an exporter of each format, and the formats of those that are left.
 struct Choice {
@@ -98,30 +86,21 @@ pub(crate) fn are_of(exporters: &[Box<dyn Exporter>], formats: &[Format]) -> boo
 }
 
 /// Whether the exporters that are left are of the formats that are chosen, and none was moved.
-fn leaves(alloc: Global, choice: &Choice) -> Result<bool, AllocError> {
-    let words = words(alloc, choice.words)?;
-    let mut folder = folder(alloc, choice.text, &[])?;
-    let mut out = MemSink::new(alloc, Vec::new(alloc), 1000)?;
-    let mut exporters = both(alloc, &[], &[])?;
-    let mut spoiled: Vec<Box<dyn Exporter>> = Vec::new(alloc);
-    let ended = run_with(
-        alloc,
-        words.as_slice(),
-        &mut folder,
-        &mut exporters,
-        &mut spoiled,
-        &mut out,
-    );
-    Ok(ended == choice.status && spoiled.is_empty() && are_of(exporters.as_slice(), choice.formats))
+fn leaves(rt: &impl Abort, alloc: Global, choice: &Choice) -> bool {
+    let exporters = both(rt, alloc, &[], &[]);
+    let mut devices = devices_with(rt, alloc, choice.text, exporters, 1000);
+    let ended = devices.run(rt, alloc, choice.words);
+    ended == choice.status
+        && devices.spoiled.is_empty()
+        && are_of(devices.exporters.as_slice(), choice.formats)
 }
 
 #[test]
-fn the_choice_of_format(rt: HostRuntime) -> Result<(), Fail> {
+fn the_choice_of_format(rt: HostRuntime) {
     let alloc = rt.alloc();
     for (number, choice) in CHOICES.iter().enumerate() {
-        assert!(rt; leaves(alloc, choice)?, "{number}");
+        assert!(rt; leaves(&rt, alloc, choice), "{number}");
     }
-    Ok(())
 }
 
 /// Where the files that are wanted go on behind those of one exporter, if it has the next ones, name by name and line
@@ -220,50 +199,36 @@ static FAILING: [Failing; 5] = [
     },
 ];
 
-/// Whether the run of a line of words with a sink of this room gives what is wanted, with this transcript.
-fn gives(
-    alloc: Global,
-    line: &[&str],
-    wanted: &Failing,
-    room: u64,
-    written: &str,
-) -> Result<bool, AllocError> {
-    let words = words(alloc, line)?;
-    let mut folder = folder(alloc, FIRST, &[])?;
-    let mut out = MemSink::new(alloc, Vec::new(alloc), room)?;
-    let mut exporters = both(alloc, wanted.csv, wanted.cql)?;
-    let mut spoiled: Vec<Box<dyn Exporter>> = Vec::new(alloc);
-    let ended = run_with(
-        alloc,
-        words.as_slice(),
-        &mut folder,
-        &mut exporters,
-        &mut spoiled,
-        &mut out,
-    );
-    Ok(
-        ended == wanted.status
-            && out.bytes() == written.as_bytes()
-            && have(exporters.as_slice(), wanted.exporters)
-            && have(spoiled.as_slice(), wanted.spoiled),
-    )
+/// A line of words, the room of the sink, and the transcript that is then there.
+type Line = (&'static [&'static str], u64, &'static str);
+
+/// Whether the run of a line of words gives what is wanted.
+fn gives(rt: &impl Abort, alloc: Global, (line, room, written): Line, wanted: &Failing) -> bool {
+    let exporters = both(rt, alloc, wanted.csv, wanted.cql);
+    let mut devices = devices_with(rt, alloc, FIRST, exporters, room);
+    let ended = devices.run(rt, alloc, line);
+    ended == wanted.status
+        && devices.out.bytes() == written.as_bytes()
+        && have(devices.exporters.as_slice(), wanted.exporters)
+        && have(devices.spoiled.as_slice(), wanted.spoiled)
 }
 
+/// A run whose sink has too little room.
+static CUT: Failing = Failing {
+    csv: &[],
+    cql: &[],
+    status: Status::Write,
+    exporters: &[],
+    spoiled: &[],
+};
+
 #[test]
-fn exporters_that_fail(rt: HostRuntime) -> Result<(), Fail> {
+fn exporters_that_fail(rt: HostRuntime) {
     let alloc = rt.alloc();
     for wanted in &FAILING {
-        assert!(rt; gives(alloc, RUN, wanted, 1000, LISTED)?);
+        assert!(rt; gives(&rt, alloc, (RUN, 1000, LISTED), wanted));
     }
-    let nothing = Failing {
-        csv: &[],
-        cql: &[],
-        status: Status::Write,
-        exporters: &[],
-        spoiled: &[],
-    };
-    assert!(rt; gives(alloc, RUN, &nothing, 10, "instance I")?);
-    Ok(())
+    assert!(rt; gives(&rt, alloc, (RUN, 10, "instance I"), &CUT));
 }
 
 const NO_ENTRIES: &str = "format-2,left,right\nnull,?0,n\n";
@@ -297,30 +262,35 @@ f(g2) = g2
 };
 
 #[test]
-fn the_example_is_exported(rt: HostRuntime) -> Result<(), Fail> {
+fn the_example_is_exported(rt: HostRuntime) {
     let written = "instance I rows 2 nulls 1 entries 0\ninstance J rows 2 nulls 1 entries 0\n";
-    assert!(rt; gives(rt.alloc(), &["example", "1"], &EXAMPLE, 1000, written)?);
-    Ok(())
+    assert!(rt;
+        gives(
+            &rt,
+            rt.alloc(),
+            (&["example", "1"], 1000, written),
+            &EXAMPLE
+        )
+    );
+}
+
+/// An exporter of CSV into a folder of the system.
+fn exporter_to(
+    rt: HostRuntime,
+    alloc: Global,
+    path: &str,
+) -> Result<Vec<Box<dyn Exporter>>, AllocError> {
+    let made = DirExporter::new(rt, alloc, Format::Csv, path)?;
+    let mut exporters: Vec<Box<dyn Exporter>> = Vec::new(alloc);
+    exporters.push(Box::new(alloc, made)?)?;
+    Ok(exporters)
 }
 
 #[test]
 fn exported_files_lie_in_a_folder(rt: HostRuntime) -> Result<(), Fail> {
     let alloc = rt.alloc();
-    let words = words(alloc, RUN)?;
-    let mut folder = folder(alloc, FIRST, &[])?;
-    let mut out = MemSink::new(alloc, Vec::new(alloc), 1000)?;
-    let csv = DirExporter::new(rt, alloc, Format::Csv, "out/run/csv")?;
-    let mut exporters: Vec<Box<dyn Exporter>> = Vec::new(alloc);
-    exporters.push(Box::new(alloc, csv)?)?;
-    let mut spoiled: Vec<Box<dyn Exporter>> = Vec::new(alloc);
-    let ended = run_with(
-        alloc,
-        words.as_slice(),
-        &mut folder,
-        &mut exporters,
-        &mut spoiled,
-        &mut out,
-    );
+    let exporters = exporter_to(rt, alloc, "out/run/csv")?;
+    let ended = devices_with(&rt, alloc, FIRST, exporters, 1000).run(&rt, alloc, RUN);
     assert_eq!(rt; ended, Status::Ok);
     let read = DirFolder::new(rt, alloc).read("out/run/csv/I/E.csv", 100)?;
     assert!(rt; read.as_slice() == b"id,x\n1,?0\n2,?1\n".as_slice());

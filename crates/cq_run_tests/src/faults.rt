@@ -1,9 +1,11 @@
-//! What fails in a run, and what follows: devices, files that are cut, and files, words, terms and rows past their limits.
-use crate::tests::{RUN, folder_of, words};
-use cq_io::{Exporter, Format, MemExporter, MemSink};
-use cq_run::{Status, run};
-use std::alloc::{AllocError, Global};
-use std::test::Fail;
+//! What fails in a run, and what follows: devices, files that are cut, and files, words, terms and rows past their
+//! limits.
+use crate::devices::{Devices, both, sink};
+use crate::tests::{RUN, folder_of};
+use cq_io::{Exporter, Format};
+use cq_run::Status;
+use std::alloc::Global;
+use std::process::Abort;
 
 const MERGED: &str = "typeside T = literal { types s constants Al : s }
 schema S = literal : T { entities A B foreign_keys p : A -> B attributes u : A -> s v : B -> s }
@@ -49,7 +51,7 @@ const E_FILE: &str = "id,x,y,k\ne1,\"Smith, Al\",?1,d1\ne2,,?1,d1\n";
 const UNKNOWN: &str = "schema S = literal : nobody { }";
 
 /// The files of each format of the program that merges, in their order.
-const CSV_FILES: [&str; 8] = [
+static CSV_FILES: [&str; 8] = [
     "I/A.csv",
     "I/B.csv",
     "I/entries-2.csv",
@@ -60,7 +62,7 @@ const CSV_FILES: [&str; 8] = [
     "K/entries-2.csv",
 ];
 
-const CQL_FILES: [&str; 3] = ["I.cql", "J.cql", "K.cql"];
+static CQL_FILES: [&str; 3] = ["I.cql", "J.cql", "K.cql"];
 
 /// The calls that fail, by their numbers from 0, and the room of the sink.
 struct Faults {
@@ -309,55 +311,31 @@ fn are_first(kept: &[(String, Vec<u8>)], names: &[&str], count: usize) -> bool {
     true
 }
 
-/// An exporter of a format, whose puts with these numbers fail.
-fn exporter(
-    alloc: Global,
-    format: Format,
-    failing: &[u64],
-) -> Result<Box<dyn Exporter>, AllocError> {
-    let exporter = MemExporter::new(alloc, format, Vec::from_slice(alloc, failing)?)?;
-    Ok(Box::new(alloc, exporter)?)
-}
-
 /// Whether the run of a case gives what is wanted.
-fn passes(alloc: Global, case: &Case) -> Result<bool, AllocError> {
+fn passes(rt: &impl Abort, alloc: Global, case: &Case) -> bool {
     let files = [
         ("p.cql", case.text),
         ("data/E.csv", E_FILE),
         ("data/D.csv", "id\nd1\n"),
     ];
-    let mut folder = folder_of(alloc, files.as_slice(), case.faults.reads)?;
-    let mut out = MemSink::new(
-        alloc,
-        Vec::from_slice(alloc, case.faults.writes)?,
-        case.faults.room,
-    )?;
-    let mut exporters: Vec<Box<dyn Exporter>> = Vec::new(alloc);
-    exporters.push(exporter(alloc, Format::Csv, case.faults.csv)?)?;
-    exporters.push(exporter(alloc, Format::Cql, case.faults.cql)?)?;
-    let mut spoiled: Vec<Box<dyn Exporter>> = Vec::new(alloc);
-    let words = words(alloc, RUN)?;
-    let ended = run(
-        alloc,
-        words.as_slice(),
-        &mut folder,
-        &mut exporters,
-        &mut spoiled,
-        &mut out,
-    );
-    Ok(
-        ended == case.status
-            && out.bytes() == case.written.as_bytes()
-            && have(exporters.as_slice(), case.left)
-            && have(spoiled.as_slice(), case.moved),
-    )
+    let faults = &case.faults;
+    let mut devices = Devices {
+        folder: folder_of(alloc, files.as_slice(), faults.reads).expect(rt, "memory"),
+        out: sink(rt, alloc, faults.writes, faults.room),
+        exporters: both(rt, alloc, faults.csv, faults.cql),
+        spoiled: Vec::new(alloc),
+    };
+    let ended = devices.run(rt, alloc, RUN);
+    ended == case.status
+        && devices.out.bytes() == case.written.as_bytes()
+        && have(devices.exporters.as_slice(), case.left)
+        && have(devices.spoiled.as_slice(), case.moved)
 }
 
 #[test]
-fn what_follows_where_a_device_fails(rt: HostRuntime) -> Result<(), Fail> {
+fn what_follows_where_a_device_fails(rt: HostRuntime) {
     let alloc = rt.alloc();
     for (number, case) in CASES.iter().enumerate() {
-        assert!(rt; passes(alloc, case)?, "{number}");
+        assert!(rt; passes(&rt, alloc, case), "{number}");
     }
-    Ok(())
 }

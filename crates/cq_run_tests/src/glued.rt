@@ -4,8 +4,8 @@ use cq_run::Status;
 use std::test::Fail;
 
 /// Two schemas, which stand in front of each case.
-const HEAD: &str =
-    "typeside T = literal { types s n constants Al Bob Carl : s zero one : n functions h : s -> s succ : n -> n plus : n, n -> n }
+const HEAD: &str = "typeside T = literal { types s n constants Al Bob Carl : s zero one : n \
+    functions h : s -> s succ : n -> n plus : n, n -> n }
 schema S = literal : T { entities E attributes x : E -> s }
 schema R = literal : T { entities P O foreign_keys t : P -> O attributes w : P -> s }
 ";
@@ -14,7 +14,8 @@ static MADE: [Case; 6] = [
     // Equal attributes merge no answers, and a block without variables has one answer.
     Case {
         words: RUN,
-        text: "query Q = literal : S -> R { entity P -> { from y:E z:E where x(y) = x(z) attributes w -> x(y) foreign_keys t -> { } } entity O -> { } }
+        text: "query Q = literal : S -> R { entity P -> { from y:E z:E where x(y) = x(z) attributes w -> x(y) \
+            foreign_keys t -> { } } entity O -> { } }
 instance I = literal : S { generators a b c : E equations x(a) = Al x(b) = Al }
 instance J = eval Q I
 ",
@@ -46,7 +47,8 @@ end
     // New rows, a new null, and a merge by a key's assignment.
     Case {
         words: RUN,
-        text: "query Q = literal : S -> R { entity P -> { from y:E z:E attributes w -> x(y) foreign_keys t -> { o -> z } } entity O -> { from o:E } }
+        text: "query Q = literal : S -> R { entity P -> { from y:E z:E attributes w -> x(y) \
+            foreign_keys t -> { o -> z } } entity O -> { from o:E } }
 instance J = literal : R { generators p q : P equations t(p) = t(q) w(p) = Al }
 instance K = coeval Q J
 ",
@@ -292,7 +294,8 @@ instance P = coproduct A + A + B : One
     // A foreign key's terms miss a where equation of its target.
     Case {
         words: RUN,
-        text: "query Q = literal : S -> R { entity P -> { from y:E attributes w -> x(y) foreign_keys t -> { o -> y } } entity O -> { from o:E where x(o) = Al } }
+        text: "query Q = literal : S -> R { entity P -> { from y:E attributes w -> x(y) \
+            foreign_keys t -> { o -> y } } entity O -> { from o:E where x(o) = Al } }
 ",
         status: Status::Refused,
         written: "refused 4:1 51 NotPreserved 1\n",

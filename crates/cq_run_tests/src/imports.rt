@@ -1,9 +1,11 @@
 //! Programs that read a folder of files: what they mean, what is refused, and files that are not read.
+use crate::devices::{Devices, only_csv, sink};
 use crate::exporting::have;
-use crate::tests::{RUN, ends, file, folder_of, run_with, words};
-use cq_io::{Exporter, Format, MemExporter, MemFolder, MemSink};
+use crate::tests::{RUN, ends, file, folder_of};
+use cq_io::MemFolder;
 use cq_run::Status;
 use std::alloc::{AllocError, Global};
+use std::process::Abort;
 use std::test::Fail;
 
 /// A program, the two files of its folder, of which an empty one is absent, and what follows.
@@ -253,7 +255,7 @@ fn folders_with_their_outcomes(rt: HostRuntime) -> Result<(), Fail> {
 }
 
 /// The files of the first case.
-const EXPORTED: [(&str, &str); 3] = [
+static EXPORTED: [(&str, &str); 3] = [
     ("I/E.csv", "id,x,y,k\n1,\"Smith, Al\",?0,1\n2,?1,?0,1\n"),
     ("I/D.csv", "id\n1\n"),
     (
@@ -263,29 +265,20 @@ const EXPORTED: [(&str, &str); 3] = [
 ];
 
 /// Whether the run of the first case exports its files.
-fn exports(alloc: Global) -> Result<bool, AllocError> {
-    let words = words(alloc, RUN)?;
-    let mut folder = folder(alloc, &CASES[0], &[])?;
-    let mut out = MemSink::new(alloc, Vec::new(alloc), 1000)?;
-    let csv = MemExporter::new(alloc, Format::Csv, Vec::new(alloc))?;
-    let mut exporters: Vec<Box<dyn Exporter>> = Vec::new(alloc);
-    exporters.push(Box::new(alloc, csv)?)?;
-    let mut spoiled: Vec<Box<dyn Exporter>> = Vec::new(alloc);
-    let status = run_with(
-        alloc,
-        words.as_slice(),
-        &mut folder,
-        &mut exporters,
-        &mut spoiled,
-        &mut out,
-    );
-    Ok(status == Status::Ok && have(exporters.as_slice(), EXPORTED.as_slice()))
+fn exports(rt: &impl Abort, alloc: Global) -> bool {
+    let mut devices = Devices {
+        folder: folder(alloc, &CASES[0], &[]).expect(rt, "memory"),
+        out: sink(rt, alloc, &[], 1000),
+        exporters: only_csv(rt, alloc),
+        spoiled: Vec::new(alloc),
+    };
+    let ended = devices.run(rt, alloc, RUN);
+    ended == Status::Ok && have(devices.exporters.as_slice(), EXPORTED.as_slice())
 }
 
 #[test]
-fn what_was_read_is_exported(rt: HostRuntime) -> Result<(), Fail> {
-    assert!(rt; exports(rt.alloc())?);
-    Ok(())
+fn what_was_read_is_exported(rt: HostRuntime) {
+    assert!(rt; exports(&rt, rt.alloc()));
 }
 
 #[test]

@@ -55,7 +55,8 @@ end
         words: RUN,
         text: "schema_colimit D = quotient A : T { }
 schema E = getSchema D
-schema_colimit F = quotient D + E : T { entity_equations E.A_X = D.A_X observation_equations forall x. D_A_n1(x) = E_A_n1(x) }
+schema_colimit F = quotient D + E : T { entity_equations E.A_X = D.A_X \
+observation_equations forall x. D_A_n1(x) = E_A_n1(x) }
 instance I = literal : F { generators a : D_A_X equations E_A_n1(a) = Al }
 ",
         status: Status::Ok,
@@ -328,21 +329,24 @@ schema_colimit D = quotient P : U { path_equations Q = P_X }
     // Added equations: path equations before observation equations, each with the first rule that it breaks.
     Case {
         words: RUN,
-        text: "schema_colimit D = quotient A + C : T { path_equations A_X = C_Q observation_equations forall x. Q = Al }
+        text: "schema_colimit D = quotient A + C : T { path_equations A_X = C_Q \
+            observation_equations forall x. Q = Al }
 ",
         status: Status::Refused,
         written: "refused 5:56 42 Unknown\n",
     },
     Case {
         words: RUN,
-        text: "schema_colimit D = quotient A + C : T { path_equations C_k = C_Z C_Z = A_n1 observation_equations forall x. Q = Al }
+        text: "schema_colimit D = quotient A + C : T { path_equations C_k = C_Z C_Z = A_n1 \
+            observation_equations forall x. Q = Al }
 ",
         status: Status::Refused,
         written: "refused 5:66 44 WrongSort\n",
     },
     Case {
         words: RUN,
-        text: "schema_colimit D = quotient A + C : T { path_equations C_k = C_Z observation_equations forall x. h(A_n1(x), Al) = Al }
+        text: "schema_colimit D = quotient A + C : T { path_equations C_k = C_Z \
+            observation_equations forall x. h(A_n1(x), Al) = Al }
 ",
         status: Status::Refused,
         written: "refused 5:88 43 WrongCount\n",
@@ -466,19 +470,20 @@ const IN_SIZE: &str = "\
 46 TooLarge| ^forall x. plus(size(\"Bo\"), succ($)) = A_v(x) }
 ";
 
-#[test]
-fn added_equations_by_their_size(rt: HostRuntime) -> Result<(), Fail> {
-    let table = Table {
-        words: RUN,
-        lines: "typeside T = literal { types s n literals s constants Al : s zero : n \
-            functions succ : n -> n plus : n, n -> n size : s -> n }
+static BY_SIZE: Table = Table {
+    words: RUN,
+    lines: "typeside T = literal { types s n literals s constants Al : s zero : n \
+        functions succ : n -> n plus : n, n -> n size : s -> n }
 schema A = literal : T { entities X attributes v : X -> n }
 ",
-        front: "schema_colimit D = quotient A : T { observation_equations ",
-        rows: IN_SIZE,
-        listed: "",
-        leaf: "plus(zero, zero)",
-    };
-    try_rows(&rt, rt.alloc(), &table)?;
+    front: "schema_colimit D = quotient A : T { observation_equations ",
+    rows: IN_SIZE,
+    listed: "",
+    leaf: "plus(zero, zero)",
+};
+
+#[test]
+fn added_equations_by_their_size(rt: HostRuntime) -> Result<(), Fail> {
+    try_rows(&rt, rt.alloc(), &BY_SIZE)?;
     Ok(())
 }

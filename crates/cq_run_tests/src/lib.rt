@@ -6,6 +6,8 @@ mod answers;
 #[cfg(test)]
 mod cuts;
 #[cfg(test)]
+mod devices;
+#[cfg(test)]
 mod duties;
 #[cfg(test)]
 mod entries;
@@ -27,6 +29,8 @@ mod limits;
 mod mapping_parts;
 #[cfg(test)]
 mod mappings;
+#[cfg(test)]
+mod models;
 #[cfg(test)]
 mod moves;
 #[cfg(test)]

@@ -4,8 +4,8 @@ use cq_run::Status;
 use std::test::Fail;
 
 /// Mappings: literals, their parts and their duties, and identities. The first line of each stands in front of it.
-const LINE: &str =
-    "typeside T = literal { types s n constants Al Bob Carl : s zero one : n functions h : s -> s succ : n -> n plus : n, n -> n }\n";
+const LINE: &str = "typeside T = literal { types s n constants Al Bob Carl : s zero one : n \
+    functions h : s -> s succ : n -> n plus : n, n -> n }\n";
 
 static MAPPINGS: [Case; 15] = [
     Case {
@@ -106,7 +106,8 @@ instance I = literal : F { }",
     },
     Case {
         words: AT_ZERO,
-        text: "schema S = literal : T { entities E foreign_keys k : E -> E path_equations k.k = k attributes x : E -> s observation_equations forall e. x(e) = x(k(e)) }
+        text: "schema S = literal : T { entities E foreign_keys k : E -> E path_equations k.k = k \
+            attributes x : E -> s observation_equations forall e. x(e) = x(k(e)) }
 mapping F = identity S
 mapping G = literal : S -> S { entity E -> E foreign_keys k -> k attributes x -> lambda e. x(k(e)) }",
         status: Status::Refused,

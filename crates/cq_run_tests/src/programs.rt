@@ -7,26 +7,32 @@ use std::test::Fail;
 
 // A text, and what becomes of it: 0 where it is a program, else the kind of its refusal, for a word that is
 // left out its number and 100; with the line and the column.
-const TEXTS: [(&str, (u32, u32, u32)); 62] = [
+static TEXTS: [(&str, (u32, u32, u32)); 62] = [
     ("", (0, 0, 0)),
     (
         "typeside T = literal { types n constants one \"two words\" : n functions plus times : n, n -> n }",
         (0, 0, 0),
     ),
     (
-        "schema S = literal : T { entities E F foreign_keys f g : E -> F path_equations E.f = E.g attributes v : F -> n observation_equations forall e : E . v(f(e)) = one forall e . v(e) = v(e) } schema R = getSchema C",
+        "schema S = literal : T { entities E F foreign_keys f g : E -> F path_equations E.f = E.g \
+        attributes v : F -> n observation_equations forall e : E . v(f(e)) = one forall e . v(e) = v(e) } \
+        schema R = getSchema C",
         (0, 0, 0),
     ),
     (
-        "schema_colimit C = quotient S + R : T { entity_equations S.E = R.F path_equations S_E_f = R_F_g observation_equations forall x . x = x options prover = auto }",
+        "schema_colimit C = quotient S + R : T { entity_equations S.E = R.F path_equations S_E_f = R_F_g \
+        observation_equations forall x . x = x options prover = auto }",
         (0, 0, 0),
     ),
     (
-        "mapping F = literal : S -> R { entity E -> G foreign_keys f -> h.k attributes v -> lambda x . plus(x.w, one) w -> lambda y : G . y w -> a.b } mapping I = identity S mapping M = getMapping C S",
+        "mapping F = literal : S -> R { entity E -> G foreign_keys f -> h.k \
+        attributes v -> lambda x . plus(x.w, one) w -> lambda y : G . y w -> a.b } mapping I = identity S \
+        mapping M = getMapping C S",
         (0, 0, 0),
     ),
     (
-        "query Q = literal : S -> R { entity P -> { from a b : E where a.f = b.f attributes w -> v(a.f) foreign_keys k -> { c -> b } } }",
+        "query Q = literal : S -> R { entity P -> { from a b : E where a.f = b.f attributes w -> v(a.f) \
+        foreign_keys k -> { c -> b } } }",
         (0, 0, 0),
     ),
     (
@@ -34,11 +40,13 @@ const TEXTS: [(&str, (u32, u32, u32)); 62] = [
         (0, 0, 0),
     ),
     (
-        "instance delta = delta sigma eval instance G = sigma F I instance V = eval Q I instance W = coeval Q I instance B = coproduct I + J : S instance O = pushout h k",
+        "instance delta = delta sigma eval instance G = sigma F I instance V = eval Q I instance W = coeval Q I \
+        instance B = coproduct I + J : S instance O = pushout h k",
         (0, 0, 0),
     ),
     (
-        "instance P = import_csv \"data\" : S instance P = import_csv \"data\" : S { } instance P = import_csv \"data\" : S { options timeout = \"5\" }",
+        "instance P = import_csv \"data\" : S instance P = import_csv \"data\" : S { } \
+        instance P = import_csv \"data\" : S { options timeout = \"5\" }",
         (0, 0, 0),
     ),
     (
@@ -79,7 +87,8 @@ const TEXTS: [(&str, (u32, u32, u32)); 62] = [
     ),
     ("instance I = import_csv \"a\" : S { imports", (120, 1, 35)),
     (
-        "typeside constraints = literal { types command graph html md chase pi except distinct anonymize pivot coequalize colimit simple sql }",
+        "typeside constraints = literal { types command graph html md chase pi except distinct anonymize pivot \
+        coequalize colimit simple sql }",
         (0, 0, 0),
     ),
     ("typeside imports", (21, 1, 10)),
@@ -130,7 +139,7 @@ const TEXTS: [(&str, (u32, u32, u32)); 62] = [
 ];
 
 // Texts on the open type of a typeside, as above.
-const OPEN_TYPES: [(&str, (u32, u32, u32)); 15] = [
+static OPEN_TYPES: [(&str, (u32, u32, u32)); 15] = [
     (
         "typeside T = literal { types s n literals s constants Al : s functions f : s -> n options prover = auto }",
         (0, 0, 0),
@@ -161,9 +170,10 @@ const OPEN_TYPES: [(&str, (u32, u32, u32)); 15] = [
 ];
 
 // Texts on the second form of an import, as above.
-const IMPORTS: [(&str, (u32, u32, u32)); 7] = [
+static IMPORTS: [(&str, (u32, u32, u32)); 7] = [
     (
-        "instance P = import_csv2 \"d\" : S instance P = import_csv2 \"d\" : S { } instance P = import_csv2 \"d\" : S { options timeout = \"5\" }",
+        "instance P = import_csv2 \"d\" : S instance P = import_csv2 \"d\" : S { } \
+        instance P = import_csv2 \"d\" : S { options timeout = \"5\" }",
         (0, 0, 0),
     ),
     (
@@ -178,7 +188,7 @@ const IMPORTS: [(&str, (u32, u32, u32)); 7] = [
 ];
 
 // Texts that stand alone as terms, as above.
-const TERMS: [(&str, (u32, u32, u32)); 15] = [
+static TERMS: [(&str, (u32, u32, u32)); 15] = [
     ("a", (0, 0, 0)),
     ("f(a.g, \"x y\").h", (0, 0, 0)),
     ("\n\"x\"", (0, 0, 0)),
@@ -257,8 +267,8 @@ fn repeated(alloc: Global, pieces: &[(&str, usize)]) -> Result<String, AllocErro
 #[test]
 fn texts_have_the_outcomes_written(rt: HostRuntime) -> Result<(), Fail> {
     let alloc = rt.alloc();
-    for (text, wanted) in TEXTS {
-        assert_eq!(rt; outcome(alloc, text)?, wanted, "{text}");
+    for (text, wanted) in &TEXTS {
+        assert_eq!(rt; outcome(alloc, text)?, *wanted, "{text}");
     }
     Ok(())
 }
@@ -266,8 +276,8 @@ fn texts_have_the_outcomes_written(rt: HostRuntime) -> Result<(), Fail> {
 #[test]
 fn open_types_have_the_outcomes_written(rt: HostRuntime) -> Result<(), Fail> {
     let alloc = rt.alloc();
-    for (text, wanted) in OPEN_TYPES {
-        assert_eq!(rt; outcome(alloc, text)?, wanted, "{text}");
+    for (text, wanted) in &OPEN_TYPES {
+        assert_eq!(rt; outcome(alloc, text)?, *wanted, "{text}");
     }
     Ok(())
 }
@@ -275,8 +285,8 @@ fn open_types_have_the_outcomes_written(rt: HostRuntime) -> Result<(), Fail> {
 #[test]
 fn imports_have_the_outcomes_written(rt: HostRuntime) -> Result<(), Fail> {
     let alloc = rt.alloc();
-    for (text, wanted) in IMPORTS {
-        assert_eq!(rt; outcome(alloc, text)?, wanted, "{text}");
+    for (text, wanted) in &IMPORTS {
+        assert_eq!(rt; outcome(alloc, text)?, *wanted, "{text}");
     }
     Ok(())
 }
@@ -284,8 +294,8 @@ fn imports_have_the_outcomes_written(rt: HostRuntime) -> Result<(), Fail> {
 #[test]
 fn terms_have_the_outcomes_written(rt: HostRuntime) -> Result<(), Fail> {
     let alloc = rt.alloc();
-    for (text, wanted) in TERMS {
-        assert_eq!(rt; term_outcome(alloc, text)?, wanted, "{text}");
+    for (text, wanted) in &TERMS {
+        assert_eq!(rt; term_outcome(alloc, text)?, *wanted, "{text}");
     }
     Ok(())
 }

@@ -1,7 +1,8 @@
 //! Questions about the instances of a program, and what is answered.
-use crate::exporting::{are_of, both, have};
-use crate::tests::{ends, folder, run, run_with, words};
-use cq_io::{Exporter, Format, MemSink};
+use crate::devices::{both, devices_with};
+use crate::exporting::{are_of, have};
+use crate::tests::{ends, folder, run, words};
+use cq_io::{Format, MemSink};
 use cq_run::Status;
 use std::alloc::{AllocError, Global};
 use std::process::Abort;
@@ -29,7 +30,8 @@ instance I = literal : S { generators a : E }
 /// Each rule of derivation gives some equation.
 const RULES: &str =
     "typeside T = literal { types n constants zero : n functions s : n -> n plus : n, n -> n }
-schema S = literal : T { entities E D foreign_keys f : E -> E g : E -> D path_equations f.f = f attributes v : E -> n w : D -> n observation_equations forall e. v(e) = s(w(g(e))) }
+schema S = literal : T { entities E D foreign_keys f : E -> E g : E -> D path_equations f.f = f \
+attributes v : E -> n w : D -> n observation_equations forall e. v(e) = s(w(g(e))) }
 instance I = literal : S { generators a b : E d : D k : n equations f(a) = b g(b) = d w(d) = k plus(k, zero) = k }
 ";
 
@@ -90,26 +92,17 @@ J; x(a); Al => different ?0 Al",
     Ok(())
 }
 
-#[test]
-fn questions_without_an_answer(rt: HostRuntime) -> Result<(), Fail> {
-    let alloc = rt.alloc();
-    // No instance declaration has the name, whatever the two texts are: another declaration's name is none either.
-    try_rows(
-        &rt,
-        alloc,
-        FIRST,
-        "J; a; b => refused 1:1 37 NoInstance
+/// No instance declaration has the name, whatever the two texts are: another declaration's name is none either.
+const NO_INSTANCE: &str = "\
+J; a; b => refused 1:1 37 NoInstance
 J; !; b => refused 1:1 37 NoInstance
 S; a; b => refused 1:1 37 NoInstance
 i; a; b => refused 1:1 37 NoInstance
-; a; b => refused 1:1 37 NoInstance",
-    )?;
-    // No tokens; tokens that are no term; names, counts and sorts.
-    try_rows(
-        &rt,
-        alloc,
-        FIRST,
-        "I; !; b => refused 1:1 38 BadTerm
+; a; b => refused 1:1 37 NoInstance";
+
+/// No tokens; tokens that are no term; names, counts and sorts.
+const NO_TERM: &str = "\
+I; !; b => refused 1:1 38 BadTerm
 I; a; \"b => refused 1:1 38 BadTerm
 I; a; /* b => refused 1:1 38 BadTerm
 I; ; b => refused 1:1 38 BadTerm
@@ -123,21 +116,24 @@ I; x(a); \"Zed\" => refused 1:1 38 BadTerm
 I; x(a); x(a, b) => refused 1:1 38 BadTerm
 I; x(x(a)); x(a) => refused 1:1 38 BadTerm
 I; a; x(a) => refused 1:1 38 BadTerm
-I; Al; b => refused 1:1 38 BadTerm",
-    )?;
-    // Two entities, two types, and texts that no constant of an open type can have.
-    try_rows(
-        &rt,
-        alloc,
-        OPEN,
-        "I; a; d => refused 1:1 38 BadTerm
+I; Al; b => refused 1:1 38 BadTerm";
+
+/// Two entities, two types, and texts that no constant of an open type can have.
+const OTHER_SORTS: &str = "\
+I; a; d => refused 1:1 38 BadTerm
 I; x(a); y(a) => refused 1:1 38 BadTerm
 I; k; one => refused 1:1 38 BadTerm
 I; x(a); \"\" => refused 1:1 38 BadTerm
 I; \"?1\"; x(a) => refused 1:1 38 BadTerm
 I; x(a); h(\"=\") => refused 1:1 38 BadTerm
-J; k; Al => refused 1:1 38 BadTerm",
-    )?;
+J; k; Al => refused 1:1 38 BadTerm";
+
+#[test]
+fn questions_without_an_answer(rt: HostRuntime) -> Result<(), Fail> {
+    let alloc = rt.alloc();
+    try_rows(&rt, alloc, FIRST, NO_INSTANCE)?;
+    try_rows(&rt, alloc, FIRST, NO_TERM)?;
+    try_rows(&rt, alloc, OPEN, OTHER_SORTS)?;
     Ok(())
 }
 
@@ -157,28 +153,51 @@ fn is_told(alloc: Global, term: &str, status: Status, written: &str) -> Result<b
     ends(alloc, &line, &mut folder, 20000, status, written)
 }
 
+/// What is told of a term past a limit.
+const BAD: &str = "refused 1:1 38 BadTerm\n";
+
+/// 1,023 symbols.
 #[test]
-fn terms_at_their_limits(rt: HostRuntime) -> Result<(), Fail> {
+fn a_sum_at_the_limit(rt: HostRuntime) -> Result<(), Fail> {
     let alloc = rt.alloc();
-    let bad = "refused 1:1 38 BadTerm\n";
-    // 1,023 symbols, and 1,025.
     let sum = sum(alloc, 10)?;
     let written = format!(in alloc; "different one {sum}\n")?;
     assert!(rt; is_told(alloc, &sum, Status::Ok, &written)?);
+    Ok(())
+}
+
+/// 1,025 symbols.
+#[test]
+fn a_sum_past_the_limit(rt: HostRuntime) -> Result<(), Fail> {
+    let alloc = rt.alloc();
+    let sum = sum(alloc, 10)?;
     let larger = format!(in alloc; "plus({sum}, one)")?;
-    assert!(rt; is_told(alloc, &larger, Status::Refused, bad)?);
-    // 64 levels, and 65.
-    let keys = ".f".repeat(alloc, 62)?;
-    let deep = format!(in alloc; "a{keys}.x")?;
-    assert!(rt; is_told(alloc, &deep, Status::Ok, "different one ?1\n")?);
-    let deeper = format!(in alloc; "a{keys}.f.x")?;
-    assert!(rt; is_told(alloc, &deeper, Status::Refused, bad)?);
-    // 8 MiB, and a byte more.
-    let blanks = " ".repeat(alloc, 8388604)?;
-    let long = format!(in alloc; "a.x{blanks} ")?;
-    assert!(rt; is_told(alloc, &long, Status::Ok, "different one ?0\n")?);
-    let longer = format!(in alloc; "a.x{blanks}  ")?;
-    assert!(rt; is_told(alloc, &longer, Status::Refused, bad)?);
+    assert!(rt; is_told(alloc, &larger, Status::Refused, BAD)?);
+    Ok(())
+}
+
+/// A text with a piece of it so many times behind its front, and its end: of 64 levels and of 65, and of 8 MiB and of
+/// a byte more.
+static LONG: [(&str, (&str, usize), &str, Status, &str); 4] = [
+    ("a", (".f", 62), ".x", Status::Ok, "different one ?1\n"),
+    ("a", (".f", 63), ".x", Status::Refused, BAD),
+    ("a.x", (" ", 8388605), "", Status::Ok, "different one ?0\n"),
+    ("a.x", (" ", 8388606), "", Status::Refused, BAD),
+];
+
+/// A text with a piece so many times between its ends.
+fn long(alloc: Global, front: &str, piece: (&str, usize), end: &str) -> Result<String, AllocError> {
+    let pieces = piece.0.repeat(alloc, piece.1)?;
+    format!(in alloc; "{front}{pieces}{end}")
+}
+
+#[test]
+fn terms_at_their_limits(rt: HostRuntime) -> Result<(), Fail> {
+    let alloc = rt.alloc();
+    for (front, piece, end, status, written) in &LONG {
+        let term = long(alloc, front, *piece, end)?;
+        assert!(rt; is_told(alloc, &term, *status, written)?, "{written}");
+    }
     Ok(())
 }
 
@@ -313,34 +332,22 @@ static ASKED: [Asked; 10] = [
 ];
 
 /// Whether the question ends so, and leaves both exporters, with nothing written to them.
-fn ends_so(alloc: Global, asked: &Asked) -> Result<bool, AllocError> {
-    let words = words(alloc, asked.words)?;
-    let mut folder = folder(alloc, asked.text, &[])?;
-    let mut out = MemSink::new(alloc, Vec::new(alloc), asked.room)?;
-    let mut exporters = both(alloc, &[], &[])?;
-    let mut spoiled: Vec<Box<dyn Exporter>> = Vec::new(alloc);
-    let ended = run_with(
-        alloc,
-        words.as_slice(),
-        &mut folder,
-        &mut exporters,
-        &mut spoiled,
-        &mut out,
-    );
-    Ok(
-        ended == asked.status
-            && out.bytes() == asked.written.as_bytes()
-            && spoiled.is_empty()
-            && are_of(exporters.as_slice(), &[Format::Csv, Format::Cql])
-            && have(exporters.as_slice(), &[]),
-    )
+fn ends_so(rt: &impl Abort, alloc: Global, asked: &Asked) -> bool {
+    let exporters = both(rt, alloc, &[], &[]);
+    let mut devices = devices_with(rt, alloc, asked.text, exporters, asked.room);
+    let ended = devices.run(rt, alloc, asked.words);
+    let exporters = devices.exporters.as_slice();
+    ended == asked.status
+        && devices.out.bytes() == asked.written.as_bytes()
+        && devices.spoiled.is_empty()
+        && are_of(exporters, &[Format::Csv, Format::Cql])
+        && have(exporters, &[])
 }
 
 #[test]
-fn each_status_leaves_the_exporters(rt: HostRuntime) -> Result<(), Fail> {
+fn each_status_leaves_the_exporters(rt: HostRuntime) {
     let alloc = rt.alloc();
     for asked in &ASKED {
-        assert!(rt; ends_so(alloc, asked)?, "{}", asked.written);
+        assert!(rt; ends_so(&rt, alloc, asked), "{}", asked.written);
     }
-    Ok(())
 }

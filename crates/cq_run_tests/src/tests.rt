@@ -1,4 +1,5 @@
 //! Runs over the fakes in memory.
+use crate::outcomes::{Table, try_rows};
 use cq_io::{Exporter, Folder, MemFolder, MemSink, Sink};
 use cq_run::Status;
 use std::alloc::{AllocError, Global};
@@ -98,13 +99,7 @@ pub(crate) const AT_ZERO: &[&str] = &["run", "p.cql", "--depth", "0"];
 
 const AT_ONE: &[&str] = &["run", "p.cql", "--depth", "1"];
 
-const AT_FOUR: &[&str] = &["run", "p.cql", "--depth", "4"];
-
-const AT_FIVE: &[&str] = &["run", "p.cql", "--depth", "05"];
-
-const AT_TEN: &[&str] = &["run", "p.cql", "--depth", "10"];
-
-const AT_MOST: &[&str] = &["run", "p.cql", "--depth", "64"];
+pub(crate) const AT_FIVE: &[&str] = &["run", "p.cql", "--depth", "05"];
 
 const FIRST: &str = "typeside T = literal { types s constants Al Bob : s }
 schema S = literal : T { entities E attributes x : E -> s }
@@ -112,9 +107,17 @@ instance I = literal : S { generators a b : E }
 ";
 
 const USUAL: &str =
-    "typeside Ty = literal { types string nat constants Al Bob Bo Carl Math CS : string zero : nat functions plus : nat, nat -> nat }
-schema S = literal : Ty { entities Employee Department foreign_keys manager : Employee -> Employee worksIn : Employee -> Department secretary : Department -> Employee path_equations manager.worksIn = worksIn secretary.worksIn = Department attributes first last : Employee -> string age cummulative_age : Employee -> nat name : Department -> string observation_equations forall e. cummulative_age(e) = plus(age(e), age(manager(e))) }
-instance I = literal : S { generators a b c : Employee m s : Department equations first(a) = Al first(b) = Bob last(b) = Bo first(c) = Carl name(m) = Math name(s) = CS age(a) = age(c) age(c) = zero manager(a) = b manager(b) = b manager(c) = c worksIn(a) = m worksIn(b) = m worksIn(c) = s secretary(s) = c secretary(m) = b options prover = completion }
+    "typeside Ty = literal { types string nat constants Al Bob Bo Carl Math CS : string zero : nat \
+    functions plus : nat, nat -> nat }
+schema S = literal : Ty { entities Employee Department foreign_keys manager : Employee -> Employee \
+worksIn : Employee -> Department secretary : Department -> Employee \
+path_equations manager.worksIn = worksIn secretary.worksIn = Department \
+attributes first last : Employee -> string age cummulative_age : Employee -> nat name : Department -> string \
+observation_equations forall e. cummulative_age(e) = plus(age(e), age(manager(e))) }
+instance I = literal : S { generators a b c : Employee m s : Department \
+equations first(a) = Al first(b) = Bob last(b) = Bo first(c) = Carl name(m) = Math name(s) = CS age(a) = age(c) \
+age(c) = zero manager(a) = b manager(b) = b manager(c) = c worksIn(a) = m worksIn(b) = m worksIn(c) = s \
+secretary(s) = c secretary(m) = b options prover = completion }
 ";
 
 const USUAL_LISTED: &str = "instance I : S
@@ -139,7 +142,7 @@ plus(zero, zero) = ?5
 end
 ";
 
-static CASES: [Case; 48] = [
+static CASES: [Case; 20] = [
     Case {
         words: &["run"],
         text: FIRST,
@@ -225,7 +228,8 @@ static CASES: [Case; 48] = [
 schema S=literal:literal{entities E D attributes x:D->s y:E->n /* two
 lines */ z : D -> n}instance I = literal : S { generators c : D a : E b : D }",
         status: Status::Ok,
-        written: "instance I : S\nentity E 1\n1 a y=?0\nentity D 2\n1 c x=?1 z=?2\n2 b x=?3 z=?4\nnulls 5\n?0 n\n?1 s\n?2 n\n?3 s\n?4 n\nentries 0\nend\n",
+        written: "instance I : S\nentity E 1\n1 a y=?0\nentity D 2\n1 c x=?1 z=?2\n2 b x=?3 z=?4\nnulls 5\n?0 n\n\
+            ?1 s\n?2 n\n?3 s\n?4 n\nentries 0\nend\n",
     },
     Case {
         words: RUN,
@@ -235,87 +239,16 @@ lines */ z : D -> n}instance I = literal : S { generators c : D a : E b : D }",
     },
     Case {
         words: RUN,
-        text: "typeside T = literal { types s } schema S = literal : T { entities E } instance I = literal : S { generators a : Q }",
-        status: Status::Refused,
-        written: "refused 1:110 42 Unknown\n",
-    },
-    Case {
-        words: RUN,
-        text: "typeside T = literal { types s } schema S = literal : T { entities E } instance I = literal : S { generators a : s }",
+        text: "typeside T = literal { types s } schema S = literal : T { entities E } instance I = literal : S { \
+            generators a : s }",
         status: Status::Ok,
         written: "instance I : S\nentity E 0\nnulls 1\n?0 s\nentries 0\nend\n",
-    },
-    Case {
-        words: RUN,
-        text: "typeside T = literal { types s s } schema S = literal : T { } instance I = literal : S { }",
-        status: Status::Refused,
-        written: "refused 1:32 41 Duplicate\n",
-    },
-    Case {
-        words: RUN,
-        text: "typeside T = literal { types n constants zero : n functions succ : n -> n } schema S = literal : T { } instance I = literal : S { equations succ(zero, zero) = zero }",
-        status: Status::Refused,
-        written: "refused 1:141 43 WrongCount\n",
-    },
-    Case {
-        words: RUN,
-        text: "typeside T = literal { types s n constants Al : s zero : n } schema S = literal : T { } instance I = literal : S { equations Al = zero }",
-        status: Status::Refused,
-        written: "refused 1:126 44 WrongSort\n",
-    },
-    Case {
-        words: RUN,
-        text: "typeside T = literal { types s constants \"?x\" : s }",
-        status: Status::Refused,
-        written: "refused 1:42 45 Reserved\n",
-    },
-    Case {
-        words: RUN,
-        text: "typeside T = literal { } schema S = literal : R { } instance I = literal : S { }",
-        status: Status::Refused,
-        written: "refused 1:47 32 Unknown\n",
-    },
-    Case {
-        words: RUN,
-        text: "typeside T = literal { } schema S = literal : T { } instance S = literal : S { }",
-        status: Status::Refused,
-        written: "refused 1:62 31 Duplicate\n",
-    },
-    Case {
-        words: RUN,
-        text: "typeside T = literal { } @",
-        status: Status::Refused,
-        written: "refused 1:26 11 BadByte\n",
-    },
-    Case {
-        words: RUN,
-        text: "typeside T = literal { } schema S = getSchema T",
-        status: Status::Refused,
-        written: "refused 1:47 33 WrongKind\n",
-    },
-    Case {
-        words: RUN,
-        text: "typeside T = literal { } schema S = literal : T { } instance I = literal : T { generators a : E }",
-        status: Status::Refused,
-        written: "refused 1:76 33 WrongKind\n",
     },
     Case {
         words: RUN,
         text: "schema",
         status: Status::Refused,
         written: "refused 1:7 21 Syntax\n",
-    },
-    Case {
-        words: RUN,
-        text: "typeside T = literal { } constraints C = literal : S { }",
-        status: Status::Refused,
-        written: "refused 1:26 23 Unsupported 1\n",
-    },
-    Case {
-        words: RUN,
-        text: "options foo = 1",
-        status: Status::Refused,
-        written: "refused 1:9 24 BadOption\n",
     },
     Case {
         words: RUN,
@@ -331,134 +264,6 @@ lines */ z : D -> n}instance I = literal : S { generators c : D a : E b : D }",
     },
     Case {
         words: RUN,
-        text: "typeside T = literal { types s n constants Al Bob Carl : s functions h : s -> s succ : n -> n }
-schema S = literal : T { entities Emp Dep foreign_keys worksIn : Emp -> Dep secretary : Dep -> Emp path_equations secretary.worksIn = Dep }
-instance I = literal : S { generators c : Emp m d : Dep equations secretary(m) = c secretary(d) = c }",
-        status: Status::Ok,
-        written: "instance I : S\nentity Emp 1\n1 c worksIn=1\nentity Dep 1\n1 m secretary=1\nnulls 0\nentries 0\nend\n",
-    },
-    Case {
-        words: RUN,
-        text: "typeside T = literal { types s n constants Al Bob Carl : s functions h : s -> s succ : n -> n }
-schema S = literal : T { entities E foreign_keys k : E -> E }
-instance I = literal : S { generators a : E }",
-        status: Status::Refused,
-        written: "refused 3:1 61 Depth\n",
-    },
-    Case {
-        words: AT_MOST,
-        text: "typeside T = literal { types s n constants Al Bob Carl : s functions h : s -> s succ : n -> n }
-schema S = literal : T { entities E foreign_keys k : E -> E }
-instance I = literal : S { generators a : E }",
-        status: Status::Refused,
-        written: "refused 3:1 61 Depth\n",
-    },
-    Case {
-        words: RUN,
-        text: "typeside T = literal { types s n constants Al Bob Carl : s functions h : s -> s succ : n -> n }
-schema S = literal : T { entities E foreign_keys k : E -> E path_equations k.k = k }
-instance I = literal : S { generators a : E }",
-        status: Status::Ok,
-        written: "instance I : S\nentity E 2\n1 a k=2\n2 a.k k=2\nnulls 0\nentries 0\nend\n",
-    },
-    Case {
-        words: AT_FIVE,
-        text: "typeside T = literal { types s n constants Al Bob Carl : s functions h : s -> s succ : n -> n }
-schema S = literal : T { entities E foreign_keys k : E -> E path_equations k.k.k.k.k = E }
-instance I = literal : S { generators a : E }",
-        status: Status::Ok,
-        written: "instance I : S\nentity E 5\n1 a k=2\n2 a.k k=3\n3 a.k.k k=4\n4 a.k.k.k k=5\n5 a.k.k.k.k k=1\nnulls 0\nentries 0\nend\n",
-    },
-    Case {
-        words: AT_FOUR,
-        text: "typeside T = literal { types s n constants Al Bob Carl : s functions h : s -> s succ : n -> n }
-schema S = literal : T { entities E foreign_keys k : E -> E path_equations k.k.k.k.k = E }
-instance I = literal : S { generators a : E }",
-        status: Status::Refused,
-        written: "refused 3:1 61 Depth\n",
-    },
-    Case {
-        words: AT_ZERO,
-        text: "typeside T = literal { types s n constants Al Bob Carl : s functions h : s -> s succ : n -> n }
-schema S = literal : T { entities E }
-instance I = literal : S { generators a : E }",
-        status: Status::Ok,
-        written: "instance I : S\nentity E 1\n1 a\nnulls 0\nentries 0\nend\n",
-    },
-    Case {
-        words: AT_ZERO,
-        text: "typeside T = literal { types s n constants Al Bob Carl : s functions h : s -> s succ : n -> n }
-schema S = literal : T { entities E foreign_keys k : E -> E }
-instance I = literal : S { generators a : E }",
-        status: Status::Refused,
-        written: "refused 3:1 61 Depth\n",
-    },
-    Case {
-        words: AT_ZERO,
-        text: "typeside T = literal { types s n constants Al Bob Carl : s functions h : s -> s succ : n -> n }
-schema S = literal : T { entities E foreign_keys k : E -> E }
-instance I = literal : S { }",
-        status: Status::Ok,
-        written: "instance I : S\nentity E 0\nnulls 0\nentries 0\nend\n",
-    },
-    Case {
-        words: RUN,
-        text: "typeside T = literal { types s n constants Al Bob Carl : s functions h : s -> s succ : n -> n }
-schema S = literal : T { entities E observation_equations forall e:E. Al = Bob }
-instance I = literal : S { }",
-        status: Status::Ok,
-        written: "instance I : S\nentity E 0\nnulls 0\nentries 0\nend\n",
-    },
-    Case {
-        words: RUN,
-        text: "typeside T = literal { types s n constants Al Bob Carl : s functions h : s -> s succ : n -> n }
-schema S = literal : T { entities E observation_equations forall e:E. Al = Bob }
-instance I = literal : S { generators a : E }",
-        status: Status::Refused,
-        written: "refused 3:1 63 Inconsistent Al Bob\n",
-    },
-    Case {
-        words: RUN,
-        text: "typeside T = literal { types s n constants Al Bob Carl : s functions h : s -> s succ : n -> n }
-schema S = literal : T { }
-instance I = literal : S { generators x : s equations h(Al) = Bob h(x) = Carl x = Al }",
-        status: Status::Refused,
-        written: "refused 3:1 63 Inconsistent Bob Carl\n",
-    },
-    Case {
-        words: RUN,
-        text: "typeside T = literal { types s n constants Al Bob Carl : s functions h : s -> s succ : n -> n }
-schema S = literal : T { }
-instance I = literal : S { equations h(Al) = h(Bob) }",
-        status: Status::Ok,
-        written: "instance I : S\nnulls 1\n?0 s\nentries 2\nh(Al) = ?0\nh(Bob) = ?0\nend\n",
-    },
-    Case {
-        words: RUN,
-        text: "typeside T = literal { types s n constants Al Bob Carl : s functions h : s -> s succ : n -> n }
-schema S = literal : T { }
-instance I = literal : S { generators u : n equations u = succ(u) }",
-        status: Status::Ok,
-        written: "instance I : S\nnulls 1\n?0 n\nentries 1\nsucc(?0) = ?0\nend\n",
-    },
-    Case {
-        words: RUN,
-        text: "typeside T = literal { types s n constants Al Bob Carl : s functions h : s -> s succ : n -> n }
-schema S = literal : T { entities E foreign_keys p q r : E -> E }
-instance I = literal : S { generators a : E }",
-        status: Status::Refused,
-        written: "refused 3:1 62 TooManyRows\n",
-    },
-    Case {
-        words: AT_TEN,
-        text: "typeside T = literal { types s n constants Al Bob Carl : s functions h : s -> s succ : n -> n }
-schema S = literal : T { entities E foreign_keys p q r : E -> E }
-instance I = literal : S { generators a : E }",
-        status: Status::Refused,
-        written: "refused 3:1 61 Depth\n",
-    },
-    Case {
-        words: RUN,
         text: "",
         status: Status::Ok,
         written: "",
@@ -471,6 +276,37 @@ fn each_status_with_its_line(rt: HostRuntime) -> Result<(), Fail> {
     for case in &CASES {
         assert!(rt; passes(alloc, "", case)?, "{}", case.text);
     }
+    Ok(())
+}
+
+/// Texts that break a rule.
+static REFUSED: Table = Table {
+    words: RUN,
+    lines: "",
+    front: "",
+    rows: "\
+42 Unknown| typeside T = literal { types s } schema S = literal : T { entities E } \
+instance I = literal : S { generators ^a : Q }
+41 Duplicate| typeside T = literal { types s ^s } schema S = literal : T { } instance I = literal : S { }
+43 WrongCount| typeside T = literal { types n constants zero : n functions succ : n -> n } \
+schema S = literal : T { } instance I = literal : S { equations ^succ(zero, zero) = zero }
+44 WrongSort| typeside T = literal { types s n constants Al : s zero : n } schema S = literal : T { } \
+instance I = literal : S { equations ^Al = zero }
+45 Reserved| typeside T = literal { types s constants ^\"?x\" : s }
+32 Unknown| typeside T = literal { } schema S = literal : ^R { } instance I = literal : S { }
+31 Duplicate| typeside T = literal { } schema S = literal : T { } instance ^S = literal : S { }
+11 BadByte| typeside T = literal { } ^@
+33 WrongKind| typeside T = literal { } schema S = getSchema ^T
+33 WrongKind| typeside T = literal { } schema S = literal : T { } instance I = literal : ^T { generators a : E }
+23 Unsupported 1| typeside T = literal { } ^constraints C = literal : S { }
+24 BadOption| options ^foo = 1",
+    listed: "",
+    leaf: "",
+};
+
+#[test]
+fn texts_that_break_a_rule(rt: HostRuntime) -> Result<(), Fail> {
+    try_rows(&rt, rt.alloc(), &REFUSED)?;
     Ok(())
 }
 

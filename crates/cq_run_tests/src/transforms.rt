@@ -4,8 +4,8 @@ use cq_run::Status;
 use std::test::Fail;
 
 /// Two schemas, which stand in front of each case.
-const SCHEMAS: &str =
-    "typeside T = literal { types s n constants Al Bob Carl : s zero one : n functions h : s -> s succ : n -> n plus : n, n -> n }
+const SCHEMAS: &str = "typeside T = literal { types s n constants Al Bob Carl : s zero one : n \
+    functions h : s -> s succ : n -> n plus : n, n -> n }
 schema S = literal : T { entities E attributes x : E -> s }
 schema R = literal : T { entities E attributes x : E -> s }
 ";
@@ -83,7 +83,8 @@ end
     // An image behind a foreign key: the rows to which it leads become one.
     Case {
         words: RUN,
-        text: "schema L = literal : T { entities E foreign_keys k : E -> E path_equations k.k = k attributes x : E -> s }
+        text: "schema L = literal : T { entities E foreign_keys k : E -> E path_equations k.k = k \
+            attributes x : E -> s }
 instance A = literal : L { generators a : E }
 instance B = literal : L { generators b : E equations x(k(b)) = Al }
 transform f = literal : A -> B { generators a -> k(b) }
@@ -240,8 +241,8 @@ fn glued_along_images(rt: HostRuntime) -> Result<(), Fail> {
 }
 
 /// Three instances behind the schemas, which stand in front of each case.
-const INSTANCES: &str =
-    "typeside T = literal { types s n constants Al Bob Carl : s zero one : n functions h : s -> s succ : n -> n plus : n, n -> n }
+const INSTANCES: &str = "typeside T = literal { types s n constants Al Bob Carl : s zero one : n \
+    functions h : s -> s succ : n -> n plus : n, n -> n }
 schema S = literal : T { entities E attributes x : E -> s }
 schema R = literal : T { entities E attributes x : E -> s }
 instance A = literal : S { generators a c : E equations x(c) = x(c) x(a) = Bob }

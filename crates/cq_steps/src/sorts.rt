@@ -11,7 +11,7 @@ use cq_base::Name;
 use cq_theory::{Edge, EntTerm, Presentation, Schema, Sort, TypeTerm};
 
 /// Whether the term has a sort over the presentation's generators.
-pub(crate) fn is_ground(schema: &Schema, presentation: &Presentation, term: Side) -> bool
+pub fn is_ground(schema: &Schema, presentation: &Presentation, term: Side) -> bool
     ensures { IsTrue result ↔ IsGround schema.now presentation.now (term_of term.entry) }
 {
     let generators = presentation.generators.as_slice();

@@ -6,8 +6,8 @@ use cq_theory::{
     Typeside, TypesideParts,
 };
 use std::alloc::Global;
+use std::process::Abort;
 use std::rc::Rc;
-use std::test::Fail;
 
 /// A generator, and the foreign keys that are followed from it.
 type Keys = (u32, &'static [u32]);
@@ -39,30 +39,45 @@ enum Named {
     Obs(Keys),
 }
 
-fn names(alloc: Global, texts: &[&str]) -> Result<Seq<Name>, Fail> {
+fn name(rt: &impl Abort, alloc: Global, text: &str) -> Name {
+    Name::new(alloc, text).expect(rt, "a name")
+}
+
+fn names(rt: &impl Abort, alloc: Global, texts: &[&str]) -> Seq<Name> {
     let mut names = Vec::new(alloc);
     for text in texts {
-        names.push(Name::new(alloc, text)?)?;
+        names.push(name(rt, alloc, text)).expect(rt, "memory");
     }
-    Ok(Seq::from_vec(names))
+    Seq::from_vec(names)
 }
 
-fn edges(alloc: Global, texts: &[(&str, &str, &str)]) -> Result<Seq<(Name, Name, Name)>, Fail> {
+/// A list of one item.
+fn one<T: Drop>(rt: &impl Abort, alloc: Global, item: T) -> Seq<T> {
+    let mut items = Vec::new(alloc);
+    items.push(item).expect(rt, "memory");
+    Seq::from_vec(items)
+}
+
+/// A foreign key, or an attribute, and its two ends.
+fn edge(rt: &impl Abort, alloc: Global, edge: (&str, &str, &str)) -> (Name, Name, Name) {
+    let (text, from, to) = edge;
+    (
+        name(rt, alloc, text),
+        name(rt, alloc, from),
+        name(rt, alloc, to),
+    )
+}
+
+fn edges(rt: &impl Abort, alloc: Global, texts: &[(&str, &str, &str)]) -> Seq<(Name, Name, Name)> {
     let mut edges = Vec::new(alloc);
-    for (text, from, to) in texts {
-        edges.push((
-            Name::new(alloc, text)?,
-            Name::new(alloc, from)?,
-            Name::new(alloc, to)?,
-        ))?;
+    for text in texts {
+        edges.push(edge(rt, alloc, *text)).expect(rt, "memory");
     }
-    Ok(Seq::from_vec(edges))
+    Seq::from_vec(edges)
 }
 
-fn applied(alloc: Global, function: &str, arg: Raw) -> Result<Raw, Fail> {
-    let mut args = Vec::new(alloc);
-    args.push(arg)?;
-    Ok(Raw::App(Name::new(alloc, function)?, Seq::from_vec(args)))
+fn applied(rt: &impl Abort, alloc: Global, function: &str, arg: Raw) -> Raw {
+    Raw::App(name(rt, alloc, function), one(rt, alloc, arg))
 }
 
 /// The typeside of these parts, if they are few.
@@ -89,109 +104,167 @@ fn new_schema(
 }
 
 /// Numbers with a successor.
-fn typeside(alloc: Global) -> Result<Rc<Typeside>, Fail> {
-    let mut functions = Vec::new(alloc);
-    functions.push((
-        Name::new(alloc, "succ")?,
-        names(alloc, &["n"])?,
-        Name::new(alloc, "n")?,
-    ))?;
-    let parts = TypesideParts {
-        types: names(alloc, &["n"])?,
+fn typeside_parts(rt: &impl Abort, alloc: Global) -> TypesideParts {
+    let args = names(rt, alloc, &["n"]);
+    let succ = (name(rt, alloc, "succ"), args, name(rt, alloc, "n"));
+    TypesideParts {
+        types: names(rt, alloc, &["n"]),
         literals: None,
         constants: Seq::from_vec(Vec::new(alloc)),
-        functions: Seq::from_vec(functions),
-    };
-    Ok(Rc::new(alloc, new_typeside(alloc, parts)?)?)
+        functions: one(rt, alloc, succ),
+    }
+}
+
+fn typeside(rt: &impl Abort, alloc: Global) -> Rc<Typeside> {
+    let made = new_typeside(alloc, typeside_parts(rt, alloc)).expect(rt, "a typeside");
+    Rc::new(alloc, made).expect(rt, "memory")
+}
+
+fn size(rt: &impl Abort, alloc: Global) -> Raw {
+    applied(rt, alloc, "size", Raw::Word(name(rt, alloc, "d")))
+}
+
+/// A size is the successor of itself.
+fn sizes(rt: &impl Abort, alloc: Global) -> ObsPart {
+    ObsPart {
+        variable: name(rt, alloc, "d"),
+        entity: None,
+        left: size(rt, alloc),
+        right: applied(rt, alloc, "succ", size(rt, alloc)),
+    }
 }
 
 /// A department's secretary works in it, and its size is the successor of its size.
-fn schema(alloc: Global) -> Result<Schema, Fail> {
-    let mut path_eqs = Vec::new(alloc);
-    path_eqs.push((
-        names(alloc, &["secretary", "worksIn"])?,
-        names(alloc, &["Dep"])?,
-    ))?;
-    let size = applied(alloc, "size", Raw::Word(Name::new(alloc, "d")?))?;
-    let size_again = applied(alloc, "size", Raw::Word(Name::new(alloc, "d")?))?;
-    let mut obs_eqs = Vec::new(alloc);
-    obs_eqs.push(ObsPart {
-        variable: Name::new(alloc, "d")?,
-        entity: None,
-        left: size,
-        right: applied(alloc, "succ", size_again)?,
-    })?;
-    let parts = SchemaParts {
-        entities: names(alloc, &["Emp", "Dep"])?,
-        keys: edges(
-            alloc,
-            &[("worksIn", "Emp", "Dep"), ("secretary", "Dep", "Emp")],
-        )?,
-        path_eqs: Seq::from_vec(path_eqs),
-        attributes: edges(alloc, &[("size", "Dep", "n")])?,
-        obs_eqs: Seq::from_vec(obs_eqs),
-    };
-    let made = new_schema(alloc, typeside(alloc)?, parts)?;
-    Ok(made)
-}
-
-fn ent_term(alloc: Global, term: Keys) -> Result<EntTerm, Fail> {
-    Ok(EntTerm {
-        generator: term.0,
-        path: Seq::from_vec(Vec::from_slice(alloc, term.1)?),
-    })
-}
-
-fn type_term(alloc: Global, term: Height) -> Result<TypeTerm, Fail> {
-    let mut made = TypeTerm::Att(0, ent_term(alloc, term.1)?);
-    for _ in 0..term.0 {
-        let mut args = Vec::new(alloc);
-        args.push(made)?;
-        made = TypeTerm::Fun(0, Seq::from_vec(args));
+fn schema_parts(rt: &impl Abort, alloc: Global) -> SchemaParts {
+    let around = names(rt, alloc, &["secretary", "worksIn"]);
+    let keys = [("worksIn", "Emp", "Dep"), ("secretary", "Dep", "Emp")];
+    SchemaParts {
+        entities: names(rt, alloc, &["Emp", "Dep"]),
+        keys: edges(rt, alloc, &keys),
+        path_eqs: one(rt, alloc, (around, names(rt, alloc, &["Dep"]))),
+        attributes: edges(rt, alloc, &[("size", "Dep", "n")]),
+        obs_eqs: one(rt, alloc, sizes(rt, alloc)),
     }
-    Ok(made)
 }
 
-fn equation(alloc: Global, sides: Sides) -> Result<Equation, Fail> {
+fn schema(rt: &impl Abort, alloc: Global) -> Schema {
+    let typeside = typeside(rt, alloc);
+    new_schema(alloc, typeside, schema_parts(rt, alloc)).expect(rt, "a schema")
+}
+
+fn ent_term(rt: &impl Abort, alloc: Global, (generator, path): Keys) -> EntTerm {
+    let path = Vec::from_slice(alloc, path).expect(rt, "memory");
+    EntTerm {
+        generator,
+        path: Seq::from_vec(path),
+    }
+}
+
+fn type_term(rt: &impl Abort, alloc: Global, (height, keys): Height) -> TypeTerm {
+    let mut made = TypeTerm::Att(0, ent_term(rt, alloc, keys));
+    for _ in 0..height {
+        made = TypeTerm::Fun(0, one(rt, alloc, made));
+    }
+    made
+}
+
+fn equation(rt: &impl Abort, alloc: Global, sides: Sides) -> Equation {
     match sides {
         Sides::Ent(left, right) => {
-            let left = ent_term(alloc, left)?;
-            Ok(Equation::Ent(left, ent_term(alloc, right)?))
+            Equation::Ent(ent_term(rt, alloc, left), ent_term(rt, alloc, right))
         }
         Sides::Typ(left, right) => {
-            let left = type_term(alloc, left)?;
-            Ok(Equation::Typ(left, type_term(alloc, right)?))
+            Equation::Typ(type_term(rt, alloc, left), type_term(rt, alloc, right))
         }
     }
 }
 
-fn rule(alloc: Global, named: Named) -> Result<Rule, Fail> {
+fn rule(rt: &impl Abort, alloc: Global, named: Named) -> Rule {
     match named {
-        Named::Reflexivity => Ok(Rule::Reflexivity),
-        Named::Symmetry => Ok(Rule::Symmetry),
-        Named::Transitivity => Ok(Rule::Transitivity),
-        Named::Key(key) => Ok(Rule::Key(key)),
-        Named::Attribute => Ok(Rule::Attribute(0)),
-        Named::Function => Ok(Rule::Function(0)),
-        Named::Given(number) => Ok(Rule::Given(number)),
-        Named::Path(at) => Ok(Rule::Path(0, ent_term(alloc, at)?)),
-        Named::Obs(at) => Ok(Rule::Obs(0, ent_term(alloc, at)?)),
+        Named::Reflexivity => Rule::Reflexivity,
+        Named::Symmetry => Rule::Symmetry,
+        Named::Transitivity => Rule::Transitivity,
+        Named::Key(key) => Rule::Key(key),
+        Named::Attribute => Rule::Attribute(0),
+        Named::Function => Rule::Function(0),
+        Named::Given(number) => Rule::Given(number),
+        Named::Path(at) => Rule::Path(0, ent_term(rt, alloc, at)),
+        Named::Obs(at) => Rule::Obs(0, ent_term(rt, alloc, at)),
     }
+}
+
+fn generator(rt: &impl Abort, alloc: Global, text: &str, entity: u32) -> (Name, Sort) {
+    (name(rt, alloc, text), Sort::Entity(entity))
+}
+
+fn generators(rt: &impl Abort, alloc: Global, texts: &[(&str, u32)]) -> Seq<(Name, Sort)> {
+    let mut generators = Vec::new(alloc);
+    for (text, entity) in texts {
+        generators
+            .push(generator(rt, alloc, text, *entity))
+            .expect(rt, "memory");
+    }
+    Seq::from_vec(generators)
+}
+
+fn equations(rt: &impl Abort, alloc: Global, listed: &[Sides]) -> Seq<Equation> {
+    let mut equations = Vec::new(alloc);
+    for sides in listed {
+        equations
+            .push(equation(rt, alloc, *sides))
+            .expect(rt, "memory");
+    }
+    Seq::from_vec(equations)
 }
 
 /// An employee c and departments m and d, whose secretary is c.
-fn presentation(alloc: Global) -> Result<Presentation, Fail> {
-    let mut generators = Vec::new(alloc);
-    generators.push((Name::new(alloc, "c")?, Sort::Entity(0)))?;
-    generators.push((Name::new(alloc, "m")?, Sort::Entity(1)))?;
-    generators.push((Name::new(alloc, "d")?, Sort::Entity(1)))?;
-    let mut equations = Vec::new(alloc);
-    equations.push(equation(alloc, Sides::Ent(M_SECRETARY, C))?)?;
-    equations.push(equation(alloc, Sides::Ent(D_SECRETARY, C))?)?;
-    Ok(Presentation {
-        generators: Seq::from_vec(generators),
-        equations: Seq::from_vec(equations),
-    })
+fn presentation(rt: &impl Abort, alloc: Global) -> Presentation {
+    let given = [Sides::Ent(M_SECRETARY, C), Sides::Ent(D_SECRETARY, C)];
+    Presentation {
+        generators: generators(rt, alloc, &[("c", 0), ("m", 1), ("d", 1)]),
+        equations: equations(rt, alloc, &given),
+    }
+}
+
+fn step(rt: &impl Abort, alloc: Global, (named, from, sides): Entry) -> Step {
+    let from = Vec::from_slice(alloc, from).expect(rt, "memory");
+    Step {
+        rule: rule(rt, alloc, named),
+        from: Seq::from_vec(from),
+        equation: equation(rt, alloc, sides),
+    }
+}
+
+fn push_steps(rt: &impl Abort, alloc: Global, entries: &[Entry], steps: &mut Vec<Step>) {
+    for entry in entries {
+        steps.push(step(rt, alloc, *entry)).expect(rt, "memory");
+    }
+}
+
+fn steps(rt: &impl Abort, alloc: Global, earlier: &[Entry], last: &[Entry]) -> Vec<Step> {
+    let mut steps = Vec::new(alloc);
+    push_steps(rt, alloc, earlier, &mut steps);
+    push_steps(rt, alloc, last, &mut steps);
+    steps
+}
+
+fn is_right_over(rt: &impl Abort, alloc: Global, schema: &Schema, steps: &[Step]) -> bool {
+    let presentation = presentation(rt, alloc);
+    check_steps(alloc, schema, &presentation, steps).expect(rt, "memory")
+}
+
+/// Whether these entries are a right list.
+fn is_right(rt: &impl Abort, alloc: Global, earlier: &[Entry], last: &[Entry]) -> bool {
+    let steps = steps(rt, alloc, earlier, last);
+    let schema = schema(rt, alloc);
+    is_right_over(rt, alloc, &schema, steps.as_slice())
+}
+
+/// Stops at the first of these entries that is told wrongly behind the earlier ones.
+fn try_last(rt: &impl Abort, alloc: Global, earlier: &[Entry], cases: &[(Entry, bool)]) {
+    for (place, (last, right)) in cases.iter().enumerate() {
+        assert_eq!(rt; is_right(rt, alloc, earlier, &[*last]), *right, "{place}");
+    }
 }
 
 const C: Keys = (0, &[]);
@@ -225,98 +298,74 @@ const ONE_DEPARTMENT: &[Entry] = &[
     (Named::Path(D), &[], Sides::Ent(D_AGAIN, D)),
 ];
 
-/// Whether these entries, and one more, are a right list.
-fn is_right(alloc: Global, entries: &[Entry], last: &Entry) -> Result<bool, Fail> {
-    let mut steps = Vec::new(alloc);
-    for entry in entries.iter().chain([*last].iter()) {
-        steps.push(Step {
-            rule: rule(alloc, entry.0)?,
-            from: Seq::from_vec(Vec::from_slice(alloc, entry.1)?),
-            equation: equation(alloc, entry.2)?,
-        })?;
-    }
-    let right = check_steps(
-        alloc,
-        &schema(alloc)?,
-        &presentation(alloc)?,
-        steps.as_slice(),
-    )?;
-    Ok(right)
-}
+/// What may stand behind these, and whether the whole list is then right.
+const LAST_STEPS: &[(Entry, bool)] = &[
+    ((Named::Transitivity, &[7, 8], Sides::Ent(M, D)), true),
+    ((Named::Transitivity, &[7, 7], Sides::Ent(M, D)), false),
+    ((Named::Transitivity, &[7, 9], Sides::Ent(M, D)), false),
+    ((Named::Transitivity, &[7], Sides::Ent(M, D)), false),
+    (
+        (Named::Reflexivity, &[], Sides::Ent(M_AGAIN, M_AGAIN)),
+        true,
+    ),
+    (
+        (Named::Reflexivity, &[], Sides::Ent((1, &[0]), (1, &[0]))),
+        false,
+    ),
+    ((Named::Key(1), &[3], Sides::Ent(M_AGAIN, D_AGAIN)), false),
+    ((Named::Path(C), &[], Sides::Ent((0, &[1, 0]), C)), false),
+    ((Named::Given(2), &[], Sides::Ent(M_SECRETARY, C)), false),
+    (
+        (Named::Attribute, &[7], Sides::Typ((0, M), (0, D_AGAIN))),
+        true,
+    ),
+    (
+        (
+            Named::Attribute,
+            &[3],
+            Sides::Typ((0, M_SECRETARY), (0, D_SECRETARY)),
+        ),
+        false,
+    ),
+    (
+        (
+            Named::Obs(D_AGAIN),
+            &[],
+            Sides::Typ((0, D_AGAIN), (1, D_AGAIN)),
+        ),
+        true,
+    ),
+    (
+        (Named::Obs(D_AGAIN), &[], Sides::Typ((0, D_AGAIN), (1, D))),
+        false,
+    ),
+    ((Named::Obs(D), &[8], Sides::Typ((0, D), (1, D))), false),
+];
 
 #[test]
-fn last_steps(rt: HostRuntime) -> Result<(), Fail> {
-    let cases: [(Entry, bool); 14] = [
-        ((Named::Transitivity, &[7, 8], Sides::Ent(M, D)), true),
-        ((Named::Transitivity, &[7, 7], Sides::Ent(M, D)), false),
-        ((Named::Transitivity, &[7, 9], Sides::Ent(M, D)), false),
-        ((Named::Transitivity, &[7], Sides::Ent(M, D)), false),
-        (
-            (Named::Reflexivity, &[], Sides::Ent(M_AGAIN, M_AGAIN)),
-            true,
-        ),
-        (
-            (Named::Reflexivity, &[], Sides::Ent((1, &[0]), (1, &[0]))),
-            false,
-        ),
-        ((Named::Key(1), &[3], Sides::Ent(M_AGAIN, D_AGAIN)), false),
-        ((Named::Path(C), &[], Sides::Ent((0, &[1, 0]), C)), false),
-        ((Named::Given(2), &[], Sides::Ent(M_SECRETARY, C)), false),
-        (
-            (Named::Attribute, &[7], Sides::Typ((0, M), (0, D_AGAIN))),
-            true,
-        ),
-        (
-            (
-                Named::Attribute,
-                &[3],
-                Sides::Typ((0, M_SECRETARY), (0, D_SECRETARY)),
-            ),
-            false,
-        ),
-        (
-            (
-                Named::Obs(D_AGAIN),
-                &[],
-                Sides::Typ((0, D_AGAIN), (1, D_AGAIN)),
-            ),
-            true,
-        ),
-        (
-            (Named::Obs(D_AGAIN), &[], Sides::Typ((0, D_AGAIN), (1, D))),
-            false,
-        ),
-        ((Named::Obs(D), &[8], Sides::Typ((0, D), (1, D))), false),
-    ];
-    for (last, expected) in &cases {
-        assert_eq!(rt; is_right(rt.alloc(), ONE_DEPARTMENT, last)?, *expected);
-    }
-    Ok(())
+fn last_steps(rt: HostRuntime) {
+    try_last(&rt, rt.alloc(), ONE_DEPARTMENT, LAST_STEPS);
 }
 
 /// A department's size is its successor.
 const SIZE: &[Entry] = &[(Named::Obs(M), &[], Sides::Typ((0, M), (1, M)))];
 
+/// What may stand behind this, and whether both are then a right list.
+const SUCCESSORS: &[(Entry, bool)] = &[
+    ((Named::Function, &[0], Sides::Typ((1, M), (2, M))), true),
+    ((Named::Function, &[0], Sides::Typ((2, M), (1, M))), false),
+    (
+        (Named::Function, &[0, 0], Sides::Typ((1, M), (2, M))),
+        false,
+    ),
+];
+
 #[test]
-fn functions(rt: HostRuntime) -> Result<(), Fail> {
-    let cases: [(Entry, bool); 3] = [
-        ((Named::Function, &[0], Sides::Typ((1, M), (2, M))), true),
-        ((Named::Function, &[0], Sides::Typ((2, M), (1, M))), false),
-        (
-            (Named::Function, &[0, 0], Sides::Typ((1, M), (2, M))),
-            false,
-        ),
-    ];
-    for (last, expected) in &cases {
-        assert_eq!(rt; is_right(rt.alloc(), SIZE, last)?, *expected);
-    }
-    Ok(())
+fn functions(rt: HostRuntime) {
+    try_last(&rt, rt.alloc(), SIZE, SUCCESSORS);
 }
 
 #[test]
-fn no_steps(rt: HostRuntime) -> Result<(), Fail> {
-    let alloc = rt.alloc();
-    let right = check_steps(alloc, &schema(alloc)?, &presentation(alloc)?, &[])?;
-    assert_eq!(rt; right, false);
-    Ok(())
+fn no_steps(rt: HostRuntime) {
+    assert!(rt; !is_right(&rt, rt.alloc(), &[], &[]));
 }
