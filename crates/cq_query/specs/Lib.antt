@@ -1,4 +1,3 @@
-pub mod Groups
 pub mod QueryData
 pub mod Puts
 pub mod Translation
