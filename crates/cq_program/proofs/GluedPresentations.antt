@@ -16,7 +16,7 @@ use Rattle.cq_push.specs.Gluing.{coproduct_of, equations_from, glued_images, has
 use Rattle.cq_push.proofs.Beside.{two_presented}
 use Rattle.cq_push.proofs.Glued.{images_of}
 use Rattle.cq_push.proofs.Limits.{is_presentation}
-use Rattle.cq_push.proofs.Naming.{named_length}
+use Rattle.cq_terms.proofs.Naming.{named_length}
 use Rattle.cq_push.proofs.Presented.{AreImagesOf, coproduct_sorted, pushout_sorted, sorts_in}
 
 few : (sorts : List Sort) (equations : List Equation) → is_oversized (presented sorts equations) ≡ false → length sorts ≤ 16000000
