@@ -155,6 +155,18 @@ def keys(n):
     return schema(f"entities E F foreign_keys {names('k', n)} : E -> F") + instance("x : E", "")
 
 
+@file("path equations of another entity", 200_000, "instance I")
+def path_equations(n):
+    equations = "\n".join("E.k.k = E.k" for _ in range(n))
+    return schema(f"entities E F foreign_keys k : E -> E path_equations {equations}") + instance(f"{names('x', n)} : F", "")
+
+
+@file("observation equations of another entity", 150_000, "instance I")
+def observation_equations(n):
+    equations = "\n".join("forall e : E. v(e) = v(e)" for _ in range(n))
+    return schema(f"entities E F attributes v : E -> s observation_equations {equations}") + instance(f"{names('x', n)} : F", "")
+
+
 @file("100,000 instances", 100_000, "instance I0")
 def instances(n):
     return schema("entities E attributes v : E -> s") + "\n".join(f"instance I{k} = literal : S {{ generators x : E }}" for k in range(n))
