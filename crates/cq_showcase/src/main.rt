@@ -1,5 +1,5 @@
-//! Runs each file of `examples/` in turn, and prints its transcript and the files that it exports: what is stored of the
-//! examples stays what the program prints.
+//! Runs each file of `examples/` in turn, and prints its transcript and the files that it exports: what is stored of
+//! the examples stays what the program prints.
 #![tactic(auto)]
 
 use cq_io::{DirFolder, Exporter, Format, MemExporter, Sink, StdSink};
