@@ -8,7 +8,8 @@ full size, and a tenth and a hundredth of it else; with words, only files in who
 how the run ends, the bytes, the processor seconds (the best of three runs), the ratio to the size before, and the peak memory.
 Its status is 1 where a run of a full size takes over 30 seconds or 4 GiB, where one takes over twelve times what a tenth of it takes
 (times below 20 ms count as 20), or where a run does not end as it should. Literals alone are exported, since 50,000 files, one
-for each entity, are the system's work more than the program's.
+for each entity, are the system's work more than the program's. For the same reason the files stand in memory, in /dev/shm,
+where there is that: with 100,000 of them in one folder of a disk, the run takes up to thrice as long.
 """
 import os
 import pathlib
@@ -17,6 +18,7 @@ import tempfile
 
 ROOT = pathlib.Path(__file__).resolve().parent.parent
 LIMIT = 8 << 20
+MEMORY = "/dev/shm"
 HEAD = "typeside T = literal { types s constants c : s functions g : s -> s p : s, s -> s }\n"
 FILES = {}
 
@@ -216,7 +218,7 @@ def run(program, folder, wanted):
 def measure(program, text, ends):
     """Seconds and peak memory of the best of three runs, whose output begins so."""
     best = None
-    with tempfile.TemporaryDirectory() as folder:
+    with tempfile.TemporaryDirectory(dir=MEMORY if os.path.isdir(MEMORY) else None) as folder:
         pathlib.Path(folder, "p.cql").write_text(text)
         for _ in range(3):
             found = run(program, folder, 1 if ends.startswith("refused") else 0)

@@ -58,7 +58,7 @@ fn main(rt: HostRuntime) -> anyhow::Result<()> {
 }
 """,
     "src/draft.rt": r"""//! The parts of a schema with four attributes, and of a presentation over it.
-use cq_base::{Name, Raw, Seq};
+use cq_base::{Name, Raw, Seq, SharedTexts};
 use cq_theory::{PresentationParts, SchemaParts};
 use std::alloc::{AllocError, Global};
 
@@ -87,16 +87,31 @@ pub fn schema_parts(alloc: Global) -> Result<SchemaParts, AllocError> {
     })
 }
 
-fn cell(alloc: Global, attribute: &str, row: &Name, text: u64) -> Result<(Raw, Raw), AllocError> {
+/// A name as the readers of files make it: equal texts are one in memory.
+fn shared(texts: &mut SharedTexts, text: &str) -> Result<Name, AllocError> {
+    match texts.name(text) {
+        Ok(name) => Ok(name),
+        Err(_) => Err(AllocError),
+    }
+}
+
+fn cell(
+    alloc: Global,
+    texts: &mut SharedTexts,
+    attribute: &str,
+    row: &Name,
+    text: u64,
+) -> Result<(Raw, Raw), AllocError> {
     let text = format!(in alloc; "text of a cell {text:09}")?;
     let term = Raw::Word(row.clone()?);
     let args = Seq::from_vec(vec![in alloc; term]?);
-    let left = Raw::App(name(alloc, attribute)?, args);
-    Ok((left, Raw::Text(name(alloc, text.as_str())?)))
+    let left = Raw::App(shared(texts, attribute)?, args);
+    Ok((left, Raw::Text(shared(texts, text.as_str())?)))
 }
 
 fn push_cells(
     alloc: Global,
+    known: &mut SharedTexts,
     equations: &mut Vec<(Raw, Raw)>,
     row: &Name,
     first: u64,
@@ -105,7 +120,7 @@ fn push_cells(
     let mut number = first;
     for attribute in ATTRIBUTES {
         let text = if texts == 0 { number } else { number % texts };
-        equations.push(cell(alloc, attribute, row, text)?)?;
+        equations.push(cell(alloc, known, attribute, row, text)?)?;
         number = number.wrapping_add(1);
     }
     Ok(())
@@ -114,11 +129,19 @@ fn push_cells(
 pub fn generators(alloc: Global, rows: u64, texts: u64) -> Result<PresentationParts, AllocError> {
     let mut generators = Vec::new(alloc);
     let mut equations = Vec::new(alloc);
+    let mut known = SharedTexts::new(alloc);
     for number in 0..rows {
         let text = format!(in alloc; "x{number}")?;
         let row = name(alloc, text.as_str())?;
-        push_cells(alloc, &mut equations, &row, number.wrapping_mul(4), texts)?;
-        generators.push((row, name(alloc, "E")?))?;
+        push_cells(
+            alloc,
+            &mut known,
+            &mut equations,
+            &row,
+            number.wrapping_mul(4),
+            texts,
+        )?;
+        generators.push((row, shared(&mut known, "E")?))?;
     }
     Ok(PresentationParts {
         generators: Seq::from_vec(generators),

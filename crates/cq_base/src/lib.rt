@@ -7,13 +7,15 @@ pub mod names;
 pub mod place;
 pub mod raw;
 pub mod seq;
+pub mod shared;
 
 pub use hashing::Hashing;
 pub use name::{Name, NameRefusal};
 pub use names::{Names, NamesRefusal};
 pub use place::Place;
 pub use raw::Raw;
-pub use seq::Seq;
+pub use seq::{Seq, number_at};
+pub use shared::SharedTexts;
 
 #[cfg(test)]
 mod tests;

@@ -1,5 +1,6 @@
 //! Names.
 ghost use Rattle.std.specs.Prelude.{◌≡◌, ◌<◌, ◌≤◌, ◌↔◌, IfOk, length, nat_eq, []};
+ghost use Rattle.std.specs.Rc.{rc_str_bytes};
 ghost use Rattle.std.specs.Hash as fed;
 ghost use Rattle.std.specs.Cmp.Lexicographic.{pointwise, nat_list_eq_equiv, slice_cmp, nat_list_cmp_total, texts_ties};
 ghost use Rattle.std.specs.Cmp.Lexicographic.{texts_po};
@@ -10,11 +11,11 @@ ghost use Rattle.std.specs.Cmp.{partial_equiv_from_equiv};
 ghost use Rattle.std.specs.Cmp.Rules.{hashing};
 ghost use Rattle.std.proofs.Common.{rules};
 
-use std::alloc::{AllocError, Global};
+use std::alloc::{AllocError, AllocFailed, Global};
 use std::cmp::Ordering;
 use std::hash::{Hash, Hasher};
 use std::marker::Model;
-use std::rc::Rc;
+use std::rc::RcStr;
 
 /// The most bytes of a name.
 pub const LONGEST: usize = 255;
@@ -23,18 +24,19 @@ pub const LONGEST: usize = 255;
 #[derive(Drop)]
 pub struct Name {
     // None is the empty text, which takes no memory.
-    text: Option<Rc<String>>,
+    text: Option<RcStr>,
 }
 
 impl Model for Name {
-    ghost use Rattle.std.specs.Prelude.{ℕ, List, [], string_bytes, length, ◌≤◌, Some, None};
+    ghost use Rattle.std.specs.Prelude.{ℕ, List, [], length, ◌≤◌, Some, None};
+    ghost use Rattle.std.specs.Rc.{rc_str_bytes};
 
     ghost Value = { List ℕ };
 
-    ghost view = { λ name. elim name.text [ None ↦ [] | Some text ↦ string_bytes text.value ] };
+    ghost view = { λ name. elim name.text [ None ↦ [] | Some text ↦ rc_str_bytes text ] };
 
     ghost invariant = { λ name. length (elim name.text as
-        (λ _. List ℕ) [ None ↦ [] | Some text ↦ string_bytes text.value ]) ≤ 255 };
+        (λ _. List ℕ) [ None ↦ [] | Some text ↦ rc_str_bytes text ]) ≤ 255 };
 }
 
 /// Why a text could not be made a name.
@@ -55,6 +57,16 @@ impl From<AllocError> for NameRefusal {
     }
 }
 
+impl<T: Drop> From<AllocFailed<T>> for NameRefusal {
+    ghost use Rattle.cq_base.specs.declared.name.NameRefusal.TheVariants.{Memory};
+
+    ghost from_gives = { λ _ e. e ≡ Memory };
+
+    fn from(_error: AllocFailed<T>) -> NameRefusal {
+        NameRefusal::Memory
+    }
+}
+
 impl Name {
     /// The name that this text is.
     pub fn new(alloc: Global, text: &str) -> Result<Name, NameRefusal>
@@ -64,11 +76,16 @@ impl Name {
         if text.len() > LONGEST {
             return Err(NameRefusal::Long);
         }
-        let text = String::from_str(alloc, text)?;
-        match Rc::new(alloc, text) {
-            Ok(text) => Ok(Name { text: Some(text) }),
-            Err(_) => Err(NameRefusal::Memory),
-        }
+        let text = RcStr::from_str(alloc, text)?;
+        Ok(Name { text: Some(text) })
+    }
+
+    /// The name that this text is, whose memory it shares.
+    pub(crate) fn of_shared(text: RcStr) -> Name
+        requires { length (rc_str_bytes text) ≤ LONGEST }
+        ensures { result ≡ rc_str_bytes text }
+    {
+        Name { text: Some(text) }
     }
 
     /// The empty name, which takes no memory.

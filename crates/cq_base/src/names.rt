@@ -6,7 +6,7 @@ ghost use Rattle.cq_base.specs.Names.{number_of};
 use crate::hashing::Hashing;
 use crate::name::Name;
 use indexmap::IndexSet;
-use std::alloc::Global;
+use std::alloc::{AllocError, AllocFailed, Global};
 use std::marker::Model;
 
 /// Names with their numbers, from 0. Contracts see the list of the names, in which no name stands twice.
@@ -35,6 +35,26 @@ pub enum NamesRefusal {
     Memory,
 }
 
+impl From<AllocError> for NamesRefusal {
+    ghost use Rattle.cq_base.specs.declared.names.NamesRefusal.TheVariants.{Memory};
+
+    ghost from_gives = { λ _ e. e ≡ Memory };
+
+    fn from(_error: AllocError) -> NamesRefusal {
+        NamesRefusal::Memory
+    }
+}
+
+impl<T: Drop> From<AllocFailed<T>> for NamesRefusal {
+    ghost use Rattle.cq_base.specs.declared.names.NamesRefusal.TheVariants.{Memory};
+
+    ghost from_gives = { λ _ e. e ≡ Memory };
+
+    fn from(_error: AllocFailed<T>) -> NamesRefusal {
+        NamesRefusal::Memory
+    }
+}
+
 impl Names {
     /// A table without names.
     pub fn new(alloc: Global) -> Names
@@ -58,10 +78,8 @@ impl Names {
             return Err(NamesRefusal::Taken(number as u32));
         }
         let number = self.names.len() as u32;
-        match self.names.insert(name) {
-            Ok(_) => Ok(number),
-            Err(_) => Err(NamesRefusal::Memory),
-        }
+        self.names.insert(name)?;
+        Ok(number)
     }
 
     /// How many names there are.
@@ -75,6 +93,10 @@ impl Names {
     pub fn find(&self, name: &Name) -> Option<u32>
         ensures { result ≡ number_of self.now name.now }
     {
+        // Tables without names are asked often, and a hash costs more than this test.
+        if self.names.is_empty() {
+            return None;
+        }
         match self.names.get_index_of(name) {
             Some(number) => Some(number as u32),
             None => None,

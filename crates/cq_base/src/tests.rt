@@ -1,5 +1,5 @@
-//! Names at their limit, and a table of names.
-use crate::{Name, NameRefusal, Names, NamesRefusal};
+//! Names at their limit, texts that are shared, and a table of names.
+use crate::{Name, NameRefusal, Names, NamesRefusal, SharedTexts};
 use std::alloc::AllocError;
 use std::test::Fail;
 
@@ -33,5 +33,20 @@ fn names_are_numbered_as_they_are_added(rt: HostRuntime) -> Result<(), Fail> {
         assert!(rt; names.add(name) == wanted, "{text}");
     }
     assert_eq!(rt; names.len(), 3);
+    Ok(())
+}
+
+#[test]
+fn shared_texts_are_names_of_at_most_255_bytes(rt: HostRuntime) -> Result<(), Fail> {
+    let alloc = rt.alloc();
+    let mut texts = SharedTexts::new(alloc);
+    let mut text = String::new(alloc);
+    for length in 0..=256 {
+        let first = texts.name(text.as_str());
+        let second = texts.name(text.as_str());
+        let wanted = Name::new(alloc, text.as_str());
+        assert!(rt; first == wanted && second == wanted, "{length}");
+        text.push('a')?;
+    }
     Ok(())
 }

@@ -1,5 +1,5 @@
 -- A list of leaves alone.
-use Rattle.std.proofs.Common.{ℕ, zero, suc, List, [], ◌++◌, Some, ◌≡◌, ◌<◌, ◌+◌, length, refl, sym, ap, subst, ◌∙◌, arith}
+use Rattle.std.proofs.Common.{ℕ, zero, suc, List, [], ◌++◌, Option, Some, ◌≡◌, ◌<◌, ◌+◌, length, refl, sym, ap, subst, ◌∙◌, arith}
 use Rattle.std.specs.Prelude.{slice_get, replicate}
 use Rattle.std.proofs.lemmas.List.{replicate-append-replicate, length-replicate}
 use Rattle.std.proofs.lemmas.Option.{slice_get_within}
@@ -8,7 +8,7 @@ use Rattle.cq_flat.specs.declared.node.Node.{Node}
 use Rattle.cq_flat.specs.declared.node.Node.TheVariants as node
 use Rattle.cq_check.specs.NodeListData.{NodeListData}
 use Rattle.cq_check.specs.Sound.{AreSound}
-use Rattle.cq_check.specs.Adding.{IsPushed}
+use Rattle.cq_check.specs.Adding.{Grows, IsPushed}
 use Rattle.cq_check.proofs.Listed.{sound_more}
 use Rattle.cq_theory.specs.declared.presentation.Presentation.{Presentation}
 use Rattle.cq_theory.specs.SchemaData.{SchemaData as Schema}
@@ -50,10 +50,13 @@ module _ (S : Schema) (P : Presentation) (m : Content) (entries : List ℕ) wher
       subst (AreSound S P m entries) (sym whole) leaves_sound
 
   -- the nodes of a term are added
+  pub pushed_grows : (old new : NodeListData) (t : TypeTerm) (place : Option ℕ) → IsPushed m entries old.nodes new.nodes t place → new.equations ≡ old.equations → Grows old new
+  pushed_grows old new t place h same = record { nodes = h.extends; count = h.count; equations = λ p x at. ap (λ (l : List (ℕ × ℕ)). slice_get l p) same ∙ at }
+
   pub pushed_sound : (old new : NodeListData) (t : TypeTerm) (type : ℕ) (place : _) → type_of S P.generators t ≡ Some type → IsPushed m entries old.nodes new.nodes t place → new.equations ≡ old.equations
       → AreSound S P m entries old → AreSound S P m entries new
   pushed_sound old new t type place sort h same before =
-      sound_more S P m entries old new (record { nodes = h.extends; count = h.count; equations = λ p x at. ap (λ (l : List (ℕ × ℕ)). slice_get l p) same ∙ at }) h.earlier (h.named S P.generators type sort)
+      sound_more S P m entries old new (pushed_grows old new t place h same) h.earlier (h.named S P.generators type sort)
       (λ i a b behind at. absurd (omega (arith, behind, past i (a, b) (ap (λ (l : List (ℕ × ℕ)). slice_get l i) (sym same) ∙ at)))) before
     where
       past : (i : ℕ) (e : ℕ × ℕ) → slice_get old.equations i ≡ Some e → i < length old.equations

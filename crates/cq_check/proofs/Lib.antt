@@ -10,8 +10,10 @@ pub mod Listed
 pub mod Leaves
 pub mod OneValue
 pub mod Sides
+pub mod Questions
 pub mod Depths
 pub mod MappingDuties
 pub mod Numbered
+pub mod OverEntity
 pub mod QueryDuties
 pub mod Observed

@@ -40,6 +40,12 @@ mapped_at f [] n y h = cc
 mapped_at f (x ∷ xs) zero y h = (x, refl, cc)
 mapped_at f (x ∷ xs) (suc n) y h = mapped_at f xs n y h
 
+-- what is made of the member at a place
+pub image_at : {X Y : Type 0} (f : X → Y) (xs : List X) (n : ℕ) (x : X) → slice_get xs n ≡ Some x → slice_get (map f xs) n ≡ Some (f x)
+image_at f [] n x h = cc
+image_at f (y ∷ xs) zero x h = let same : y ≡ x = cc in ap (λ z. Some (f z)) same
+image_at f (y ∷ xs) (suc n) x h = image_at f xs n x h
+
 -- the member that a loop has at a place
 pub item_at : {X : Type 0} (xs items : List X) (i : ℕ) (x : X) → items ≡ xs → i < length items → x ≡ get_or items i x → slice_get xs i ≡ Some x
 item_at xs items i x same within is = ap (λ l. slice_get l i) (sym same) ∙ slice_get-get_or items i x within ∙ ap (λ y. Some y) (sym is)

@@ -64,9 +64,13 @@ module _ (F : Mapping) (is : IsMapping F) where
   pub duty_sorted : (n : ℕ) (duty : Duty) → slice_get (duties_of F) n ≡ Some duty → IsWellSorted F.target (over F duty) duty.equation
   duty_sorted n duty h = (duty_posed n duty h).1
 
-  pub duty_presented : (n : ℕ) (duty : Duty) → slice_get (duties_of F) n ≡ Some duty → IsPresentation F.target (over F duty)
-  duty_presented n duty h = record {
-    generators = All-cons (λ (g : Name × Sort). IsSort F.target g.1) ([], Entity duty.schema_entity) [] (duty_posed n duty h).0 (All-nil (λ (g : Name × Sort). IsSort F.target g.1));
-    count = omega arith;
-    equations = λ i e at. cc;
-  }
+  pub duty_within : (n : ℕ) (duty : Duty) → slice_get (duties_of F) n ≡ Some duty → duty.schema_entity < length F.target.entities
+  duty_within n duty h = (duty_posed n duty h).0
+
+-- one generator of an entity is well sorted
+pub one_presented : (F : Mapping) (entity : ℕ) → entity < length F.target.entities → IsPresentation F.target (one_generator entity)
+one_presented F entity within = record {
+  generators = All-cons (λ (g : Name × Sort). IsSort F.target g.1) ([], Entity entity) [] within (All-nil (λ (g : Name × Sort). IsSort F.target g.1));
+  count = omega arith;
+  equations = λ i e at. cc;
+}

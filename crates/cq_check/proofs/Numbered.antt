@@ -1,5 +1,5 @@
 -- Duties in order: what is known once the first ones are derivable, and one more is asked for.
-use Rattle.std.proofs.Common.{ℕ, List, Some, ◌≡◌, ◌<◌, ◌+◌, inl, inr, sym, ap, subst, ◌∙◌, arith}
+use Rattle.std.proofs.Common.{ℕ, List, Some, ◌≡◌, ◌+◌, inl, inr, sym, ap, subst, ◌∙◌, arith}
 use Rattle.std.specs.Prelude.{slice_get}
 use Rattle.std.proofs.lemmas.Bool.{cases_lt}
 use Rattle.cq_check.specs.Answers.{IsTooDeep, IsTooWide, IsMet, AreMet, IsNumbered, IsFirstUnmet, IsFirstTooDeep, IsFirstTooWide}

@@ -1,10 +1,10 @@
 -- What the values of two nodes say of the terms for which they stand.
-use Rattle.std.proofs.Common.{ℕ, Result, Ok, Err, Bool, true, false, List, Some, ◌≡◌, ◌<◌, length, get_or, refl}
-use Rattle.std.specs.Prelude.{MatchBool, IfOk}
+use Rattle.std.proofs.Common.{ℕ, Bool, true, false, List, Some, ◌≡◌, ◌<◌, length, get_or, refl}
+use Rattle.std.specs.Prelude.{MatchBool, ◌↔◌, IsTrue}
 use Rattle.std.proofs.lemmas.Option.{slice_get-get_or}
 use Rattle.cq_tables.specs.Content.{Content, made_of}
 use Rattle.cq_flat.specs.Nodes.{AreSides}
-use Rattle.cq_check.specs.Closed.{IsOneValue}
+use Rattle.cq_flat.specs.Values.{AreValues, value_at}
 use Rattle.cq_check.specs.Frame.{IsFrame, IsApart}
 use Rattle.cq_check.specs.NodeListData.{NodeListData}
 use Rattle.cq_check.specs.Standing.{Stands}
@@ -17,27 +17,24 @@ use Rattle.cq_theory.specs.SchemaData.{SchemaData as Schema}
 use Rattle.cq_theory.specs.Schema.{IsSchema}
 use Rattle.cq_theory.specs.Presentation.{IsPresentation}
 use Rattle.cq_theory.specs.declared.term.TypeTerm.{TypeTerm}
+use Rattle.cq_theory.specs.declared.value.Value.{Value}
 use Rattle.cq_theory.specs.declared.term.Term.TheVariants.{Typ}
 use Rattle.cq_theory.specs.Sorts.{type_of}
 use Rattle.cq_theory.specs.Derivation.{Derives}
-
--- what a clause says of an answer
-pub ok_then : {X E : Type 0} (r : Result X E) (P Q : X → Type 0) → ((x : X) → P x → Q x) → IfOk r P → IfOk r Q
-ok_then (Ok x) P Q f h = f x h
-ok_then (Err e) P Q f h = tt
 
 module _ (S : Schema) (P : Presentation) (m : Content) (entries : List ℕ) (schema : IsSchema S) (presentation : IsPresentation S P) (frame : IsFrame S P m entries)
     (list : NodeListData) (sound : AreSound S P m entries list) where
   pub one_value : (t u : TypeTerm) (a b type type' : ℕ) (same : Bool) → type_of S P.generators t ≡ Some type → type_of S P.generators u ≡ Some type'
       → Stands m entries list.nodes t a → Stands m entries list.nodes u b → a < length list.nodes → b < length list.nodes
-      → HasGiven P m entries list (length P.equations) → HasAtRows S m list (made_of m) → IsOneValue list.nodes list.equations a b same
+      → HasGiven P m entries list (length P.equations) → HasAtRows S m list (made_of m) → (values : List Value) → AreValues list.nodes list.equations values
+      → (IsTrue same ↔ (value_at values a ≡ value_at values b))
       → MatchBool same (Derives S P (Typ t) (Typ u)) (IsApart S P m entries (Typ t) (Typ u))
-  one_value t u a b type type' true h h' left right a_within b_within given rows values =
+  one_value t u a b type type' true h h' left right a_within b_within given rows values are told =
       congruent_derived S P m entries schema presentation frame list sound t u a b type type' h h' left right
-      (equal_congruent S P m entries schema presentation frame list sound values.values values.are_values given rows a b a_within b_within (values.equal.0 refl))
-  one_value t u a b type type' false h h' left right a_within b_within given rows values =
-      apart_values S P m entries schema presentation frame list sound values.values values.are_values given rows t u a b left right
-      (λ same. let wrong : false ≡ true = values.equal.1 same in cc)
+      (equal_congruent S P m entries schema presentation frame list sound values are given rows a b a_within b_within (told.0 refl))
+  one_value t u a b type type' false h h' left right a_within b_within given rows values are told =
+      apart_values S P m entries schema presentation frame list sound values are given rows t u a b left right
+      (λ same. let wrong : false ≡ true = told.1 same in cc)
 
   pub sides_are : AreSides list.nodes list.equations
   sides_are i d within =

@@ -1,12 +1,12 @@
 -- The duties of a query, numbered through all entities.
-use Rattle.std.proofs.Common.{ℕ, Result, Err, zero, suc, List, [], ◌∷◌, ◌++◌, Some, ◌≡◌, ◌<◌, ◌+◌, map, length, get_or, sym, ap, subst, ◌∙◌, arith, length-append}
+use Rattle.std.proofs.Common.{ℕ, Result, Err, zero, suc, List, [], ◌∷◌, ◌++◌, Some, ◌≡◌, ◌<◌, ◌+◌, map, length, get_or, ap, subst, ◌∙◌, arith, length-append}
 use Rattle.std.specs.Prelude.{slice_get}
 use Rattle.std.specs.List.{flat_map, range_with_len}
 use Rattle.std.proofs.lemmas.List.{length-map}
 use Rattle.std.proofs.lemmas.Option.{slice_get_within}
-use Rattle.cq_check.specs.Answers.{IsWellSorted, AreMetOf, frozen_over}
+use Rattle.cq_check.specs.Answers.{IsWellSorted, AreMetOf}
 use Rattle.cq_check.specs.declared.duties.CheckRefusal.{CheckRefusal}
-use Rattle.cq_check.proofs.Lists.{extends_append, item_at}
+use Rattle.cq_check.proofs.Lists.{extends_append, image_at, item_at}
 use Rattle.cq_query.specs.QueryData.{QueryData as Query}
 use Rattle.cq_query.specs.IsQuery.{IsQuery}
 use Rattle.cq_query.specs.Duties.{duties, duties_below, all_duties, frozen, Sound}
@@ -18,11 +18,6 @@ behind [] ys n y h = let here : n ≡ 0 + n = omega arith in subst (λ m. slice_
 behind (x ∷ xs) ys n y h =
     let there : suc (length xs + n) ≡ suc (length xs) + n = omega arith in
     subst (λ m. slice_get (x ∷ (xs ++ ys)) m ≡ Some y) there (behind xs ys n y h)
-
-image_at : {X Y : Type 0} (f : X → Y) (xs : List X) (n : ℕ) (x : X) → slice_get xs n ≡ Some x → slice_get (map f xs) n ≡ Some (f x)
-image_at f [] n x h = cc
-image_at f (y ∷ xs) zero x h = let same : y ≡ x = cc in ap (λ z. Some (f z)) same
-image_at f (y ∷ xs) (suc n) x h = image_at f xs n x h
 
 module _ {X : Type 0} (f : ℕ → List X) where
   -- the parts of the first k numbers have those of the first one before them

@@ -6,17 +6,17 @@ use Rattle.cq_tables.specs.Content.{entity_of as row_entity}
 use Rattle.cq_rows.specs.Plain.{ends_of}
 use Rattle.cq_flat.specs.declared.node.Node.{Node}
 use Rattle.cq_check.specs.Answers.{IsWellSorted}
-use Rattle.cq_check.specs.Closed.{IsOneValue}
+use Rattle.cq_check.specs.Asking.{Asks}
 use Rattle.cq_check.specs.Frame.{IsFrame, AreOneRow, IsApart}
 use Rattle.cq_check.specs.NodeListData.{NodeListData}
 use Rattle.cq_check.specs.Reading.{IsReadable, IsReadablePath}
 use Rattle.cq_check.specs.Standing.{Stands, is_traced}
-use Rattle.cq_check.specs.Sound.{AreSound, KeepsSound}
-use Rattle.cq_check.specs.Adding.{Grows, IsPushed, HasGiven, HasAtRows}
-use Rattle.cq_check.proofs.Leaves.{pushed_sound}
-use Rattle.cq_check.proofs.Listed.{HasIfTraced-more}
+use Rattle.cq_check.specs.Sound.{AreSound}
+use Rattle.cq_check.specs.Adding.{Grows, IsPushed}
+use Rattle.cq_check.specs.declared.asking.Asked.TheVariants.{Answered, Nodes}
+use Rattle.cq_check.proofs.Leaves.{pushed_grows, pushed_sound}
+use Rattle.cq_check.proofs.Listed.{grows_both}
 use Rattle.cq_check.proofs.Meanings.{apart_left, apart_right}
-use Rattle.cq_check.proofs.OneValue.{one_value}
 use Rattle.cq_check.proofs.Placed.{stands_more}
 use Rattle.cq_check.proofs.Readable.{frame_readable, row_readable, readable_typed}
 use Rattle.cq_check.proofs.Rows.{equal_rows, apart_rows}
@@ -85,42 +85,45 @@ module _ (S : Schema) (P : Presentation) (m : Content) (entries : List ℕ) (fra
       pub right_untraced : (old new : List Node) (o : Option ℕ) → IsPushed m entries old new u o → o ≡ None → IsApart S P m entries (Typ t) (Typ u)
       right_untraced old new o h absent = apart_right S P m entries schema presentation frame t u right_type.0 right_type.1 (untraced old new u o h absent)
 
-      -- all equations that can be traced are listed, and both sides
-      pub record AreListed (list : NodeListData) (a b : ℕ) : Type 0 where
-        pub sound : AreSound S P m entries list
-        pub left : Stands m entries list.nodes t a
-        pub right : Stands m entries list.nodes u b
-        pub left_within : a < length list.nodes
-        pub right_within : b < length list.nodes
-        pub given : HasGiven P m entries list (length P.equations)
-        pub rows : HasAtRows S m list (made_of m)
+      -- after the nodes of the left side, or of both
+      pub left_asked : (old one : NodeListData) (o : Option ℕ) → AreSound S P m entries old → IsPushed m entries old.nodes one.nodes t o → o ≡ None → one.equations ≡ old.equations
+          → Asks S P m entries old one (TypEquation t u) (Answered false)
+      left_asked old one o begun h absent same = record {
+        grows = pushed_grows S P m entries old one t o h same;
+        sound = pushed_sound S P m entries old one t left_type.0 o left_type.1 h same begun;
+        is = left_untraced old.nodes one.nodes o h absent;
+      }
 
-      -- after the leaves, the left side, the right side, the equations of the presentation and those of the schema
-      pub listed : (leaves one two three four : NodeListData) (o q : Option ℕ) (a b : ℕ) → AreSound S P m entries leaves
-          → IsPushed m entries leaves.nodes one.nodes t o → o ≡ Some a → one.equations ≡ leaves.equations
-          → IsPushed m entries one.nodes two.nodes u q → q ≡ Some b → two.equations ≡ one.equations
-          → Grows two three → (AreSound S P m entries two → AreSound S P m entries three) → HasGiven P m entries three (length P.equations)
-          → Grows three four → KeepsSound S m three four → HasAtRows S m four (made_of m) → AreListed four a b
-      listed leaves one two three four o q a b begun h first same g second same' more keeps given more' keeps' rows =
-          let left : IsPushed m entries leaves.nodes one.nodes t (Some a) = subst (IsPushed m entries leaves.nodes one.nodes t) first h in
-          let right : IsPushed m entries one.nodes two.nodes u (Some b) = subst (IsPushed m entries one.nodes two.nodes u) second g in
-          let sound_one = pushed_sound S P m entries leaves one t left_type.0 o left_type.1 h same begun in
-          let sound_two = pushed_sound S P m entries one two u right_type.0 q right_type.1 g same' sound_one in
-          let left_two : Stands m entries two.nodes t a = stands_more m entries one.nodes two.nodes g.extends left.place_is.0 in
-          record {
-            sound = keeps' P entries frame (keeps sound_two);
-            left = stands_more m entries three.nodes four.nodes more'.nodes (stands_more m entries two.nodes three.nodes more.nodes left_two);
-            right = stands_more m entries three.nodes four.nodes more'.nodes (stands_more m entries two.nodes three.nodes more.nodes right.place_is.0);
-            left_within = omega (arith, left.place_is.1, g.count, more.count, more'.count);
-            right_within = omega (arith, right.place_is.1, more.count, more'.count);
-            given = λ n x y less found. HasIfTraced-more m entries three four x y more' (given n x y less found);
-            rows = rows;
-          }
+      module _ (old one two : NodeListData) (o q : Option ℕ) (begun : AreSound S P m entries old) (h : IsPushed m entries old.nodes one.nodes t o) (same : one.equations ≡ old.equations)
+          (g : IsPushed m entries one.nodes two.nodes u q) (same' : two.equations ≡ one.equations) where
+        both_grow : Grows old two
+        both_grow = grows_both old one two (pushed_grows S P m entries old one t o h same) (pushed_grows S P m entries one two u q g same')
 
-      pub listed_answer : (list : NodeListData) (a b : ℕ) (same : Bool) → AreListed list a b → IsOneValue list.nodes list.equations a b same
-          → MatchBool same (Derives S P (Typ t) (Typ u)) (IsApart S P m entries (Typ t) (Typ u))
-      listed_answer list a b same h values =
-          one_value S P m entries schema presentation frame list h.sound t u a b left_type.0 right_type.0 same left_type.1 right_type.1 h.left h.right h.left_within h.right_within h.given h.rows values
+        both_sound : AreSound S P m entries two
+        both_sound = pushed_sound S P m entries one two u right_type.0 q right_type.1 g same' (pushed_sound S P m entries old one t left_type.0 o left_type.1 h same begun)
+
+        pub right_asked : q ≡ None → Asks S P m entries old two (TypEquation t u) (Answered false)
+        right_asked absent = record { grows = both_grow; sound = both_sound; is = right_untraced one.nodes two.nodes q g absent }
+
+        pub both_asked : (a b : ℕ) → o ≡ Some a → q ≡ Some b → Asks S P m entries old two (TypEquation t u) (Nodes a b)
+        both_asked a b first second =
+            let left : IsPushed m entries old.nodes one.nodes t (Some a) = subst (IsPushed m entries old.nodes one.nodes t) first h in
+            let right : IsPushed m entries one.nodes two.nodes u (Some b) = subst (IsPushed m entries one.nodes two.nodes u) second g in
+            record {
+              grows = both_grow;
+              sound = both_sound;
+              is = record {
+                left = t;
+                right = u;
+                is = refl;
+                sides = record {
+                  left = stands_more m entries one.nodes two.nodes g.extends left.place_is.0;
+                  right = right.place_is.0;
+                  left_within = omega (arith, left.place_is.1, g.count);
+                  right_within = right.place_is.1;
+                };
+              };
+            }
 
 -- an equation of a presentation, and one of a schema at a row, can be read
 pub equation_sorted : (S : Schema) (P : Presentation) (n : ℕ) (e : Equation) → IsPresentation S P → slice_get P.equations n ≡ Some e → IsWellSorted S P e

@@ -1,12 +1,14 @@
 //! Duties: equations, each of which is to be derivable from a presentation, numbered from 1.
 ghost use Rattle.std.specs.Prelude.{ℕ, ◌≡◌, ◌≤◌, ◌+◌, Err, IfOk, IfErr};
 ghost use Rattle.cq_check.specs.Answers.{IsWellSorted, IsDerived, IsTooDeep, IsTooWide};
+ghost use Rattle.cq_check.specs.Refusing.{refusal_of};
 ghost use Rattle.cq_check.specs.declared.duties.CheckRefusal.TheVariants.{NotPreserved, Depth, TooManyRows};
 ghost use Rattle.cq_theory.specs.Presentation.{IsPresentation};
 
-use crate::equality::{EqualRefusal, Verdict, verdict_up_to};
+use crate::deciding::{Cause, first_unmet};
 use cq_theory::{Equation, Presentation, Schema};
 use std::alloc::{AllocError, Global};
+use std::slice;
 
 /// Why a mapping isn't known to preserve the equations of its source, or the duties of a query aren't known to hold.
 /// The number, from 1, is that of the first duty that isn't derived.
@@ -31,6 +33,17 @@ impl From<AllocError> for CheckRefusal {
     }
 }
 
+/// The refusal of a duty by its number.
+pub(crate) fn refusal(cause: Cause, number: u64) -> CheckRefusal
+    ensures { result ≡ refusal_of cause number }
+{
+    match cause {
+        Cause::NotDerivable => CheckRefusal::NotPreserved(number),
+        Cause::Depth => CheckRefusal::Depth(number),
+        Cause::TooManyRows => CheckRefusal::TooManyRows(number),
+    }
+}
+
 /// Whether the duty with this number is derivable.
 pub(crate) fn check_duty(
     alloc: Global,
@@ -51,12 +64,11 @@ pub(crate) fn check_duty(
     ensures many { (n : ℕ) → result ≡ Err (TooManyRows n)
         → (n ≡ number) × IsTooWide schema.now presentation.now equation.now depth }
 {
-    match verdict_up_to(alloc, schema, presentation, depth, equation) {
-        Ok(Verdict::Yes) => Ok(()),
-        Ok(Verdict::No) => Err(CheckRefusal::NotPreserved(number)),
-        Err(EqualRefusal::Depth) => Err(CheckRefusal::Depth(number)),
-        Err(EqualRefusal::TooManyRows) => Err(CheckRefusal::TooManyRows(number)),
-        Err(EqualRefusal::Memory) => Err(CheckRefusal::Memory),
+    let one = slice::from_ref(&equation);
+    match first_unmet(alloc, schema, presentation, one, depth) {
+        Ok(None) => Ok(()),
+        Ok(Some(unmet)) => Err(refusal(unmet.cause, number)),
+        Err(_) => Err(CheckRefusal::Memory),
     }
 }
 

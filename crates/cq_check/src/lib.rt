@@ -2,7 +2,9 @@
 //! whether the duties of a query hold.
 #![tactic(auto)]
 
+pub(crate) mod asking;
 pub(crate) mod closing;
+pub(crate) mod deciding;
 pub mod duties;
 pub mod equality;
 pub(crate) mod equations;

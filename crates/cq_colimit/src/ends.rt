@@ -90,9 +90,7 @@ pub(crate) fn find_links(
     let mut part = first;
     for pair in pairs {
         let link = find_link(parts, table, entities, part, pair)?;
-        if links.push(link).is_err() {
-            return Err(TheoryRefusal::Memory);
-        }
+        links.push(link)?;
         part += 1;
     }
     Ok(links)

@@ -15,10 +15,9 @@ use crate::refusal::EvalRefusal;
 use crate::table::Answers;
 use cq_base::Seq;
 use cq_model::Instance;
-use cq_model::sizes::is_long;
 use cq_query::Query;
 use cq_query::translation::found_term;
-use cq_theory::{TypeTerm, Value};
+use cq_theory::{TypeTerm, Value, is_long_value};
 use std::alloc::{AllocError, Global};
 
 /// The value of a term at an answer.
@@ -52,7 +51,7 @@ fn push_value(
         (symbols_of (value_of instance.now.tables (map AtRow rows.now) term.now)))) }
 {
     let value = value_at(alloc, instance, term, rows)?;
-    if is_long(&value) {
+    if is_long_value(&value) {
         return Err(EvalRefusal::TooLarge);
     }
     match column.push(value) {

@@ -13,8 +13,7 @@ use crate::keys::key_columns;
 use crate::refusal::EvalRefusal;
 use crate::table::{Answers, all_answers};
 use cq_base::Seq;
-use cq_model::values::copied_algebra;
-use cq_model::{Instance, TablesRefusal};
+use cq_model::Instance;
 use cq_query::Query;
 use cq_theory::Sheet;
 use std::alloc::{AllocError, Global};
@@ -131,11 +130,6 @@ fn made_instance(
 {
     query.is_well_sorted();
     instance.is_instance();
-    let algebra = copied_algebra(alloc, instance.algebra())?;
     let target = query.target.clone()?;
-    match Instance::of_tables(alloc, target, sheet, algebra) {
-        Ok(made) => Ok(made),
-        Err(TablesRefusal::TooLarge) => Err(AllocError),
-        Err(TablesRefusal::Memory) => Err(AllocError),
-    }
+    instance.with_sheet(alloc, target, sheet)
 }

@@ -13,7 +13,7 @@ use Rattle.cq_theory.specs.declared.value.Value.TheVariants.{Const, Null}
 use Rattle.cq_theory.specs.Listed.{firsts, null_label}
 use Rattle.cq_flat.specs.Labels.{AreLabelled, GivesLabel}
 use Rattle.cq_flat.proofs.Firsts.{firsts_push, slice_get-left, slice_get-last}
-use Rattle.cq_flat.proofs.Joining.{range_more}
+use Rattle.cq_flat.proofs.Rings.{range_more}
 
 module _ (classes : List ℕ) (least : List (Option Con)) where
   abbrev class : ℕ → ℕ

@@ -1,5 +1,5 @@
 -- The state after two classes are joined, and at the end.
-use Rattle.std.proofs.Common.{◌≡◌, ◌≢◌, ℕ, zero, suc, ◌<◌, ◌≤◌, cond, eqb, List, [], ◌∷◌, ◌++◌, length, get_or, Option, Some, None, sym, ◌∙◌, ap, refl, arith, map, ◌⊎◌, inl, inr, ⊎_elim}
+use Rattle.std.proofs.Common.{◌≡◌, ◌≢◌, ℕ, zero, suc, ◌<◌, ◌≤◌, cond, eqb, List, [], ◌∷◌, length, Option, Some, None, sym, ◌∙◌, ap, refl, arith, map, ◌⊎◌, inl, inr, ⊎_elim}
 use Rattle.std.proofs.lemmas.Bool.{cases_eq, eq-eqb, ne_eqb}
 use Rattle.std.proofs.lemmas.List.{length-map, get_or-map}
 use Rattle.std.proofs.lemmas.List.Elements.{All-head, All-tail}
@@ -15,11 +15,11 @@ use Rattle.cq_flat.specs.Partition.{Has, joined}
 use Rattle.cq_flat.specs.Congruence as congruent
 use Rattle.cq_flat.specs.Congruence.{Congruent, AllCongruent}
 use Rattle.cq_flat.specs.Closing.{AreExact, Joined, same, waiting, IsSound, IsTabled, AreSound, Skips, roots_below}
-use Rattle.cq_flat.specs.State.{class_in, IsShaped, IsClosing, Merges, Refreshes}
+use Rattle.cq_flat.specs.State.{class_in, IsShaped, IsClosing, Merges}
 use Rattle.cq_flat.proofs.Arguments.{args_within, argument_within}
-use Rattle.cq_flat.proofs.Waiting.{Joined-map, Joined-more, Joined-done}
-use Rattle.cq_flat.proofs.Members.{has_none, has_left, has_right, has_cases, has_head, has_tail}
-use Rattle.cq_flat.proofs.Moving.{moved_count, moved_to, moved_from, moved_other}
+use Rattle.cq_flat.proofs.Waiting.{Joined-map, Joined-done}
+use Rattle.cq_flat.proofs.Members.{has_none, has_head, has_tail}
+use Rattle.cq_flat.proofs.Relabelling.{joined_from, joined_other}
 
 abbrev pub Pairs : Type 0
 Pairs = Vec (ℕ × ℕ) Global
@@ -33,12 +33,6 @@ congruent_within nodes equations sides (congruent.given {a} {b} i e) =
     rw (get_or_from_slice_get equations i (a, b) (a, b) e) at (sides i (a, b) (slice_get_within equations i (a, b) e))
 congruent_within nodes equations sides (congruent.constants {a} {b} c e f) = (slice_get_within nodes a (Const c) e, slice_get_within nodes b (Const c) f)
 congruent_within nodes equations sides (congruent.functions {a} {b} {xs} {ys} f d e h) = (slice_get_within nodes a (Fun f xs) d, slice_get_within nodes b (Fun f ys) e)
-
-joined_from : (from to : ℕ) → joined from to from ≡ to
-joined_from from to = rw (eq-eqb from from refl) refl
-
-joined_other : (from to k : ℕ) → k ≢ from → joined from to k ≡ k
-joined_other from to k n = rw (ne_eqb k from n) refl
 
 module _ (nodes : List Node) (early : HasEarlierArguments nodes) (equations : List (ℕ × ℕ)) (sides : AreSides nodes equations) (old : Closing) (c : IsClosing nodes equations old) (v : Pairs)
     (x y : ℕ) (k : Skips (class_in old) old.pending.items v.items (Some (x, y))) where
@@ -60,7 +54,7 @@ module _ (nodes : List Node) (early : HasEarlierArguments nodes) (equations : Li
       let r : Congruent nodes equations o.1 y = rw o.4 at (c.sound.classes o.1 w.1) in
       congruent.transitive (congruent.symmetric l) (congruent.transitive (c.sound.pairs o.0 o.1 o.2) r)
 
-  taken_roots : (class_in old x ≡ x) × (class_in old y ≡ y)
+  pub taken_roots : (class_in old x ≡ x) × (class_in old y ≡ y)
   taken_roots =
       let o = (k.next x y refl).1 in
       let w = congruent_within nodes equations sides (c.sound.pairs o.0 o.1 o.2) in
@@ -148,58 +142,25 @@ module _ (nodes : List Node) (early : HasEarlierArguments nodes) (equations : Li
         let o = was other key ia (ap (key_of (class_in old)) j ∙ sym e ∙ sym (ap (key_of (class_in new)) j) ∙ ka) in
         (o.0, ap (λ z. found z key) m.table ∙ o.1, after o.2)
 
-    tabled_node : (a : ℕ) (node : Node) → slice_get nodes a ≡ Some node → WasTabled a → Has (get_or old.uses from []) a ⊎ Tabled a
+    tabled_node : (a : ℕ) (node : Node) → slice_get nodes a ≡ Some node → WasTabled a → Has new.stale.items a ⊎ Tabled a
     tabled_node a Leaf is was = inr (tabled_same a Leaf is refl was)
     tabled_node a (Const d) is was = inr (tabled_same a (Const d) is refl was)
     tabled_node a (Fun f args) is was = ⊎_elim
-        (λ o. inl (rw o.2 at (c.shape.uses.listed a f o.0 args is o.1)))
+        (λ o. inl (m.stale.added o.0 a (omega (arith, argument_within nodes early a f o.0 args is o.1, c.shape.count), o.2) (c.shape.uses.listed a f o.0 args is o.1)))
         (λ o. inr (tabled_same a (Fun f args) is (ap (λ zs. Some (0 ∷ 1 ∷ f ∷ zs)) o) was))
         (arguments args (args_within nodes early a f args is))
 
-    tabled_between : (a : ℕ) → WasTabled a → Has (get_or old.uses from []) a ⊎ Tabled a
+    tabled_between : (a : ℕ) → WasTabled a → Has new.stale.items a ⊎ Tabled a
     tabled_between a was = by (slice_get nodes a) refl where
-      by : (o : Option Node) → slice_get nodes a ≡ o → Has (get_or old.uses from []) a ⊎ Tabled a
+      by : (o : Option Node) → slice_get nodes a ≡ o → Has new.stale.items a ⊎ Tabled a
       by None e = inr (λ node key is keyed. let i : None ≡ Some node = sym e ∙ is in absurd (cc))
       by (Some node) e = tabled_node a node e was
 
-    stale_new : (a : ℕ) → Has old.stale.items a ⊎ Has (get_or old.uses from []) a → Has new.stale.items a
-    stale_new a h = rw m.stale (⊎_elim (has_left old.stale.items (get_or old.uses from []) a) (has_right old.stale.items (get_or old.uses from []) a) h)
-
     tabled_new : (a : ℕ) → Has new.stale.items a ⊎ Tabled a
-    tabled_new a = ⊎_elim (λ o. inl (stale_new a (inl o))) (λ t. ⊎_elim (λ o. inl (stale_new a (inr o))) inr (tabled_between a t)) (c.tabled a)
+    tabled_new a = ⊎_elim (λ o. inl (m.stale.kept a o)) (tabled_between a) (c.tabled a)
 
     stale_within : (a : ℕ) → Has new.stale.items a → a < length nodes
-    stale_within a h = ⊎_elim (c.within a) (c.shape.uses.within from a) (has_cases old.stale.items (get_or old.uses from []) a (rw m.stale at h))
-
-    uses_to : get_or new.uses to [] ≡ get_or old.uses to [] ++ get_or old.uses from []
-    uses_to = moved_to old.uses _ new.uses from to (omega (arith, from_within, c.shape.uses.count)) (omega (arith, to_within, c.shape.uses.count)) differ refl m.uses
-
-    uses_from : get_or new.uses from [] ≡ []
-    uses_from = moved_from old.uses _ new.uses from to (omega (arith, from_within, c.shape.uses.count)) (omega (arith, to_within, c.shape.uses.count)) differ refl m.uses
-
-    uses_other : (z : ℕ) → z ≢ from → z ≢ to → get_or new.uses z [] ≡ get_or old.uses z []
-    uses_other = moved_other old.uses _ new.uses from to (omega (arith, from_within, c.shape.uses.count)) (omega (arith, to_within, c.shape.uses.count)) differ refl m.uses
-
-    listed_at : (z a : ℕ) → z ≢ from → Has (get_or old.uses z []) a → Has (get_or new.uses z []) a
-    listed_at z a n h = elim (cases_eq z to) as (λ _. Has (get_or new.uses z []) a) [
-      | inl e ↦ rw (e, uses_to) (has_left (get_or old.uses to []) (get_or old.uses from []) a (rw e at h))
-      | inr q ↦ rw (uses_other z n q) h
-    ]
-
-    listed_new : (z a : ℕ) → z < length nodes → Has (get_or old.uses (class_in old z) []) a → Has (get_or new.uses (class_in new z) []) a
-    listed_new z a l h = elim (cases_eq (class_in old z) from) as (λ _. Has (get_or new.uses (class_in new z) []) a) [
-      | inl e ↦ rw (at_from z l e, uses_to) (has_right (get_or old.uses to []) (get_or old.uses from []) a (rw e at h))
-      | inr n ↦ rw (at_other z l n) (listed_at (class_in old z) a n h)
-    ]
-
-    within_new : (z a : ℕ) → Has (get_or new.uses z []) a → a < length nodes
-    within_new z a h = elim (cases_eq z from) as (λ _. a < length nodes) [
-      | inl e ↦ absurd (has_none a (rw (e, uses_from) at h))
-      | inr n ↦ elim (cases_eq z to) as (λ _. a < length nodes) [
-        | inl e ↦ ⊎_elim (λ o. c.shape.uses.within to a o) (λ o. c.shape.uses.within from a o) (has_cases (get_or old.uses to []) (get_or old.uses from []) a (rw (e, uses_to) at h))
-        | inr q ↦ c.shape.uses.within z a (rw (uses_other z n q) at h)
-      ]
-    ]
+    stale_within a h = ⊎_elim (c.within a) (λ o. c.shape.uses.within o.0 a o.1) (m.stale.fewer a h)
 
     root_new : (a : ℕ) → a < length nodes → class_in new (class_in new a) ≡ class_in new a
     root_new a l = elim (cases_eq (class_in old a) from) as (λ _. class_in new (class_in new a) ≡ class_in new a) [
@@ -218,12 +179,8 @@ module _ (nodes : List Node) (early : HasEarlierArguments nodes) (equations : Li
       count = ap length m.classes ∙ length-map old.classes.items (joined from to) ∙ c.shape.count;
       within = within_joined;
       root = root_new;
-      partition = m.partition;
-      uses = record {
-        count = moved_count old.uses _ new.uses from to (omega (arith, from_within, c.shape.uses.count)) (omega (arith, to_within, c.shape.uses.count)) differ refl m.uses ∙ c.shape.uses.count;
-        listed = λ a f z args is h. listed_new z a (argument_within nodes early a f z args is h) (c.shape.uses.listed a f z args is h);
-        within = within_new;
-      };
+      rings = m.rings;
+      uses = rw m.uses c.shape.uses;
     }
 
     pub closing_merged : IsClosing nodes equations new

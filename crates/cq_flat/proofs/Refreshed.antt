@@ -1,5 +1,5 @@
 -- The state after stale functions are looked up anew, where no pair of two classes waits.
-use Rattle.std.proofs.Common.{◌≡◌, ℕ, ◌<◌, List, [], length, None, sym, ◌∙◌, ap, refl, arith, ◌⊎◌, inl, inr, ⊎_elim}
+use Rattle.std.proofs.Common.{◌≡◌, ℕ, List, length, None, ◌∙◌, ap, refl, arith, ◌⊎◌, inl, inr, ⊎_elim}
 use Rattle.std.specs.Prelude.{Contains}
 use Rattle.cq_flat.specs.declared.node.Node.{Node}
 use Rattle.cq_flat.specs.declared.closing.Closing.{Closing}
@@ -32,8 +32,8 @@ module _ (nodes : List Node) (equations : List (ℕ × ℕ)) (sides : AreSides n
     count = ap length m.classes ∙ c.shape.count;
     within = λ a l. rw m.classes (c.shape.within a l);
     root = λ a l. rw m.classes (c.shape.root a l);
-    partition = rw (m.classes, m.members) c.shape.partition;
-    uses = rw (m.classes, m.uses) c.shape.uses;
+    rings = rw (m.classes, m.following) c.shape.rings;
+    uses = rw m.uses c.shape.uses;
   }
 
   sound_refreshed : IsSound nodes equations (class_in new) new.table new.pending.items

@@ -7,11 +7,10 @@ use Rattle.std.specs.List.{range_with_len}
 use Rattle.cq_flat.specs.declared.node.Node.{Node}
 use Rattle.cq_flat.specs.declared.closing.Closing.{Closing}
 use Rattle.cq_flat.specs.Nodes.{HasEarlierArguments}
-use Rattle.cq_flat.specs.Partition.{Has, IsPartition}
+use Rattle.cq_flat.specs.Partition.{Has, AreRings}
 use Rattle.cq_flat.specs.Congruence.{Congruent, reflexive, given}
 use Rattle.cq_flat.specs.Closing.{waiting, IsSound, AreUses, Enters}
 use Rattle.cq_flat.specs.State.{class_in, IsShaped, IsClosing}
-use Rattle.cq_flat.proofs.Arguments.{argument_within}
 use Rattle.cq_flat.proofs.Members.{has_none}
 
 pub below_has : (n a : ℕ) → Has (range_with_len 0 n) a → a < n
@@ -24,7 +23,7 @@ pub given_equal : (nodes : List Node) (equations : List (ℕ × ℕ)) (a b : ℕ
 given_equal nodes equations a b c = given c.0 (slice_get-get_or equations c.0 (a, b) c.1 ∙ ap Some c.2)
 
 module _ (nodes : List Node) (early : HasEarlierArguments nodes) (equations : List (ℕ × ℕ)) (s : Closing) (e : s.classes.items ≡ range_with_len 0 (length nodes))
-    (p : IsPartition s.classes.items s.members) (u : AreUses nodes (λ a. a) s.uses)
+    (p : AreRings s.classes.items s.following.items) (u : AreUses nodes s.uses)
     (m : Enters nodes (class_in s) (Has s.classes.items) [] s.table equations s.pending.items) (fresh : s.stale.items ≡ []) where
   at : (a : ℕ) → a < length nodes → class_in s a ≡ a
   at a l = ap (λ xs. slice_index xs a) e ∙ get_or-range_with_len 0 (length nodes) a 0 l ∙ zero-add a
@@ -37,12 +36,8 @@ module _ (nodes : List Node) (early : HasEarlierArguments nodes) (equations : Li
     count = count;
     within = λ a l. omega (arith, at a l);
     root = λ a l. ap (class_in s) (at a l);
-    partition = p;
-    uses = record {
-      count = u.count;
-      listed = λ a f x args is h. rw (at x (argument_within nodes early a f x args is h)) (u.listed a f x args is h);
-      within = u.within;
-    };
+    rings = p;
+    uses = u;
   }
 
   sound_start : IsSound nodes equations (class_in s) [] equations

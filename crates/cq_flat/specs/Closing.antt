@@ -5,7 +5,7 @@ use Rattle.cq_flat.specs.declared.node.Node.{Node}
 use Rattle.cq_flat.specs.declared.node.Node.TheVariants.{Fun}
 use Rattle.cq_flat.specs.Congruence.{Congruent}
 use Rattle.cq_flat.specs.Keys.{key_of, found}
-use Rattle.cq_flat.specs.Partition.{Has}
+use Rattle.cq_flat.specs.Partition.{Has, IsIn}
 
 -- one class for nodes that are equal, and for no others
 pub record AreExact (nodes : List Node) (equations : List (ℕ × ℕ)) (classes : List ℕ) : Type 0 where
@@ -53,10 +53,9 @@ module _ (nodes : List Node) where
     pub kept : (a b : ℕ) → Contains pending (a, b) → Contains pending' (a, b)
     pub tabled : (a : ℕ) → entered a ⊎ IsTabled class table pending a → IsTabled class table' pending' a
 
--- each node stands in the list of the class of each of its arguments; only nodes stand there
-pub record AreUses (nodes : List Node) (class : ℕ → ℕ) (uses : List (List ℕ)) : Type 0 where
-  pub count : length uses ≡ length nodes
-  pub listed : (a f x : ℕ) (args : List ℕ) → slice_get nodes a ≡ Some (Fun f args) → Has args x → Has (slice_index_or uses (class x) []) a
+-- each node stands in the list of each of its arguments; only nodes stand there
+pub record AreUses (nodes : List Node) (uses : List (List ℕ)) : Type 0 where
+  pub listed : (a f x : ℕ) (args : List ℕ) → slice_get nodes a ≡ Some (Fun f args) → Has args x → Has (slice_index_or uses x []) a
   pub within : (k a : ℕ) → Has (slice_index_or uses k []) a → a < length nodes
 
 -- the first pair that waits and is of two classes
@@ -73,7 +72,12 @@ roots_below class (suc n) = roots_below class n + (if class n == n then 1 else 0
 
 -- a node is put into the lists of its arguments
 pub record AddsUses (old new : List (List ℕ)) (node : ℕ) (args : List ℕ) : Type 0 where
-  pub count : length new ≡ length old
   pub kept : (k a : ℕ) → Has (slice_index_or old k []) a → Has (slice_index_or new k []) a
   pub added : (x : ℕ) → Has args x → Has (slice_index_or new x []) node
   pub fewer : (k a : ℕ) → Has (slice_index_or new k []) a → Has (slice_index_or old k []) a ⊎ (a ≡ node)
+
+-- what has a member of a class as an argument becomes stale
+pub record Stales (classes : List ℕ) (uses : List (List ℕ)) (class : ℕ) (old new : List ℕ) : Type 0 where
+  pub kept : (a : ℕ) → Has old a → Has new a
+  pub added : (x a : ℕ) → IsIn classes class x → Has (slice_index_or uses x []) a → Has new a
+  pub fewer : (a : ℕ) → Has new a → Has old a ⊎ ((x : ℕ) × Has (slice_index_or uses x []) a)

@@ -1,11 +1,24 @@
 -- The constants of classes.
-use Rattle.std.specs.Prelude.{◌≡◌, ℕ, ◌<◌, ◌⊎◌, Bool, true, List, length, Option, Some, None, MatchOption, slice_get, slice_index}
+use Rattle.std.specs.Prelude.{◌≡◌, ℕ, ◌<◌, ◌⊎◌, Bool, true, List, length, map, Option, Some, None, MatchOption, slice_get, slice_index}
 use Rattle.std.specs.Prelude.{slice_index_or, if◌then◌else◌, ◌&&◌}
 use Rattle.std.specs.Ordering.{is_gt, ordering_then}
 use Rattle.cq_theory.specs.declared.constant.Con.{Con}
 use Rattle.cq_theory.specs.Constant.{con_cmp, IsLesser, IsAtMost}
 use Rattle.cq_flat.specs.declared.node.Node.{Node}
-use Rattle.cq_flat.specs.declared.node.Node.TheVariants.{Const}
+use Rattle.cq_flat.specs.declared.node.Node.TheVariants.{Leaf, Const, Fun}
+
+-- the constants of some nodes, named by their numbers: none where the number is that of no constant
+abbrev pub own_constant : Option Node → Option Con
+own_constant None = None
+own_constant (Some Leaf) = None
+own_constant (Some (Const c)) = Some c
+own_constant (Some (Fun f args)) = None
+
+abbrev pub constant_at : List Node → ℕ → Option Con
+constant_at nodes place = own_constant (slice_get nodes place)
+
+abbrev pub constants_at : List Node → List ℕ → List (Option Con)
+constants_at nodes places = map (constant_at nodes) places
 
 module _ (nodes : List Node) (classes : List ℕ) where
   -- a constant of the class

@@ -1,22 +1,22 @@
 -- What a closure that is being made keeps.
-use Rattle.std.specs.Prelude.{◌≡◌, ℕ, ◌+◌, ◌*◌, ◌<◌, ◌⊎◌, List, [], ◌∷◌, ◌++◌, length, map, Contains}
-use Rattle.std.specs.Prelude.{slice_index, slice_index_or, slice_set}
+use Rattle.std.specs.Prelude.{◌≡◌, ℕ, ◌+◌, ◌*◌, ◌<◌, ◌⊎◌, List, [], ◌∷◌, length, map, Contains}
+use Rattle.std.specs.Prelude.{slice_index}
 use Rattle.cq_flat.specs.declared.node.Node.{Node}
 use Rattle.cq_flat.specs.declared.closing.Closing.{Closing}
-use Rattle.cq_flat.specs.Partition.{Has, IsPartition, joined}
-use Rattle.cq_flat.specs.Closing.{Joined, IsSound, IsTabled, AreUses, Enters, roots_below}
+use Rattle.cq_flat.specs.Partition.{Has, AreRings, joined}
+use Rattle.cq_flat.specs.Closing.{Joined, IsSound, IsTabled, AreUses, Stales, Enters, roots_below}
 
 -- the class of a node
 abbrev pub class_in : Closing → ℕ → ℕ
 class_in s = slice_index s.classes.items
 
--- a class is a node of that class; members and uses are those of the classes
+-- a class is a node of that class; the rings are those of the classes
 pub record IsShaped (nodes : List Node) (s : Closing) : Type 0 where
   pub count : length s.classes.items ≡ length nodes
   pub within : (a : ℕ) → a < length nodes → class_in s a < length nodes
   pub root : (a : ℕ) → a < length nodes → class_in s (class_in s a) ≡ class_in s a
-  pub partition : IsPartition s.classes.items s.members
-  pub uses : AreUses nodes (class_in s) s.uses
+  pub rings : AreRings s.classes.items s.following.items
+  pub uses : AreUses nodes s.uses
 
 -- What is joined is equal; what is equal is joined once the pairs that wait are, and the functions that are stale are looked up anew.
 pub record IsClosing (nodes : List Node) (equations : List (ℕ × ℕ)) (s : Closing) : Type 0 where
@@ -29,17 +29,16 @@ pub record IsClosing (nodes : List Node) (equations : List (ℕ × ℕ)) (s : Cl
 -- one class is joined to another, and the functions of its members are stale
 pub record Merges (old new : Closing) (from to : ℕ) : Type 0 where
   pub classes : new.classes.items ≡ map (joined from to) old.classes.items
-  pub partition : IsPartition new.classes.items new.members
-  pub uses : new.uses ≡ slice_set (slice_set old.uses from []) to
-      (slice_index_or (slice_set old.uses from []) to [] ++ slice_index_or old.uses from [])
+  pub rings : AreRings new.classes.items new.following.items
+  pub uses : new.uses ≡ old.uses
   pub table : new.table ≡ old.table
   pub pending : new.pending.items ≡ old.pending.items
-  pub stale : new.stale.items ≡ old.stale.items ++ slice_index_or old.uses from []
+  pub stale : Stales old.classes.items old.uses from old.stale.items new.stale.items
 
 -- the stale functions are looked up anew
 pub record Refreshes (nodes : List Node) (old new : Closing) : Type 0 where
   pub classes : new.classes.items ≡ old.classes.items
-  pub members : new.members ≡ old.members
+  pub following : new.following.items ≡ old.following.items
   pub uses : new.uses ≡ old.uses
   pub stale : new.stale.items ≡ []
   pub idle : old.stale.items ≡ [] → new.pending.items ≡ old.pending.items

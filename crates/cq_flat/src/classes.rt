@@ -1,56 +1,71 @@
 //! Classes of nodes, which are joined.
-ghost use Rattle.std.specs.Prelude.{◌≡◌, ◌≢◌, ◌<◌, ℕ, [], ◌++◌, length, map, IfOk, OnOk, slice_index, slice_index_or};
-ghost use Rattle.std.specs.Prelude.{slice_set};
+ghost use Rattle.std.specs.Prelude.{◌≡◌, ◌≢◌, ◌<◌, ℕ, length, map, IfOk, OnOk, slice_index};
 ghost use Rattle.std.specs.List.{range_with_len};
-ghost use Rattle.cq_flat.specs.Partition.{Has, IsPartition, joined};
+ghost use Rattle.cq_flat.specs.Closing.{Stales};
+ghost use Rattle.cq_flat.specs.Partition.{AreRings, joined};
 
 use crate::lists::Lists;
 use std::alloc::{AllocError, Global};
 
-/// Each node in a class of its own, by its own number: the classes, and their members.
-pub fn singletons(alloc: Global, count: usize) -> Result<(Vec<u64>, Lists), AllocError>
+/// Each node in a class of its own, by its own number: the classes, and the node that follows each
+/// in the ring of its class.
+pub fn singletons(alloc: Global, count: usize) -> Result<(Vec<u64>, Vec<u64>), AllocError>
     ensures classes { IfOk result (λ made. made.0.items ≡ range_with_len 0 count) }
-    ensures partition { IfOk result (λ made. IsPartition made.0.items made.1) }
+    ensures rings { IfOk result (λ made. AreRings made.0.items made.1.items) }
 {
     let mut classes = Vec::with_capacity(alloc, count)?;
-    let mut members = Lists::new(alloc, count)?;
+    let mut following = Vec::with_capacity(alloc, count)?;
     for node in 0..count {
-        let node = node as u64;
-        classes.push(node)?;
-        members.push(node, node)?;
+        classes.push(node as u64)?;
+        following.push(node as u64)?;
     }
-    Ok((classes, members))
+    Ok((classes, following))
 }
 
-/// Joins one class to another. It takes time in the members of the first.
-pub fn join(
+/// Puts the nodes of a class into another, going once round their ring. What uses one of them
+/// becomes stale.
+pub fn relabel(
     classes: &mut Vec<u64>,
-    members: &mut Lists,
+    stale: &mut Vec<u64>,
+    following: &[u64],
+    uses: &Lists,
     from: u64,
     to: u64,
 ) -> Result<(), AllocError>
-    requires partition { IsPartition classes.old.items members.old }
+    requires rings { AreRings classes.old.items following.now }
     requires from { from < length classes.old.items }
-    requires to { to < length classes.old.items }
+    requires root { slice_index classes.old.items from ≡ from }
     requires differ { from ≢ to }
     ensures classes { OnOk result (classes.new.items ≡ map (joined from to) classes.old.items) }
-    ensures partition { OnOk result (IsPartition classes.new.items members.new) }
+    ensures stale { OnOk result (Stales classes.old.items uses.now from stale.old.items stale.new.items) }
 {
-    let moved = members.take(from);
-    relabel(classes, moved.as_slice(), to);
-    members.extend(to, moved.as_slice())?;
+    let mut node = from;
+    while classes[node as usize] == from {
+        classes[node as usize] = to;
+        stale.extend_from_slice(uses.get(node))?;
+        node = following[node as usize];
+    }
     Ok(())
 }
 
-// Puts some nodes into a class.
-fn relabel(classes: &mut Vec<u64>, moved: &[u64], to: u64)
-    requires { (x : ℕ) → Has moved.now x → x < length classes.old.items }
-    ensures count { length classes.new.items ≡ length classes.old.items }
-    ensures moved { (x : ℕ) → Has moved.now x → slice_index classes.new.items x ≡ to }
-    ensures others { (x : ℕ) → (Has moved.now x → ⊥)
-        → slice_index classes.new.items x ≡ slice_index classes.old.items x }
+/// Whether one ring is no longer than another. Both are gone round at once until one is at its end,
+/// so it takes time in the members of the shorter.
+pub fn is_shorter(following: &[u64], left: u64, right: u64) -> bool
+    requires following { (x : ℕ) → x < length following.now → slice_index following.now x < length following.now }
+    requires left { left < length following.now }
+    requires right { right < length following.now }
 {
-    for node in moved {
-        classes[*node as usize] = to;
+    let mut first = left;
+    let mut second = right;
+    for _i in 0..following.len() {
+        first = following[first as usize];
+        if first == left {
+            return true;
+        }
+        second = following[second as usize];
+        if second == right {
+            return false;
+        }
     }
+    true
 }

@@ -4,7 +4,7 @@ ghost use Rattle.cq_flat.specs.Nodes.{HasEarlierArguments, AreSides};
 ghost use Rattle.cq_flat.specs.Closing.{AreExact, Skips};
 ghost use Rattle.cq_flat.specs.Partition.{Has};
 
-use crate::classes::{join, singletons};
+use crate::classes::{is_shorter, relabel, singletons};
 use crate::entering::enter_all;
 use crate::key::Table;
 use crate::lists::Lists;
@@ -13,13 +13,13 @@ use crate::uses::uses_of;
 use std::alloc::{AllocError, Global};
 use std::mem;
 
-/// The classes so far, their members, the functions that have a member of a class as an argument,
-/// the nodes by their keys, the pairs of nodes that are still to be joined, and the functions whose
-/// arguments were joined since they were looked up.
+/// The classes so far, the node that follows each in the ring of its class, the functions that have
+/// a node as an argument, the nodes by their keys, the pairs of nodes that are still to be joined,
+/// and the functions whose arguments were joined since they were looked up.
 #[derive(Drop)]
 pub struct Closing {
     classes: Vec<u64>,
-    members: Lists,
+    following: Vec<u64>,
     uses: Lists,
     table: Table,
     pending: Vec<(u64, u64)>,
@@ -27,7 +27,7 @@ pub struct Closing {
 }
 
 impl Closing {
-    ghost use Rattle.cq_flat.specs.Partition.{IsPartition};
+    ghost use Rattle.cq_flat.specs.Partition.{AreRings};
     ghost use Rattle.cq_flat.specs.State.{IsClosing, Merges, Refreshes};
     ghost use Rattle.std.specs.Prelude.{◌⊎◌, []};
 
@@ -40,9 +40,9 @@ impl Closing {
         requires sides { AreSides nodes.now equations.items }
         ensures { IfOk result (λ closing. IsClosing nodes.now equations.items closing) }
     {
-        let (classes, members) = singletons(alloc, nodes.len())?;
+        let (classes, following) = singletons(alloc, nodes.len())?;
         let uses = uses_of(alloc, nodes)?;
-        let mut table = Table::with_capacity(alloc, nodes.len())?;
+        let mut table = Table::new(alloc);
         let mut pending = equations;
         enter_all(
             alloc,
@@ -54,7 +54,7 @@ impl Closing {
         )?;
         Ok(Closing {
             classes,
-            members,
+            following,
             uses,
             table,
             pending,
@@ -71,14 +71,15 @@ impl Closing {
 
     // Joins two classes: the one with fewer members to the other.
     fn merge(&mut self, left: u64, right: u64) -> Result<(), AllocError>
-        requires partition { IsPartition self.old.classes.items self.old.members }
-        requires uses { length self.old.uses ≡ length self.old.classes.items }
+        requires rings { AreRings self.old.classes.items self.old.following.items }
         requires left { left < length self.old.classes.items }
         requires right { right < length self.old.classes.items }
+        requires left_root { slice_index self.old.classes.items left ≡ left }
+        requires right_root { slice_index self.old.classes.items right ≡ right }
         requires differ { left ≢ right }
         ensures { OnOk result (Merges self.old self.new left right ⊎ Merges self.old self.new right left) }
     {
-        if self.members.get(left).len() < self.members.get(right).len() {
+        if is_shorter(self.following.as_slice(), left, right) {
             self.join(left, right)?;
         } else {
             self.join(right, left)?;
@@ -86,19 +87,26 @@ impl Closing {
         Ok(())
     }
 
-    // Joins one class to another. The functions of its members are to be looked up anew.
+    // Joins one class to another, in time in the members of the first. What uses one of them is to
+    // be looked up anew.
     fn join(&mut self, from: u64, to: u64) -> Result<(), AllocError>
-        requires partition { IsPartition self.old.classes.items self.old.members }
-        requires uses { length self.old.uses ≡ length self.old.classes.items }
+        requires rings { AreRings self.old.classes.items self.old.following.items }
         requires from { from < length self.old.classes.items }
         requires to { to < length self.old.classes.items }
+        requires from_root { slice_index self.old.classes.items from ≡ from }
+        requires to_root { slice_index self.old.classes.items to ≡ to }
         requires differ { from ≢ to }
         ensures { OnOk result (Merges self.old self.new from to) }
     {
-        join(&mut self.classes, &mut self.members, from, to)?;
-        let moved = self.uses.take(from);
-        self.stale.extend_from_slice(moved.as_slice())?;
-        self.uses.extend(to, moved.as_slice())?;
+        relabel(
+            &mut self.classes,
+            &mut self.stale,
+            self.following.as_slice(),
+            &self.uses,
+            from,
+            to,
+        )?;
+        self.following.swap(from as usize, to as usize);
         Ok(())
     }
 

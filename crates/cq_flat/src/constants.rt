@@ -1,56 +1,60 @@
 //! The constants of classes.
-ghost use Rattle.std.specs.Prelude.{◌≡◌, ◌<◌, ℕ, length, All, IfOk, OnOk, Some, None, slice_index, slice_index_or};
-ghost use Rattle.std.specs.Prelude.{slice_set};
+ghost use Rattle.std.specs.Prelude.{◌≡◌, ◌<◌, length, All, IfOk, Some, option_map};
 ghost use Rattle.std.specs.Ordering.{is_gt, ordering_then};
 ghost use Rattle.cq_theory.specs.Constant.{con_cmp};
-ghost use Rattle.cq_flat.specs.Constants.{AreLeast, IsExcess, lesser, is_replaced, lesser_clash};
+ghost use Rattle.cq_flat.specs.Constants.{AreLeast, IsExcess, constant_at, constants_at};
+ghost use Rattle.cq_flat.specs.Constants.{lesser, is_replaced, lesser_clash};
 
 use crate::node::Node;
 use cq_theory::Con;
 use std::alloc::{AllocError, Global};
 use std::cmp::Ordering;
 
-/// The least constant of each class, if it has one.
+/// The node of the least constant of each class. Where a class has none it is no node.
 pub fn least_constants(
     alloc: Global,
     nodes: &[Node],
     classes: &[u64],
-) -> Result<Vec<Option<Con>>, AllocError>
+) -> Result<Vec<u64>, AllocError>
     requires count { length classes.now ≡ length nodes.now }
     requires within { All (λ class. class < length nodes.now) classes.now }
-    ensures { IfOk result (λ least. AreLeast nodes.now classes.now (length nodes.now) least.items) }
+    ensures { IfOk result (λ least. AreLeast nodes.now classes.now (length nodes.now)
+        (constants_at nodes.now least.items)) }
 {
-    let mut least = vec![in alloc; None; nodes.len()]?;
+    let mut least = vec![in alloc; nodes.len() as u64; nodes.len()]?;
     for (node, content) in nodes.iter().enumerate() {
         if let Node::Const(constant) = content {
-            lower(&mut least, classes[node], constant)?;
+            let class = classes[node];
+            least[class as usize] = lesser_of(nodes, least[class as usize], node as u64, constant);
         }
     }
     Ok(least)
 }
 
-fn lower(least: &mut Vec<Option<Con>>, class: u64, constant: &Con) -> Result<(), AllocError>
-    requires { class < length least.old.items }
-    ensures { OnOk result (least.new.items ≡ slice_set least.old.items class
-        (Some (lesser (slice_index_or least.old.items class None) constant.now))) }
+/// The constant of a node, if the number is that of a constant.
+pub fn constant_at(nodes: &[Node], place: u64) -> Option<&Con>
+    ensures { option_map (λ constant. constant.now) result ≡ constant_at nodes.now place }
 {
-    let lesser = lesser_of(&least[class as usize], constant)?;
-    least[class as usize] = Some(lesser);
-    Ok(())
+    match nodes.get(place as usize) {
+        Some(Node::Const(constant)) => Some(constant),
+        _ => None,
+    }
 }
 
-fn lesser_of(other: &Option<Con>, constant: &Con) -> Result<Con, AllocError>
-    ensures { IfOk result (λ made. made ≡ lesser other.now constant.now) }
+// The node of the lesser one of two constants, of which the first may be missing.
+fn lesser_of(nodes: &[Node], other: u64, node: u64, constant: &Con) -> u64
+    requires { constant_at nodes.now node ≡ Some constant.now }
+    ensures { constant_at nodes.now result ≡ Some (lesser (constant_at nodes.now other) constant.now) }
 {
-    match other {
-        Some(other) => {
-            if other.cmp(constant).is_gt() {
-                Ok(constant.clone()?)
+    match constant_at(nodes, other) {
+        Some(least) => {
+            if least.cmp(constant).is_gt() {
+                node
             } else {
-                Ok(other.clone()?)
+                other
             }
         }
-        None => Ok(constant.clone()?),
+        None => node,
     }
 }
 
@@ -58,17 +62,18 @@ fn lesser_of(other: &Option<Con>, constant: &Con) -> Result<Con, AllocError>
 pub fn clash_of(
     nodes: &[Node],
     classes: &[u64],
-    least: &[Option<Con>],
+    least: &[u64],
 ) -> Result<Option<(Con, Con)>, AllocError>
     requires count { length classes.now ≡ length nodes.now }
     requires least { length least.now ≡ length nodes.now }
     requires within { All (λ class. class < length nodes.now) classes.now }
-    ensures { IfOk result (IsExcess nodes.now classes.now least.now (length nodes.now)) }
+    ensures { IfOk result (IsExcess nodes.now classes.now (constants_at nodes.now least.now) (length nodes.now)) }
 {
     let mut clash = None;
     for (node, content) in nodes.iter().enumerate() {
         if let Node::Const(constant) = content {
-            clash = lesser_clash(clash, &least[classes[node] as usize], constant)?;
+            let least = constant_at(nodes, least[classes[node] as usize]);
+            clash = lesser_clash(clash, least, constant)?;
         }
     }
     Ok(clash)
@@ -76,10 +81,10 @@ pub fn clash_of(
 
 fn lesser_clash(
     clash: Option<(Con, Con)>,
-    least: &Option<Con>,
+    least: Option<&Con>,
     constant: &Con,
 ) -> Result<Option<(Con, Con)>, AllocError>
-    ensures { IfOk result (λ made. made ≡ lesser_clash clash least.now constant.now) }
+    ensures { IfOk result (λ made. made ≡ lesser_clash clash (option_map (λ c. c.now) least.entry) constant.now) }
 {
     let Some(least) = least else { return Ok(clash) };
     if constant.cmp(least).is_gt() && is_replaced(&clash, least, constant) {

@@ -23,7 +23,7 @@ pub fn entries_of(
     requires values { AreValuesOf (length nodes.now) classes.now values.now }
     ensures { IfOk result (λ entries. entries.items ≡ entries_of nodes.now values.now) }
 {
-    let mut table = Table::with_capacity(alloc, nodes.len())?;
+    let mut table = Table::new(alloc);
     let mut entries = Vec::new(alloc);
     for (node, content) in nodes.iter().enumerate() {
         let Node::Fun(function, args) = content else {

@@ -60,14 +60,20 @@ impl Flat {
     {
         let classes = close_classes(alloc, nodes.as_slice(), equations)?;
         let least = least_constants(alloc, nodes.as_slice(), classes.as_slice())?;
-        let (values, nulls) = values_of(alloc, classes.as_slice(), least.as_slice())?;
+        let clash = clash_of(nodes.as_slice(), classes.as_slice(), least.as_slice())?;
+        let (values, nulls) = values_of(
+            alloc,
+            nodes.as_slice(),
+            classes.as_slice(),
+            least.as_slice(),
+        )?;
+        drop(least);
         let entries = entries_of(
             alloc,
             nodes.as_slice(),
             classes.as_slice(),
             values.as_slice(),
         )?;
-        let clash = clash_of(nodes.as_slice(), classes.as_slice(), least.as_slice())?;
         Ok(Flat {
             values: Seq::from_vec(values),
             nulls: Seq::from_vec(nulls),

@@ -107,13 +107,13 @@ impl Model for Table {
 impl Table {
     ghost use Rattle.cq_flat.specs.Keys.{found, same_key};
 
-    /// No nodes, with room for this many.
-    pub fn with_capacity(alloc: Global, count: usize) -> Result<Table, AllocError>
-        ensures { IfOk result (λ table. table ≡ []) }
+    /// No nodes. A table grows with its keys, of which there may be far fewer than nodes.
+    pub fn new(alloc: Global) -> Table
+        ensures { result ≡ [] }
     {
-        Ok(Table {
-            nodes: HashMap::with_capacity_and_hasher(alloc, count, Hashing::new())?,
-        })
+        Table {
+            nodes: HashMap::with_hasher(alloc, Hashing::new()),
+        }
     }
 
     /// Puts a node at a key, and gives the node that was there.

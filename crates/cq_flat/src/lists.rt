@@ -1,19 +1,15 @@
 //! A list of numbers for each of some numbers.
-ghost use Rattle.std.specs.Prelude.{◌≡◌, ◌<◌, ℕ, [], ◌∷◌, ◌++◌, length, IfOk, OnOk, replicate, slice_index_or};
-ghost use Rattle.std.specs.Prelude.{slice_set};
+ghost use Rattle.std.specs.Prelude.{◌≡◌, ◌<◌, ◌≤◌, ℕ, [], ◌∷◌, ◌++◌, length, OnOk, slice_index_or, if◌then◌else◌, ◌==◌};
 
 use smallvec::SmallVec;
 use std::alloc::{AllocError, Global};
 use std::marker::Model;
-use std::mem;
 
-/// A list of numbers. Most lists have at most one, which needs no allocation.
-pub type Numbers = SmallVec<u64, 1>;
-
-/// Numbered lists of numbers.
+/// Numbered lists of numbers, of which most have at most one: these need no allocation. Behind the
+/// last list that has a number there may be none at all, which counts as empty lists.
 #[derive(Drop)]
 pub struct Lists {
-    lists: Vec<Numbers>,
+    lists: Vec<SmallVec<u64, 1>>,
     alloc: Global,
 }
 
@@ -26,52 +22,44 @@ impl Model for Lists {
 }
 
 impl Lists {
-    /// This many empty lists.
-    pub fn new(alloc: Global, count: usize) -> Result<Lists, AllocError>
-        ensures { IfOk result (λ lists. lists ≡ replicate count []) }
+    /// Empty lists. They take no memory.
+    pub fn new(alloc: Global) -> Lists
+        ensures { result ≡ [] }
     {
-        let mut lists = Vec::with_capacity(alloc, count)?;
-        for _i in 0..count {
-            lists.push(SmallVec::new(alloc))?;
+        Lists {
+            lists: Vec::new(alloc),
+            alloc,
         }
-        Ok(Lists { lists, alloc })
     }
 
     pub fn get(&self, at: u64) -> &[u64]
-        requires { at < length self.now }
         ensures { result.now ≡ slice_index_or self.now at [] }
     {
-        let list = &self.lists[at as usize];
-        list.as_slice()
+        match self.lists.get(at as usize) {
+            Some(list) => list.as_slice(),
+            None => &[],
+        }
     }
 
     /// Puts a number at the end of a list.
     pub fn push(&mut self, at: u64, number: u64) -> Result<(), AllocError>
-        requires { at < length self.old }
-        ensures { OnOk result (self.new ≡ slice_set self.old at (slice_index_or self.old at [] ++ number ∷ [])) }
+        ensures { OnOk result ((k : ℕ) → slice_index_or self.new k []
+            ≡ (if k == at then slice_index_or self.old at [] ++ number ∷ [] else slice_index_or self.old k [])) }
     {
+        self.extend_to(at)?;
         let list = &mut self.lists[at as usize];
         list.push(number)?;
         Ok(())
     }
 
-    /// Puts numbers at the end of a list.
-    pub fn extend(&mut self, at: u64, numbers: &[u64]) -> Result<(), AllocError>
-        requires { at < length self.old }
-        ensures { OnOk result (self.new ≡ slice_set self.old at (slice_index_or self.old at [] ++ numbers.now)) }
+    // Makes room for this list and those before it.
+    fn extend_to(&mut self, at: u64) -> Result<(), AllocError>
+        ensures reached { OnOk result (at < length self.new) }
+        ensures same { OnOk result ((k : ℕ) → slice_index_or self.new k [] ≡ slice_index_or self.old k []) }
     {
-        let list = &mut self.lists[at as usize];
-        list.extend_from_slice(numbers)?;
+        while self.lists.len() as u64 <= at {
+            self.lists.push(SmallVec::new(self.alloc))?;
+        }
         Ok(())
-    }
-
-    /// Takes a list out, and leaves an empty one.
-    pub fn take(&mut self, at: u64) -> Numbers
-        requires { at < length self.old }
-        ensures taken { result.items ≡ slice_index_or self.old at [] }
-        ensures left { self.new ≡ slice_set self.old at [] }
-    {
-        let list = &mut self.lists[at as usize];
-        mem::replace(list, SmallVec::new(self.alloc))
     }
 }

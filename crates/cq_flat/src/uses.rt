@@ -1,7 +1,6 @@
 //! The functions that have a node as an argument.
-ghost use Rattle.std.specs.Prelude.{◌≡◌, ◌<◌, ◌⊎◌, ℕ, [], length, All, IfOk, OnOk, slice_index_or};
+ghost use Rattle.std.specs.Prelude.{IfOk, OnOk};
 ghost use Rattle.cq_flat.specs.Nodes.{HasEarlierArguments};
-ghost use Rattle.cq_flat.specs.Partition.{Has};
 ghost use Rattle.cq_flat.specs.Closing.{AreUses, AddsUses};
 
 use crate::lists::Lists;
@@ -11,9 +10,9 @@ use std::alloc::{AllocError, Global};
 /// For each node, the functions that have it as an argument.
 pub fn uses_of(alloc: Global, nodes: &[Node]) -> Result<Lists, AllocError>
     requires { HasEarlierArguments nodes.now }
-    ensures { IfOk result (λ uses. AreUses nodes.now (λ a. a) uses) }
+    ensures { IfOk result (λ uses. AreUses nodes.now uses) }
 {
-    let mut uses = Lists::new(alloc, nodes.len())?;
+    let mut uses = Lists::new(alloc);
     for (node, content) in nodes.iter().enumerate() {
         if let Node::Fun(_, args) = content {
             add_uses(&mut uses, node as u64, args.as_slice())?;
@@ -23,7 +22,6 @@ pub fn uses_of(alloc: Global, nodes: &[Node]) -> Result<Lists, AllocError>
 }
 
 fn add_uses(uses: &mut Lists, node: u64, args: &[u64]) -> Result<(), AllocError>
-    requires { All (λ arg. arg < length uses.old) args.now }
     ensures { OnOk result (AddsUses uses.old uses.new node args.now) }
 {
     for arg in args {

@@ -15,7 +15,7 @@ use crate::ids::Id;
 use crate::labels::{Labels, Trouble, note_labels, value_term};
 use crate::refusal::CsvRefusal;
 use crate::rows::bad_cell;
-use cq_base::Seq;
+use cq_base::{Seq, SharedTexts};
 use cq_theory::{EntTerm, Equation, Schema, TypeTerm, Typeside, Value};
 use std::alloc::{AllocError, Global};
 
@@ -32,11 +32,12 @@ pub struct Context<'a> {
     pub room: Option<u32>,
 }
 
-/// The labels and the equations that were read.
+/// The labels and the equations that were read, and the texts of their constants.
 #[derive(Drop)]
 pub struct Made {
     pub labels: Labels,
     pub equations: Vec<Equation>,
+    pub texts: SharedTexts,
 }
 
 /// A field with its place and the generator of its record.
@@ -214,7 +215,7 @@ fn read_attribute(
 {
     let schema: &Schema = context.schema;
     let typeside: &Typeside = &schema.typeside;
-    match read_content(context.alloc, typeside, sort, cell.field)? {
+    match read_content(context.alloc, &mut made.texts, typeside, sort, cell.field)? {
         Content::Blank => Ok(()),
         Content::Wrong => Err(wrong(context, cell)),
         Content::Means(value) => {

@@ -3,7 +3,7 @@ ghost use Rattle.std.specs.Prelude.{◌≡◌, IfOk};
 ghost use Rattle.cq_import.specs.Cells.{constant_content as content_of_constant, content_of, constant_of_name};
 ghost use Rattle.cq_import.specs.Cells.{found as content_found, typed_constant as content_typed};
 
-use cq_base::{Name, NameRefusal};
+use cq_base::{Name, NameRefusal, SharedTexts};
 use cq_theory::{Con, Typeside, Value};
 use cq_values::read_value;
 use std::alloc::{AllocError, Global};
@@ -38,7 +38,7 @@ fn typed_constant(typeside: &Typeside, sort: u32, constant: Con) -> Content
 
 /// The constant with this content: the declared one, or else the open one.
 fn constant_content(
-    alloc: Global,
+    texts: &mut SharedTexts,
     typeside: &Typeside,
     sort: u32,
     field: &[u8],
@@ -48,7 +48,7 @@ fn constant_content(
     let Ok(text) = str::from_utf8(field) else {
         return Ok(Content::Wrong);
     };
-    match Name::new(alloc, text) {
+    match texts.name(text) {
         Ok(name) => Ok(named_content(typeside, sort, name)),
         Err(NameRefusal::Long) => Ok(Content::Wrong),
         Err(NameRefusal::Memory) => Err(AllocError),
@@ -64,9 +64,10 @@ fn named_content(typeside: &Typeside, sort: u32, name: Name) -> Content
     }
 }
 
-/// What a field means in the column of an attribute of this type.
+/// What a field means in the column of an attribute of this type. Equal texts of different cells share their memory.
 pub fn read_content(
     alloc: Global,
+    texts: &mut SharedTexts,
     typeside: &Typeside,
     sort: u32,
     field: &[u8],
@@ -77,6 +78,6 @@ pub fn read_content(
         None => Ok(Content::Blank),
         Some((b'?', _)) => Ok(found(read_value(alloc, typeside, sort, field)?)),
         Some((b'=', text)) => Ok(found(read_value(alloc, typeside, sort, text)?)),
-        Some(_) => constant_content(alloc, typeside, sort, field),
+        Some(_) => constant_content(texts, typeside, sort, field),
     }
 }

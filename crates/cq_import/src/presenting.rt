@@ -19,7 +19,7 @@ use crate::generators::push_row_sorts;
 use crate::labels::Labels;
 use crate::refusal::CsvRefusal;
 use crate::tables::read_cells;
-use cq_base::Seq;
+use cq_base::{Seq, SharedTexts};
 use cq_terms::name_generators;
 use cq_theory::{Presentation, Schema};
 use std::alloc::{AllocError, Global};
@@ -57,7 +57,11 @@ pub fn finish(context: &Context, made: Made) -> Result<Presentation, AllocError>
         ++ map (λ u. Plain u.1) made.labels)) }
     ensures equations { IfOk result (λ p. p.equations ≡ made.equations.items) }
 {
-    let Made { labels, equations } = made;
+    let Made {
+        labels,
+        equations,
+        ..
+    } = made;
     let mut sorts = Vec::new(context.alloc);
     push_row_sorts(context.files, &mut sorts)?;
     labels.push_sorts(&mut sorts)?;
@@ -90,6 +94,7 @@ fn present_cells(context: &Context) -> Result<Presentation, CsvRefusal>
     let mut made = Made {
         labels: Labels::new(context.alloc),
         equations: Vec::new(context.alloc),
+        texts: SharedTexts::new(context.alloc),
     };
     if let Err(refusal) = read_cells(context, &mut made) {
         return Err(refusal);

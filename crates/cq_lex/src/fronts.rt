@@ -10,6 +10,7 @@ use crate::comment::{behind_block, behind_line};
 use crate::fault::Fault;
 use crate::text::{name_of, text};
 use crate::token::{Kind, Mark};
+use cq_base::SharedTexts;
 use std::alloc::Global;
 
 /// What stands at the front, with the bytes behind it.
@@ -21,11 +22,11 @@ pub(crate) enum Front<'a> {
     Token(Kind, &'a [u8]),
 }
 
-fn word<'a>(alloc: Global, bytes: &'a [u8]) -> Result<Front<'a>, Fault<'a>>
+fn word<'a>(texts: &mut SharedTexts, bytes: &'a [u8]) -> Result<Front<'a>, Fault<'a>>
     ensures { Gives result (found.at_word (prefix_len rules.is_word_byte bytes.now) bytes.now) }
 {
     let (front, rest) = bytes.split_at(word_len(bytes));
-    let name = name_of(alloc, bytes, front)?;
+    let name = name_of(texts, bytes, front)?;
     Ok(Front::Token(Kind::Word(name), rest))
 }
 
@@ -54,9 +55,13 @@ fn mark<'a>(bytes: &'a [u8], first: u8, after: &'a [u8]) -> Result<Front<'a>, Fa
     }
 }
 
-/// What stands at the front of the bytes.
+/// What stands at the front of the bytes. Names of equal texts share their memory.
 #[tactic(auto, unfolding(crate::specs::Front::front))]
-pub(crate) fn front_of<'a>(alloc: Global, bytes: &'a [u8]) -> Result<Front<'a>, Fault<'a>>
+pub(crate) fn front_of<'a>(
+    alloc: Global,
+    texts: &mut SharedTexts,
+    bytes: &'a [u8],
+) -> Result<Front<'a>, Fault<'a>>
     ensures { Gives result (found.front bytes.now) }
 {
     let Some((first, after)) = bytes.split_first() else {
@@ -66,9 +71,9 @@ pub(crate) fn front_of<'a>(alloc: Global, bytes: &'a [u8]) -> Result<Front<'a>, 
     if is_blank(first) {
         Ok(Front::Gap(after))
     } else if is_word_byte(first) {
-        word(alloc, bytes)
+        word(texts, bytes)
     } else if first == b'"' {
-        text(alloc, bytes, after)
+        text(alloc, texts, bytes, after)
     } else if first == b'/' {
         slash(bytes, after)
     } else {

@@ -7,17 +7,21 @@ use crate::bytes::{escape, plain_len};
 use crate::fault::Fault;
 use crate::fronts::Front;
 use crate::token::Kind;
-use cq_base::{Name, NameRefusal};
+use cq_base::{Name, NameRefusal, SharedTexts};
 use std::alloc::Global;
 
 /// The name whose bytes are `content`, for a token that begins at `token`.
-pub(crate) fn name_of<'a>(alloc: Global, token: &'a [u8], content: &[u8]) -> Result<Name, Fault<'a>>
+pub(crate) fn name_of<'a>(
+    texts: &mut SharedTexts,
+    token: &'a [u8],
+    content: &[u8],
+) -> Result<Name, Fault<'a>>
     ensures { Names result content.now token.now }
 {
     let Ok(text) = str::from_utf8(content) else {
         return Err(Fault::BadByte(token));
     };
-    match Name::new(alloc, text) {
+    match texts.name(text) {
         Ok(name) => Ok(name),
         Err(NameRefusal::Long) => Err(Fault::LongName(token)),
         Err(NameRefusal::Memory) => Err(Fault::Memory),
@@ -61,6 +65,7 @@ fn content<'a>(
 /// A text without a backslash is its own content, so it is copied into its name alone.
 pub(crate) fn text<'a>(
     alloc: Global,
+    texts: &mut SharedTexts,
     token: &'a [u8],
     bytes: &'a [u8],
 ) -> Result<Front<'a>, Fault<'a>>
@@ -68,10 +73,10 @@ pub(crate) fn text<'a>(
 {
     let (plain, behind) = bytes.split_at(plain_len(bytes));
     if let Some((b'"', rest)) = behind.split_first() {
-        let name = name_of(alloc, token, plain)?;
+        let name = name_of(texts, token, plain)?;
         return Ok(Front::Token(Kind::Text(name), rest));
     }
     let (content, rest) = content(alloc, token, bytes)?;
-    let name = name_of(alloc, token, content.as_slice())?;
+    let name = name_of(texts, token, content.as_slice())?;
     Ok(Front::Token(Kind::Text(name), rest))
 }

@@ -16,11 +16,11 @@ use Rattle.cq_theory.specs.declared.presentation.Presentation.{Presentation}
 use Rattle.cq_theory.specs.declared.term.Term.{Term}
 use Rattle.cq_theory.specs.Sorts.{sort_of}
 use Rattle.cq_theory.specs.Derivation.{left_of, right_of}
-use Rattle.cq_theory.specs.Presentation.{IsSort, IsEquation, IsPresentation, term_symbols}
+use Rattle.cq_theory.specs.Presentation.{IsSort, IsEquation, IsPresentation, term_symbols, is_long, has_long_side}
 use Rattle.cq_mapping.specs.MappingData.{MappingData as Mapping}
 use Rattle.cq_mapping.specs.Images.{term_image, sort_image, equation_image, generator_images, sigma}
 use Rattle.cq_mapping.specs.Mapping.{IsMapping}
-use Rattle.cq_mapping.specs.Duties.{is_long, has_long_side, is_too_large}
+use Rattle.cq_mapping.specs.Duties.{is_too_large}
 use Rattle.cq_mapping.proofs.Imaged.{sort_of-image}
 
 pub any_image : {X Y : Type 0} (p : Y → Bool) (f : X → Y) (xs : List X) (i : ℕ) (x : X) → i < length xs → x ≡ get_or xs i x → p (f x) ≡ true → true ≡ list_any p (map f xs)

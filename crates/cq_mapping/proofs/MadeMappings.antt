@@ -29,6 +29,7 @@ use Rattle.cq_theory.specs.declared.term.TypeTerm.TheVariants.{Const}
 use Rattle.cq_theory.specs.TypeTerm.{symbols_of, symbols_step}
 use Rattle.cq_theory.specs.Sorts.{followed, target_of, type_of, type_step}
 use Rattle.cq_theory.specs.Schema.{IsSchema, edge_names, one_of}
+use Rattle.cq_theory.specs.ArrowRefusals.{of_arrow, first_missing}
 use Rattle.cq_theory.specs.Resolve.{or_else, sort_named, symbol_of, entity_in, raw_sort, same_sort, are_of_one_sort, in_part}
 use Rattle.cq_theory.specs.Declaring.{number_or_zero}
 use Rattle.cq_theory.specs.Paths.{is_among, path_keys, path_start, path_end}
@@ -42,10 +43,10 @@ use Rattle.cq_theory.proofs.OnValues.{All_at}
 use Rattle.cq_mapping.specs.MappingData.{MappingData as Mapping}
 use Rattle.cq_mapping.specs.Images.{key_image, attribute_image}
 use Rattle.cq_mapping.specs.Mapping.{IsMapping, IsKeyImage, IsAttributeImage}
-use Rattle.cq_mapping.specs.MappingParts.{of_mapping, first_missing, entity_ends_fault, entity_part_fault, entity_parts_fault, given_entities, given_arrows, made_entity, made_entities, variables_of, are_ends, has_unknown_image, has_wrong_count_image, has_reserved_image, is_too_large_image, is_stated, is_image_of_key, is_image_of_attribute, made_path, made_term, path_term, path_in, term_in, made_key, made_attribute, is_right_key, is_right_attribute, is_right, arrow_fault, arrow_part_fault, arrows_fault, arrows_and_rest_fault, made_over, mapping_fault, mapping_made}
+use Rattle.cq_mapping.specs.MappingParts.{entity_ends_fault, entity_part_fault, entity_parts_fault, given_entities, given_arrows, made_entity, made_entities, variables_of, are_ends, has_unknown_image, has_wrong_count_image, has_reserved_image, is_too_large_image, is_stated, is_image_of_key, is_image_of_attribute, made_path, made_term, path_term, path_in, term_in, made_key, made_attribute, is_right_key, is_right_attribute, is_right, arrow_fault, arrow_part_fault, arrows_fault, arrows_and_rest_fault, made_over, mapping_fault, mapping_made}
 use Rattle.cq_mapping.proofs.Named.{found_name, get_mapped, symbol_of-key, symbol_of-attribute}
 
-no_refusal : (o : Option TheoryRefusal) → option_map of_mapping o ≡ None → o ≡ None
+no_refusal : (o : Option TheoryRefusal) → option_map of_arrow o ≡ None → o ≡ None
 no_refusal None h = refl
 no_refusal (Some r) h = cc
 
@@ -246,9 +247,9 @@ module _ (S T : Schema) (source : IsSchema S) (target : IsSchema T) where
   no_part = record { block = []; name = []; image = image.Key [] }
 
   module _ (images : List ℕ) (n : ℕ) (arrows : List ArrowPart) (none : arrows_and_rest_fault S T images n arrows ≡ None) where
-    rest : (option_map of_mapping (arrows_fault S T images n arrows) ≡ None)
+    rest : (option_map of_arrow (arrows_fault S T images n arrows) ≡ None)
         × (or_else (first_missing (given_arrows arrows) (edge_names S.keys)) (first_missing (given_arrows arrows) (edge_names S.attributes)) ≡ None)
-    rest = or_else_none (option_map of_mapping (arrows_fault S T images n arrows)) (or_else (first_missing (given_arrows arrows) (edge_names S.keys)) (first_missing (given_arrows arrows) (edge_names S.attributes))) none
+    rest = or_else_none (option_map of_arrow (arrows_fault S T images n arrows)) (or_else (first_missing (given_arrows arrows) (edge_names S.keys)) (first_missing (given_arrows arrows) (edge_names S.attributes))) none
 
     missing : (first_missing (given_arrows arrows) (edge_names S.keys) ≡ None) × (first_missing (given_arrows arrows) (edge_names S.attributes) ≡ None)
     missing = or_else_none (first_missing (given_arrows arrows) (edge_names S.keys)) (first_missing (given_arrows arrows) (edge_names S.attributes)) rest.1
@@ -332,7 +333,7 @@ module _ (S T : Schema) (source : IsSchema S) (target : IsSchema T) where
   pub mapping_made-is : (parts : MappingParts) → S.typeside ≡ T.typeside → mapping_fault S T parts ≡ None → IsMapping (mapping_made S T parts)
   mapping_made-is parts typeside none =
       let images : List ℕ = made_entities S T parts.entities in
-      let first = or_else_none (option_map of_mapping (entity_parts_fault S T parts.entities))
+      let first = or_else_none (option_map of_arrow (entity_parts_fault S T parts.entities))
       (or_else (first_missing (given_entities parts.entities) S.entities) (arrows_and_rest_fault S T images (length parts.entities) parts.arrows)) none in
       let second = or_else_none (first_missing (given_entities parts.entities) S.entities) (arrows_and_rest_fault S T images (length parts.entities) parts.arrows) first.1 in
       record {
@@ -358,8 +359,8 @@ module _ (S T : Schema) (parts : MappingParts) (entities : List (Name × Name)) 
   -- the fault of the parts is that of those after the entities
   pub mapping_fault-after : mapping_fault S T parts ≡ arrows_and_rest_fault S T images first arrows
   mapping_fault-after =
-      ap (λ l. or_else (option_map of_mapping (entity_parts_fault S T l)) (or_else (first_missing (given_entities l) S.entities) (arrows_and_rest_fault S T (made_entities S T parts.entities) (length parts.entities) parts.arrows))) (sym same_entities)
-      ∙ ap (λ o. or_else (option_map of_mapping o) (or_else (first_missing (given_entities entities) S.entities) (arrows_and_rest_fault S T (made_entities S T parts.entities) (length parts.entities) parts.arrows))) right.0
+      ap (λ l. or_else (option_map of_arrow (entity_parts_fault S T l)) (or_else (first_missing (given_entities l) S.entities) (arrows_and_rest_fault S T (made_entities S T parts.entities) (length parts.entities) parts.arrows))) (sym same_entities)
+      ∙ ap (λ o. or_else (option_map of_arrow o) (or_else (first_missing (given_entities entities) S.entities) (arrows_and_rest_fault S T (made_entities S T parts.entities) (length parts.entities) parts.arrows))) right.0
       ∙ ap (λ o. or_else o (arrows_and_rest_fault S T (made_entities S T parts.entities) (length parts.entities) parts.arrows)) right.1
       ∙ arrows_next
 
@@ -385,13 +386,13 @@ either_first (Some y) b c x h = h
 
 -- a refusal of the parts of entities is one of the parts
 pub refused_first : (S T : Schema) (parts : MappingParts) (entities : List (Name × Name)) → entities ≡ parts.entities → (refusal : ArrowRefusal)
-    → (refusal ≡ Memory) ⊎ (or_else (option_map of_mapping (entity_parts_fault S T entities)) (first_missing (given_entities entities) S.entities) ≡ Some refusal)
+    → (refusal ≡ Memory) ⊎ (or_else (option_map of_arrow (entity_parts_fault S T entities)) (first_missing (given_entities entities) S.entities) ≡ Some refusal)
     → (refusal ≡ Memory) ⊎ (mapping_fault S T parts ≡ Some refusal)
 refused_first S T parts entities same refusal (inl h) = inl h
 refused_first S T parts entities same refusal (inr h) =
-    let here : or_else (option_map of_mapping (entity_parts_fault S T parts.entities)) (first_missing (given_entities parts.entities) S.entities) ≡ Some refusal =
-    ap (λ l. or_else (option_map of_mapping (entity_parts_fault S T l)) (first_missing (given_entities l) S.entities)) (sym same) ∙ h in
-    inr (either_first (option_map of_mapping (entity_parts_fault S T parts.entities)) (first_missing (given_entities parts.entities) S.entities)
+    let here : or_else (option_map of_arrow (entity_parts_fault S T parts.entities)) (first_missing (given_entities parts.entities) S.entities) ≡ Some refusal =
+    ap (λ l. or_else (option_map of_arrow (entity_parts_fault S T l)) (first_missing (given_entities l) S.entities)) (sym same) ∙ h in
+    inr (either_first (option_map of_arrow (entity_parts_fault S T parts.entities)) (first_missing (given_entities parts.entities) S.entities)
     (arrows_and_rest_fault S T (made_entities S T parts.entities) (length parts.entities) parts.arrows) refusal here)
 
 -- a refusal of the other parts is one of the parts
@@ -432,10 +433,10 @@ module _ (S T S₁ T₁ S₂ T₂ : Schema) (parts : MappingParts) (entities : L
     new_is source target typeside none = subst IsMapping (sym new_made) (mapping_made-is S T source target parts typeside (new_fault ∙ none))
 
 pub new_refused : (S T S₁ T₁ : Schema) (parts : MappingParts) (entities : List (Name × Name)) → S₁ ≡ S → T₁ ≡ T → entities ≡ parts.entities → (refusal : ArrowRefusal)
-    → (refusal ≡ Memory) ⊎ (or_else (option_map of_mapping (entity_parts_fault S₁ T₁ entities)) (first_missing (given_entities entities) S₁.entities) ≡ Some refusal)
+    → (refusal ≡ Memory) ⊎ (or_else (option_map of_arrow (entity_parts_fault S₁ T₁ entities)) (first_missing (given_entities entities) S₁.entities) ≡ Some refusal)
     → (refusal ≡ Memory) ⊎ (mapping_fault S T parts ≡ Some refusal)
 new_refused S T S₁ T₁ parts entities source target same refusal h =
     let Told : Schema × Schema → Type 0 = λ x.
-    (refusal ≡ Memory) ⊎ (or_else (option_map of_mapping (entity_parts_fault x.0 x.1 entities)) (first_missing (given_entities entities) x.0.entities) ≡ Some refusal) in
+    (refusal ≡ Memory) ⊎ (or_else (option_map of_arrow (entity_parts_fault x.0 x.1 entities)) (first_missing (given_entities entities) x.0.entities) ≡ Some refusal) in
     let both : (S₁, T₁) ≡ (S, T) = λ i. (source i, target i) in
     refused_first S T parts entities same refusal (subst Told both h)

@@ -1,14 +1,12 @@
 -- What a mapping has to preserve: the equations of its source.
-use Rattle.std.specs.Prelude.{ℕ, Bool, List, [], ◌++◌, ◌||◌, Some, ◌≡◌, map, nat_lt, slice_get}
+use Rattle.std.specs.Prelude.{ℕ, Bool, List, [], ◌++◌, Some, ◌≡◌, map, slice_get}
 use Rattle.std.specs.List.{list_any}
-use Rattle.cq_theory.specs.declared.presentation.Equation.{Equation}
 use Rattle.cq_theory.specs.declared.presentation.Equation.TheVariants.{Ent, Typ}
 use Rattle.cq_theory.specs.declared.presentation.Presentation.{Presentation}
 use Rattle.cq_theory.specs.declared.schema.PathEq.{PathEq}
 use Rattle.cq_theory.specs.declared.schema.ObsEq.{ObsEq}
-use Rattle.cq_theory.specs.declared.term.Term.{Term}
 use Rattle.cq_theory.specs.Schema.{one_of}
-use Rattle.cq_theory.specs.Presentation.{term_symbols}
+use Rattle.cq_theory.specs.Presentation.{has_long_side}
 use Rattle.cq_theory.specs.Derivation.{left_of, right_of, Derives}
 use Rattle.cq_mapping.specs.declared.duties.Duty.{Duty}
 use Rattle.cq_mapping.specs.MappingData.{MappingData as Mapping}
@@ -41,13 +39,6 @@ IsDerivable F duty = Derives F.target (one_generator duty.schema_entity) (left_o
 -- each duty is derivable
 abbrev pub Preserves : Mapping → Type 0
 Preserves F = (n : ℕ) (duty : Duty) → slice_get (duties_of F) n ≡ Some duty → IsDerivable F duty
-
--- over 1,024 symbols
-abbrev pub is_long : Term → Bool
-is_long t = nat_lt 1024 (term_symbols t)
-
-abbrev pub has_long_side : Equation → Bool
-has_long_side e = is_long (left_of e) || is_long (right_of e)
 
 -- some side of the image of the presentation has over 1,024 symbols
 abbrev pub is_too_large : Mapping → Presentation → Bool

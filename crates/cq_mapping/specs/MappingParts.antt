@@ -10,8 +10,6 @@ use Rattle.cq_theory.specs.declared.lookup.TermRefusal.TheVariants as term_refus
 use Rattle.cq_theory.specs.declared.lookup.TheoryRefusal.{TheoryRefusal}
 use Rattle.cq_theory.specs.declared.lookup.TheoryRefusal.TheVariants as theory_refusal
 use Rattle.cq_theory.specs.declared.lookup.ArrowRefusal.{ArrowRefusal}
-use Rattle.cq_theory.specs.declared.lookup.ArrowRefusal.TheVariants.{Duplicate, Unknown, WrongCount, WrongSort, Reserved, TooLarge, Missing}
-use Rattle.cq_theory.specs.declared.lookup.ArrowRefusal.TheVariants.{Memory}
 use Rattle.cq_theory.specs.declared.parts.MappingParts.{MappingParts}
 use Rattle.cq_theory.specs.declared.parts.ArrowPart.{ArrowPart}
 use Rattle.cq_theory.specs.declared.parts.ArrowImage.{ArrowImage}
@@ -23,6 +21,7 @@ use Rattle.cq_theory.specs.SchemaData.{SchemaData as Schema}
 use Rattle.cq_theory.specs.declared.constant.Con.TheVariants.{Named}
 use Rattle.cq_theory.specs.declared.term.TypeTerm.{TypeTerm}
 use Rattle.cq_theory.specs.declared.term.TypeTerm.TheVariants.{Const, Att}
+use Rattle.cq_theory.specs.ArrowRefusals.{of_arrow, first_missing}
 use Rattle.cq_theory.specs.Schema.{edge_names}
 use Rattle.cq_theory.specs.Resolve as resolve
 use Rattle.cq_theory.specs.Resolve.{or_else, sort_named, symbol_of, entity_in, has_unknown, has_wrong_count, has_reserved, raw_sort}
@@ -33,21 +32,6 @@ use Rattle.cq_theory.specs.Paths.{is_among, has_unknown_name, path_keys}
 use Rattle.cq_theory.specs.Routes.{is_at, path_attribute, path_ends, path_symbols}
 use Rattle.cq_theory.specs.SchemaParts.{is_unknown_entity}
 use Rattle.cq_mapping.specs.MappingData.{MappingData as Mapping}
-
--- the same refusal, of a mapping
-abbrev pub of_mapping : TheoryRefusal → ArrowRefusal
-of_mapping (theory_refusal.Duplicate n) = Duplicate n
-of_mapping (theory_refusal.Unknown n) = Unknown n
-of_mapping (theory_refusal.WrongCount n) = WrongCount n
-of_mapping (theory_refusal.WrongSort n) = WrongSort n
-of_mapping (theory_refusal.Reserved n) = Reserved n
-of_mapping (theory_refusal.TooLarge n) = TooLarge n
-of_mapping theory_refusal.Memory = Memory
-
--- the first of the wanted names that isn't given
-abbrev pub first_missing : List Name → List Name → Option ArrowRefusal
-first_missing given [] = None
-first_missing given (name ∷ names) = if is_among given name then first_missing given names else Some (Missing name)
 
 module _ (S T : Schema) where
   -- a name of part n isn't declared, or a type stands in the place of an entity
@@ -207,7 +191,7 @@ module _ (S T : Schema) (entities : List ℕ) where
   -- the faults after the entities have images: those of the arrows, the first of which is part n, and then what has no image
   abbrev pub arrows_and_rest_fault : ℕ → List ArrowPart → Option ArrowRefusal
   arrows_and_rest_fault n arrows =
-      or_else (option_map of_mapping (arrows_fault n arrows))
+      or_else (option_map of_arrow (arrows_fault n arrows))
       (or_else (first_missing (given_arrows arrows) (edge_names S.keys))
       (first_missing (given_arrows arrows) (edge_names S.attributes)))
 
@@ -224,7 +208,7 @@ module _ (S T : Schema) (entities : List ℕ) where
 -- without an image.
 abbrev pub mapping_fault : Schema → Schema → MappingParts → Option ArrowRefusal
 mapping_fault S T parts =
-    or_else (option_map of_mapping (entity_parts_fault S T parts.entities))
+    or_else (option_map of_arrow (entity_parts_fault S T parts.entities))
     (or_else (first_missing (given_entities parts.entities) S.entities)
     (arrows_and_rest_fault S T (made_entities S T parts.entities) (length parts.entities) parts.arrows))
 

@@ -1,17 +1,18 @@
 //! The images of foreign keys and attributes.
 ghost use Rattle.std.specs.Prelude.{◌≡◌, ◌-◌, ◌+◌, ◌<◌, ◌^◌, ◌⊎◌, ◌++◌, ◌∷◌, [], IfOk, IfErr, Some, None, length, map};
 ghost use Rattle.std.specs.Prelude.{option_map};
+ghost use Rattle.cq_theory.specs.ArrowRefusals.{first_missing};
 ghost use Rattle.cq_theory.specs.Resolve.{or_else, in_part};
 ghost use Rattle.cq_theory.specs.Schema.{edge_names};
-ghost use Rattle.cq_mapping.specs.MappingParts.{first_missing, variables_of, arrow_fault as fault_of_arrow};
+ghost use Rattle.cq_mapping.specs.MappingParts.{variables_of, arrow_fault as fault_of_arrow};
 ghost use Rattle.cq_mapping.specs.MappingParts.{arrows_fault, given_arrows, path_term};
 ghost use Rattle.cq_mapping.specs.MappingParts.{made_path as path_made, made_term as term_made, made_key};
 ghost use Rattle.cq_mapping.specs.MappingParts.{made_attribute, arrows_and_rest_fault};
 
-use crate::blocks::{check_edges, of_mapping};
-use crate::rules::{arrow_fault_over, image_of};
-use cq_base::{Name, Names, Seq};
-use cq_theory::lookup::{build, declare, in_part_of, path_keys, table_of, type_term};
+use crate::blocks::check_edges;
+use crate::rules::arrow_fault_over;
+use cq_base::{Name, Names, Seq, number_at};
+use cq_theory::lookup::{build, declare, in_part_of, of_arrow, path_keys, table_of, type_term};
 use cq_theory::route::path_attribute;
 use cq_theory::{
     ArrowImage, ArrowPart, ArrowRefusal, Con, Edge, EntTerm, Schema, Sort, TheoryRefusal, TypeTerm,
@@ -200,7 +201,12 @@ fn make_attribute(
     };
     match parts.get(place as usize) {
         Some(part) => {
-            let made = make_term(alloc, target, image_of(entities, edge.from), &part.image)?;
+            let made = make_term(
+                alloc,
+                target,
+                number_at(entities, edge.from as usize),
+                &part.image,
+            )?;
             Ok(made)
         }
         None => Ok(TypeTerm::Const(Con::Named(0))),
@@ -245,7 +251,7 @@ pub(crate) fn make_arrows(
 {
     match add_arrows(alloc, source, target, entities, first, parts) {
         Ok(given) => finish_arrows(alloc, source, target, entities, &given, parts),
-        Err(refusal) => Err(of_mapping(refusal)),
+        Err(refusal) => Err(of_arrow(refusal)),
     }
 }
 
@@ -267,10 +273,8 @@ fn finish_arrows(
 {
     check_edges(given, source.keys.as_slice())?;
     check_edges(given, source.attributes.as_slice())?;
-    match build_arrows(alloc, source, target, entities, given, parts) {
-        Ok(made) => Ok(made),
-        Err(_) => Err(ArrowRefusal::Memory),
-    }
+    let made = build_arrows(alloc, source, target, entities, given, parts)?;
+    Ok(made)
 }
 
 fn build_arrows(

@@ -1,56 +1,18 @@
 //! The images of entities.
 ghost use Rattle.std.specs.Prelude.{◌≡◌, ◌-◌, ◌<◌, ◌^◌, ◌⊎◌, ◌++◌, ◌∷◌, [], IfOk, IfErr, Some, None, length, map};
 ghost use Rattle.std.specs.Prelude.{option_map};
+ghost use Rattle.cq_theory.specs.ArrowRefusals.{of_arrow as refusal_of_arrow, first_missing};
 ghost use Rattle.cq_theory.specs.Resolve.{or_else};
 ghost use Rattle.cq_theory.specs.Schema.{edge_names};
-ghost use Rattle.cq_mapping.specs.MappingParts.{of_mapping as refusal_of_mapping, first_missing};
 ghost use Rattle.cq_mapping.specs.MappingParts.{entity_ends_fault as fault_of_ends, entity_part_fault};
 ghost use Rattle.cq_mapping.specs.MappingParts.{entity_parts_fault, given_entities, made_entity, made_entities};
 
 use cq_base::{Name, Names};
-use cq_theory::lookup::{declare, entity_of_sort};
+use cq_theory::lookup::{check_given, declare, entity_of_sort, missing, of_arrow};
 use cq_theory::{ArrowRefusal, Edge, Schema, TheoryRefusal};
 use std::alloc::{AllocError, Global};
 
-/// The same refusal, of a mapping.
-pub(crate) fn of_mapping(refusal: TheoryRefusal) -> ArrowRefusal
-    ensures { result ≡ refusal_of_mapping refusal }
-{
-    match refusal {
-        TheoryRefusal::Duplicate(part) => ArrowRefusal::Duplicate(part),
-        TheoryRefusal::Unknown(part) => ArrowRefusal::Unknown(part),
-        TheoryRefusal::WrongCount(part) => ArrowRefusal::WrongCount(part),
-        TheoryRefusal::WrongSort(part) => ArrowRefusal::WrongSort(part),
-        TheoryRefusal::Reserved(part) => ArrowRefusal::Reserved(part),
-        TheoryRefusal::TooLarge(part) => ArrowRefusal::TooLarge(part),
-        TheoryRefusal::Memory => ArrowRefusal::Memory,
-    }
-}
-
-fn missing(name: &Name) -> ArrowRefusal
-    ensures { (result ≡ ArrowRefusal.Memory) ⊎ (result ≡ ArrowRefusal.Missing name.now) }
-{
-    match name.clone() {
-        Ok(name) => ArrowRefusal::Missing(name),
-        Err(_) => ArrowRefusal::Memory,
-    }
-}
-
-/// Whether each name is given. Otherwise the first one that isn't.
-fn check_given(given: &Names, names: &[Name]) -> Result<(), ArrowRefusal>
-    ensures accepted { IfOk result (λ _. first_missing given.now names.now ≡ None) }
-    ensures refused { IfErr result (λ refusal. (refusal ≡ ArrowRefusal.Memory)
-        ⊎ (first_missing given.now names.now ≡ Some refusal)) }
-{
-    for name in names {
-        if given.find(name).is_none() {
-            return Err(missing(name));
-        }
-    }
-    Ok(())
-}
-
-/// The same of foreign keys or attributes.
+/// Whether each foreign key or attribute is given. Otherwise the first one that isn't.
 pub(crate) fn check_edges(given: &Names, edges: &[Edge]) -> Result<(), ArrowRefusal>
     ensures accepted { IfOk result (λ _. first_missing given.now (edge_names edges.now) ≡ None) }
     ensures refused { IfErr result (λ refusal. (refusal ≡ ArrowRefusal.Memory)
@@ -172,12 +134,12 @@ pub(crate) fn make_entities(
         × (first_missing (given_entities parts.now) source.now.entities ≡ None)) }
     ensures made { IfOk result (λ images. images.items ≡ made_entities source.now target.now parts.now) }
     ensures refused { IfErr result (λ refusal. (refusal ≡ ArrowRefusal.Memory)
-        ⊎ (or_else (option_map refusal_of_mapping (entity_parts_fault source.now target.now parts.now))
+        ⊎ (or_else (option_map refusal_of_arrow (entity_parts_fault source.now target.now parts.now))
         (first_missing (given_entities parts.now) source.now.entities) ≡ Some refusal)) }
 {
     match add_entities(alloc, source, target, parts) {
         Ok(given) => finish_entities(alloc, source, target, &given, parts),
-        Err(refusal) => Err(of_mapping(refusal)),
+        Err(refusal) => Err(of_arrow(refusal)),
     }
 }
 
@@ -195,8 +157,6 @@ fn finish_entities(
         ⊎ (first_missing given.now source.now.entities ≡ Some refusal)) }
 {
     check_given(given, source.entities.as_slice())?;
-    match build_entities(alloc, source, target, given, parts) {
-        Ok(images) => Ok(images),
-        Err(_) => Err(ArrowRefusal::Memory),
-    }
+    let images = build_entities(alloc, source, target, given, parts)?;
+    Ok(images)
 }

@@ -1,5 +1,5 @@
 //! The rules for images of foreign keys and attributes.
-ghost use Rattle.std.specs.Prelude.{◌≡◌, ◌&&◌, ◌∷◌, [], Some, slice_index};
+ghost use Rattle.std.specs.Prelude.{◌≡◌, ◌&&◌, ◌∷◌, [], Some};
 ghost use Rattle.cq_theory.specs.declared.presentation.Sort.TheVariants as declared_sort;
 ghost use Rattle.cq_theory.specs.Resolve.{raw_sort, are_of_one_sort, same_sort as is_same_sort};
 ghost use Rattle.cq_theory.specs.Resolve.{sort_named, entity_in};
@@ -13,7 +13,7 @@ ghost use Rattle.cq_mapping.specs.MappingParts.{is_image_of_attribute as image_o
 ghost use Rattle.cq_mapping.specs.MappingParts.{is_right_attribute as right_attribute, is_right as right_image};
 ghost use Rattle.cq_mapping.specs.MappingParts.{arrow_fault_over as fault_over};
 
-use cq_base::{Name, Names, Raw};
+use cq_base::{Name, Names, Raw, number_at};
 use cq_theory::lookup::{
     entity_of_sort, has_reserved, has_unknown, has_unknown_name, has_wrong_count, is_too_large,
     is_unknown_entity, sort_of_raw,
@@ -174,16 +174,6 @@ fn is_image_of_attribute(
     }
 }
 
-/// The image of an entity.
-pub(crate) fn image_of(entities: &[u32], entity: u32) -> u32
-    ensures { result ≡ slice_index entities.now entity }
-{
-    match entities.get(entity as usize) {
-        Some(image) => *image,
-        None => 0,
-    }
-}
-
 /// Whether the image can stand for the foreign key, which begins at the block's entity.
 fn is_right_key(
     target: &Schema,
@@ -198,8 +188,8 @@ fn is_right_key(
         && is_image_of_key(
             target,
             image,
-            image_of(entities, edge.from),
-            image_of(entities, edge.to),
+            number_at(entities, edge.from as usize),
+            number_at(entities, edge.to as usize),
         )
 }
 
@@ -219,7 +209,7 @@ fn is_right_attribute(
             target,
             variables,
             image,
-            image_of(entities, edge.from),
+            number_at(entities, edge.from as usize),
             edge.to,
         )
 }

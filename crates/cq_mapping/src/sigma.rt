@@ -7,7 +7,8 @@ ghost use Rattle.cq_theory.specs.Presentation.{IsPresentation};
 ghost use Rattle.cq_theory.specs.declared.term.Term.TheVariants.{Ent, Typ};
 ghost use Rattle.cq_mapping.specs.Images.{key_image, attribute_image, ent_image, type_image, sort_image};
 ghost use Rattle.cq_mapping.specs.Images.{generator_images, equation_image, sigma};
-ghost use Rattle.cq_mapping.specs.Duties.{is_long as is_long_term, has_long_side, is_too_large};
+ghost use Rattle.cq_theory.specs.Presentation.{is_long as is_long_term, has_long_side};
+ghost use Rattle.cq_mapping.specs.Duties.{is_too_large};
 ghost use Rattle.cq_mapping.specs.Symbols.{symbols_at};
 
 use crate::images::{image_of_ent, image_of_entity};
@@ -36,10 +37,8 @@ impl Mapping {
         if has_long_image(self, presentation.equations.as_slice()) {
             return Err(SizeRefusal::TooLarge);
         }
-        match build_image(self, alloc, presentation) {
-            Ok(made) => Ok(made),
-            Err(_) => Err(SizeRefusal::Memory),
-        }
+        let made = build_image(self, alloc, presentation)?;
+        Ok(made)
     }
 }
 

@@ -11,10 +11,10 @@ ghost use Rattle.cq_model.specs.Numbers as made_of;
 
 use crate::edges::{sources, targets};
 use crate::groups::grouped;
-use cq_base::{Name, Seq};
+use cq_base::{Name, Seq, number_at};
 use cq_theory::{Algebra, Edge, Equation, Presentation, Schema, Sheet, Sort};
 use equations::build_equations;
-use generators::{build_generators, number_at};
+use generators::build_generators;
 use std::alloc::{AllocError, Global};
 
 /// The numbers of generators, and the foreign keys and attributes of each entity.

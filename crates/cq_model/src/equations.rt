@@ -1,6 +1,6 @@
 //! The equations between type terms: those of a presentation, and those of its schema at each row.
-ghost use Rattle.std.specs.Prelude.{ℕ, ◌≡◌, ◌<◌, ◌≤◌, ◌^◌, [], true, Some, All, length, slice_get, slice_index_or};
-ghost use Rattle.std.specs.Prelude.{OnOk};
+ghost use Rattle.std.specs.Prelude.{ℕ, ◌≡◌, ◌<◌, ◌≤◌, ◌^◌, [], true, false, Some, All, length, slice_get};
+ghost use Rattle.std.specs.Prelude.{IfOk, OnOk, slice_index_or};
 ghost use Rattle.std.specs.List.{flat_map};
 ghost use Rattle.cq_tables.specs.Content.{live_of};
 ghost use Rattle.cq_tables.specs.Content.{entity_of as row_entity};
@@ -84,7 +84,7 @@ fn push_entity(
     list: &mut NodeList,
 ) -> Result<(), AllocError>
     requires places { HavePlaces ground.now (length list.old.nodes) }
-    requires groups { AreGroups (obs_eq_sources ground.now.schema.now.obs_eqs)
+    requires groups { 0 < length rows.now → AreGroups (obs_eq_sources ground.now.schema.now.obs_eqs)
         (length ground.now.schema.now.entities) groups.now }
     requires rows { All (λ row. (live_of ground.now.tables.now row ≡ true)
         × (row_entity ground.now.tables.now row ≡ entity)) rows.now }
@@ -97,6 +97,30 @@ fn push_entity(
         push_row(alloc, ground, numbers, *row, list)?;
     }
     Ok(())
+}
+
+/// Whether some entity has rows.
+fn has_rows(order: &[Seq<u64>]) -> bool
+    ensures { result ≡ false → (e : ℕ) → slice_index_or order.now e [] ≡ [] }
+{
+    for rows in order {
+        if rows.len() > 0 {
+            return true;
+        }
+    }
+    false
+}
+
+/// The observation equations that begin at each entity, or none where there are no rows. An instance without rows costs
+/// no more where its schema has many.
+fn list_equations(alloc: Global, schema: &Schema, order: &[Seq<u64>]) -> Result<Groups, AllocError>
+    ensures { IfOk result (λ groups. (e : ℕ) → 0 < length (slice_index_or order.now e [])
+        → AreGroups (obs_eq_sources schema.now.obs_eqs) (length schema.now.entities) groups) }
+{
+    if !has_rows(order) {
+        return Groups::new(alloc, 0, &[]);
+    }
+    observation_equations_by_entity(alloc, schema)
 }
 
 /// Adds the observation equations of each entity at each of its rows.
@@ -113,7 +137,7 @@ pub fn push_observations(
     ensures grows { OnOk result (length list.old.nodes ≤ length list.new.nodes) }
     ensures added { OnOk result (AddsObservations ground.now order.now (length order.now) list.old list.new) }
 {
-    let groups = observation_equations_by_entity(alloc, ground.schema)?;
+    let groups = list_equations(alloc, ground.schema, order)?;
     for (entity, rows) in order.iter().enumerate() {
         push_entity(alloc, ground, &groups, entity, rows.as_slice(), list)?;
     }

@@ -6,11 +6,12 @@ ghost use Rattle.cq_model.specs.Given.{IsModel, HasLeastNames, tables, size_of, 
 ghost use Rattle.cq_model.specs.Standing.{meaning};
 
 use crate::canonical::canonical_presentation;
-use crate::canonical::generators::{number_at, row_names, standings};
+use crate::canonical::generators::{row_names, standings};
 use crate::entries::EntryTable;
 use crate::instance::Instance;
 use crate::standing::Standing;
-use cq_base::Seq;
+use crate::values::copied_algebra;
+use cq_base::{Seq, number_at};
 use cq_theory::{Algebra, EntTerm, Presentation, Schema, Sheet};
 use std::alloc::{AllocError, Global};
 use std::rc::Rc;
@@ -24,6 +25,16 @@ pub enum TablesRefusal {
     /// There are over 16,000,000 rows and nulls together.
     TooLarge,
     Memory,
+}
+
+impl From<AllocError> for TablesRefusal {
+    ghost use Rattle.cq_model.specs.declared.given.TablesRefusal.TheVariants.{Memory};
+
+    ghost from_gives = { λ _ e. e ≡ Memory };
+
+    fn from(_error: AllocError) -> TablesRefusal {
+        TablesRefusal::Memory
+    }
 }
 
 /// Whether there are over 16,000,000 rows and nulls together.
@@ -103,16 +114,35 @@ impl Instance {
         if is_too_large(sheet.counts.as_slice(), algebra.nulls.len()) {
             return Err(TablesRefusal::TooLarge);
         }
-        match given_parts(alloc, &schema, &sheet, algebra) {
-            Ok(parts) => Ok(Instance::from_parts(
-                schema,
-                parts.presentation,
-                parts.names,
-                sheet,
-                parts.algebra,
-                parts.standings,
-            )),
-            Err(_) => Err(TablesRefusal::Memory),
+        let parts = given_parts(alloc, &schema, &sheet, algebra)?;
+        Ok(Instance::from_parts(
+            schema,
+            parts.presentation,
+            parts.names,
+            sheet,
+            parts.algebra,
+            parts.standings,
+        ))
+    }
+
+    /// The instance of a sheet over a schema, with the nulls and the entries of this instance. Over 16,000,000 rows
+    /// and nulls together, for which callers test first, are told as want of memory.
+    pub fn with_sheet(
+        &self,
+        alloc: Global,
+        schema: Rc<Schema>,
+        sheet: Sheet,
+    ) -> Result<Instance, AllocError>
+        requires { IsModel schema.value (tables sheet self.now.tables.algebra) }
+        ensures instance { IfOk result (λ made. made ≡ given schema.value (tables sheet self.now.tables.algebra)) }
+        ensures initial { IfOk result (λ made. Initial made.schema made.presentation made.tables made.assignment) }
+        ensures least { IfOk result (λ made. HasLeastNames made) }
+    {
+        let algebra = copied_algebra(alloc, self.algebra())?;
+        match Instance::of_tables(alloc, schema, sheet, algebra) {
+            Ok(made) => Ok(made),
+            Err(TablesRefusal::TooLarge) => Err(AllocError),
+            Err(TablesRefusal::Memory) => Err(AllocError),
         }
     }
 }

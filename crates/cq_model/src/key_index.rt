@@ -5,10 +5,9 @@ ghost use Rattle.cq_theory.specs.Tables.{row_from};
 ghost use Rattle.cq_theory.specs.Groups.{positions};
 ghost use Rattle.cq_model.specs.Terms.{IsOnWay};
 
-use crate::canonical::generators::number_at;
 use crate::groups::grouped;
 use crate::instance::Instance;
-use cq_base::Seq;
+use cq_base::{Seq, number_at};
 use std::alloc::{AllocError, Global};
 use std::marker::Model;
 

@@ -21,7 +21,6 @@ pub mod nulls;
 pub mod numbers;
 pub mod places;
 pub mod reading;
-pub mod sizes;
 mod standing;
 mod terms;
 pub mod transform;

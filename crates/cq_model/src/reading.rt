@@ -18,21 +18,11 @@ ghost use Rattle.cq_model.specs.Standing.{meaning, HasPlace};
 use crate::places::ClosedPlaces;
 use crate::standing::Standing;
 use crate::values::{copied, copied_entries};
-use cq_base::Seq;
+use cq_base::{Seq, number_at};
 use cq_flat::Flat;
 use cq_tables::Tables;
 use cq_theory::{Algebra, Edge, Presentation, Schema, Sheet, Sort, Value};
 use std::alloc::{AllocError, Global};
-
-/// The number at a place, and 0 past the end.
-fn number_at(numbers: &[u32], place: u64) -> u32
-    ensures { result ≡ slice_index numbers.now place }
-{
-    match numbers.get(place as usize) {
-        Some(number) => *number,
-        None => 0,
-    }
-}
 
 /// The place at a number, and 0 past the end.
 fn place_at(places: &[u64], number: u64) -> u64
@@ -49,7 +39,7 @@ fn number_of(numbers: &[u32], cell: Option<u64>) -> u32
     ensures { result ≡ number_in numbers.now cell }
 {
     match cell {
-        Some(row) => number_at(numbers, row),
+        Some(row) => number_at(numbers, row as usize),
         None => 0,
     }
 }
@@ -111,7 +101,7 @@ fn cell_column(
     ensures { IfOk result (λ column. column ≡ map (λ r. value_at closed.now.flat.now.values
         (cell_place closed.now.places.now r attribute)) rows.now) }
 {
-    let rank = number_at(closed.places.ranks.as_slice(), attribute as u64) as u64;
+    let rank = number_at(closed.places.ranks.as_slice(), attribute as usize) as u64;
     let firsts = closed.places.firsts.as_slice();
     let mut column = Vec::with_capacity(alloc, rows.len())?;
     for row in rows {
@@ -231,7 +221,10 @@ fn read_standing(
         closed.now.flat.now.values generator sort.now) }
 {
     match sort {
-        Sort::Entity(_) => Ok(Standing::Row(number_at(numbers, place_at(rows, generator)))),
+        Sort::Entity(_) => Ok(Standing::Row(number_at(
+            numbers,
+            place_at(rows, generator) as usize,
+        ))),
         Sort::Plain(_) => {
             let place = place_at(closed.places.generators.as_slice(), generator);
             Ok(Standing::Value(copied(alloc, closed.flat.value(place))?))

@@ -8,9 +8,8 @@ ghost use Rattle.cq_model.specs.Terms.{IsOnWay, IsTypeTermOf};
 ghost use Rattle.cq_move.specs.Pulling.{TellsSize};
 
 use cq_base::Seq;
-use cq_model::sizes::is_long;
 use cq_model::{Instance, Standing};
-use cq_theory::{SizeRefusal, TypeTerm, Value};
+use cq_theory::{SizeRefusal, TypeTerm, Value, is_long_value};
 use std::alloc::{AllocError, Global};
 
 /// The rows to which a path leads from the first rows of its entity.
@@ -47,7 +46,7 @@ fn value_at(
     let standings = [Standing::Row(row)];
     match instance.value_over(alloc, &standings, term) {
         Ok(value) => {
-            if is_long(&value) {
+            if is_long_value(&value) {
                 Err(SizeRefusal::TooLarge)
             } else {
                 Ok(value)

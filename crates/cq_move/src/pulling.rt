@@ -14,8 +14,7 @@ ghost use Rattle.cq_move.specs.Pulling.{TellsSize};
 use crate::columns::{row_column, value_column};
 use cq_base::Seq;
 use cq_mapping::Mapping;
-use cq_model::values::copied_algebra;
-use cq_model::{Instance, TablesRefusal};
+use cq_model::Instance;
 use cq_theory::{Sheet, SizeRefusal, TypeTerm, Value};
 use std::alloc::{AllocError, Global};
 
@@ -224,11 +223,6 @@ fn pulled_instance(
 {
     mapping.is_well_sorted();
     instance.is_instance();
-    let algebra = copied_algebra(alloc, instance.algebra())?;
     let source = mapping.source.clone()?;
-    match Instance::of_tables(alloc, source, sheet, algebra) {
-        Ok(made) => Ok(made),
-        Err(TablesRefusal::TooLarge) => Err(AllocError),
-        Err(TablesRefusal::Memory) => Err(AllocError),
-    }
+    instance.with_sheet(alloc, source, sheet)
 }

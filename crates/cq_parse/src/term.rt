@@ -40,7 +40,8 @@ fn application(name: Name, args: Seq<Raw>) -> Raw
 fn applied_to(alloc: Global, name: Name, arg: Raw) -> Result<Raw, AllocError>
     ensures { IfOk result (λ r. tree_of r ≡ tree.App name (more (tree_of arg) end)) }
 {
-    let mut args = Vec::new(alloc);
+    // Most symbols have one argument, and room for more would be kept for nothing.
+    let mut args = Vec::with_capacity(alloc, 1)?;
     args.push(arg)?;
     Ok(application(name, Seq::from_vec(args)))
 }
@@ -111,7 +112,7 @@ fn arguments<'a>(
     ensures fits { IfOk result (λ x. x.1 ≤ budget) }
 {
     let (first, first_levels, after) = term(alloc, budget, at)?;
-    let mut args = Vec::new(alloc);
+    let mut args = Vec::with_capacity(alloc, 1)?;
     args.push(first)?;
     let mut levels = first_levels;
     let mut rest = after;

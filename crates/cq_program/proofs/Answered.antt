@@ -1,22 +1,19 @@
 -- What the answers of calls say of presentations that are made of others.
 use Rattle.std.proofs.Common.{ℕ, Bool, true, false, List, [], Option, Some, ◌≡◌, ◌≤◌, ◌<◌, ◌||◌, refl, sym, ap, subst, ◌∙◌, inl, inr, length, arith}
 use Rattle.std.specs.Prelude.{Result, Ok, Err, IfOk, nat_lt, map, slice_index_or}
-use Rattle.std.specs.List.{list_any}
 use Rattle.std.proofs.lemmas.Bool.Decides.{nat_tests}
 use Rattle.std.proofs.lemmas.List.{length-map}
 use Rattle.std.proofs.lemmas.Option.{get_or_from_slice_get}
 use Rattle.cq_base.specs.declared.name.Name.{Name}
 use Rattle.cq_base.specs.declared.place.Place.{Place}
 use Rattle.cq_theory.specs.declared.constant.Con.{Con}
-use Rattle.cq_theory.specs.declared.presentation.Equation.{Equation}
-use Rattle.cq_theory.specs.declared.presentation.Equation.TheVariants as equation
 use Rattle.cq_theory.specs.declared.presentation.Presentation.{Presentation}
 use Rattle.cq_theory.specs.declared.presentation.Sort.{Sort}
 use Rattle.cq_theory.specs.declared.term.EntTerm.{EntTerm}
 use Rattle.cq_theory.specs.declared.value.Value.TheVariants.{Const}
 use Rattle.cq_theory.specs.Closing.{IsInconsistent, IsInconsistentAt}
 use Rattle.cq_theory.specs.Listed.{IsLeastName}
-use Rattle.cq_theory.specs.Presentation.{IsPresentation}
+use Rattle.cq_theory.specs.Presentation.{IsPresentation, is_oversized as is_too_large}
 use Rattle.cq_theory.specs.Schema.{IsSchema}
 use Rattle.cq_theory.specs.SchemaData.{SchemaData}
 use Rattle.cq_theory.specs.TypesideData.{TypesideData}
@@ -34,10 +31,9 @@ use Rattle.cq_model.specs.declared.moving.MoveRefusal.{MoveRefusal}
 use Rattle.cq_model.specs.declared.moving.MoveRefusal.TheVariants.{Depth, TooManyRows, TooLarge, Inconsistent as Clashing}
 use Rattle.cq_query.specs.QueryData.{QueryData}
 use Rattle.cq_query.specs.IsQuery.{IsQuery}
-use Rattle.cq_query.specs.Coeval.{coeval_of, is_large, is_oversized as is_read_too_large}
+use Rattle.cq_query.specs.Coeval.{coeval_of}
 use Rattle.cq_query.proofs.CopiedPresentations.{coeval_is}
 use Rattle.cq_theory.specs.Tables.{Tables, IsWellFormed}
-use Rattle.cq_push.specs.Gluing.{has_long_side, is_oversized as is_too_large}
 use Rattle.cq_program.specs.declared.reason.Reason.TheVariants as reason
 use Rattle.cq_program.specs.declared.reason.ProgramRefusal.{ProgramRefusal}
 use Rattle.cq_program.specs.declared.reason.ProgramRefusal.TheVariants as program_refusal
@@ -130,13 +126,6 @@ moved_size F P within =
     let count : length (sigma F P).generators ≤ 16000000 = omega (arith, within, length-map {B = Name × Sort} P.generators (λ (g : Name × Sort). (g.0, sort_image F g.1))) in
     sym (ap (λ (b : Bool). b || is_moved_too_large F P) (few (length (sigma F P).generators) count))
 
-large_is : (e : Equation) → is_large e ≡ has_long_side e
-large_is (equation.Ent t u) = refl
-large_is (equation.Typ t u) = refl
-
-pub read_size : (P : Presentation) → is_read_too_large P ≡ is_too_large P
-read_size P = λ i. nat_lt 16000000 (length P.generators) || list_any (λ (e : Equation). large_is e i) P.equations
-
 -- What the calls of the moves say.
 pub sigma_answers : (F : MappingData) (P : Presentation) (depth : ℕ) (answer : Result InstanceData MoveRefusal) → IsMapping F → IsPresentation F.source P
     → IfOk answer (λ made. made.schema ≡ F.target) → IfOk answer (λ made. made.presentation ≡ sigma F P)
@@ -155,15 +144,15 @@ sigma_named F P depth answer mapping is of T typeside c d clash =
 
 pub coeval_answers : (Q : QueryData) (M : Tables) (depth : ℕ) (answer : Result InstanceData MoveRefusal) → IsQuery Q → IsWellFormed Q.target M
     → IfOk answer (λ made. made.schema ≡ Q.source) → IfOk answer (λ made. made.presentation ≡ coeval_of Q M)
-    → IfOk answer IsListed → IfOk answer (λ _. IsInconsistent Q.source (coeval_of Q M) → ⊥) → SaysSize answer (is_read_too_large (coeval_of Q M))
+    → IfOk answer IsListed → IfOk answer (λ _. IsInconsistent Q.source (coeval_of Q M) → ⊥) → SaysSize answer (is_too_large (coeval_of Q M))
     → (answer ≡ Err Depth → NoneCloses Q.source (coeval_of Q M) depth) → (answer ≡ Err TooManyRows → SomeWide Q.source (coeval_of Q M) depth)
     → ((c d : Con) → answer ≡ Err (Clashing c d) → IsInconsistentAt Q.source (coeval_of Q M) c d) → IsAnswerOf Q.source (coeval_of Q M) depth answer
 coeval_answers Q M depth answer query formed over presents listed consistent size deep many clash =
-    answer_of Q.source (coeval_of Q M) depth answer query.source (λ short. coeval_is Q query M formed (read_size (coeval_of Q M) ∙ short)) over presents listed consistent
-    (subst (SaysSize answer) (read_size (coeval_of Q M)) size) deep many clash
+    answer_of Q.source (coeval_of Q M) depth answer query.source (λ short. coeval_is Q query M formed short) over presents listed consistent
+    size deep many clash
 
 pub coeval_named : (Q : QueryData) (M : Tables) (depth : ℕ) (answer : Result InstanceData MoveRefusal) → IsQuery Q → IsWellFormed Q.target M
     → IsAnswerOf Q.source (coeval_of Q M) depth answer → (T : TypesideData) → T ≡ Q.source.typeside → (c d : Con) → answer ≡ Err (Clashing c d)
     → (is_named_con T c ≡ true) × (is_named_con T d ≡ true)
 coeval_named Q M depth answer query formed of T typeside c d clash =
-    clash_named Q.source (coeval_of Q M) depth answer of T typeside query.source (λ short. coeval_is Q query M formed (read_size (coeval_of Q M) ∙ short)) c d clash
+    clash_named Q.source (coeval_of Q M) depth answer of T typeside query.source (λ short. coeval_is Q query M formed short) c d clash

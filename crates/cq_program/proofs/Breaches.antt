@@ -7,7 +7,7 @@ use Rattle.cq_syntax.specs.declared.program.Decl.{Decl}
 use Rattle.cq_syntax.specs.declared.program.Program.{Program}
 use Rattle.cq_mapping.specs.MappingData.{MappingData}
 use Rattle.cq_query.specs.QueryData.{QueryData}
-use Rattle.cq_push.specs.Gluing.{is_oversized as is_too_large}
+use Rattle.cq_theory.specs.Presentation.{is_oversized as is_too_large}
 use Rattle.cq_theory.specs.declared.presentation.Presentation.{Presentation}
 use Rattle.cq_theory.specs.SchemaData.{SchemaData}
 use Rattle.cq_model.specs.InstanceData.{InstanceData}

@@ -8,7 +8,7 @@ use Rattle.cq_theory.specs.declared.constant.Con.{Con}
 use Rattle.cq_theory.specs.declared.presentation.Presentation.{Presentation}
 use Rattle.cq_theory.specs.SchemaData.{SchemaData}
 use Rattle.cq_theory.specs.Closing.{IsInconsistentAt}
-use Rattle.cq_theory.specs.Presentation.{IsPresentation}
+use Rattle.cq_theory.specs.Presentation.{IsPresentation, is_oversized as is_too_large}
 use Rattle.cq_rows.specs.Saturated.{NoneCloses, SomeWide}
 use Rattle.cq_model.specs.InstanceData.{InstanceData}
 use Rattle.cq_model.specs.Moving.{SaysSize}
@@ -23,7 +23,7 @@ use Rattle.cq_model.specs.declared.transform.Image.{Image}
 use Rattle.cq_transform.specs.Images.{images_made}
 use Rattle.cq_transform.specs.Refusals.{IsBrokenAt}
 use Rattle.cq_transform.specs.Transforms.{GoesFrom}
-use Rattle.cq_push.specs.Gluing.{coproduct_of, is_oversized as is_too_large}
+use Rattle.cq_push.specs.Gluing.{coproduct_of}
 use Rattle.cq_program.specs.declared.reason.Reason.TheVariants.{Inconsistent}
 use Rattle.cq_program.specs.declared.reason.ProgramRefusal.{ProgramRefusal}
 use Rattle.cq_program.specs.declared.reason.ReadCause.{ReadCause}

@@ -17,7 +17,7 @@ use Rattle.cq_theory.specs.declared.presentation.Equation.{Equation}
 use Rattle.cq_theory.specs.declared.constant.Con.{Con}
 use Rattle.cq_theory.specs.SchemaData.{SchemaData}
 use Rattle.cq_theory.specs.Schema.{IsSchema}
-use Rattle.cq_theory.specs.Presentation.{IsPresentation}
+use Rattle.cq_theory.specs.Presentation.{IsPresentation, is_oversized as is_too_large}
 use Rattle.cq_theory.specs.Closing.{Closes, IsInconsistent, IsInconsistentAt, IsWide}
 use Rattle.cq_theory.specs.Tables.{Tables, Initial}
 use Rattle.cq_theory.specs.ValueText.{value_text}
@@ -41,7 +41,6 @@ use Rattle.cq_query.specs.Answers.{IsEval}
 use Rattle.cq_eval.specs.Refused.{NoneHasMany, IsFirstMany, IsTooLarge}
 use Rattle.cq_transform.specs.Refusals.{IsBrokenAt}
 use Rattle.cq_transform.specs.Transforms.{GoesFrom}
-use Rattle.cq_push.specs.Gluing.{is_oversized as is_too_large}
 use Rattle.cq_check.specs.Answers.{IsDerivedWithin, IsNotPreserved, IsTooDeepDuty, IsTooWideDuty, IsUnsoundAt, IsTooDeepAt, IsTooWideAt}
 use Rattle.cq_program.specs.Parts.{colimit_count, typeside_count, schema_count, mapping_count, query_count, instance_count, transform_count}
 use Rattle.cq_program.specs.Meanings.{Meant, typeside, schema, colimit, mapping, query, instance, transform, Ends, Environment}

@@ -12,7 +12,7 @@ pub fn copy_raw(alloc: Global, raw: &Raw) -> Result<Raw, AllocError>
         Raw::Word(name) => Ok(Raw::Word(name.clone()?)),
         Raw::Text(name) => Ok(Raw::Text(name.clone()?)),
         Raw::App(name, args) => {
-            let mut copies = Vec::new(alloc);
+            let mut copies = Vec::with_capacity(alloc, args.len())?;
             for arg in args.as_slice() {
                 copies.push(copy_raw(alloc, arg)?)?;
             }

@@ -15,7 +15,7 @@ use Rattle.cq_theory.specs.declared.lookup.SizeRefusal.TheVariants as size
 use Rattle.cq_theory.specs.Canonical.{named}
 use Rattle.cq_theory.specs.Closing.{IsInconsistentAt}
 use Rattle.cq_theory.specs.Derivation.{left_of, right_of}
-use Rattle.cq_theory.specs.Presentation.{IsSort, IsEquation, IsPresentation}
+use Rattle.cq_theory.specs.Presentation.{IsSort, IsEquation, IsPresentation, is_long, has_long_side, is_oversized}
 use Rattle.cq_theory.proofs.Faults.{neither, at_most}
 use Rattle.cq_model.specs.InstanceData.{InstanceData}
 use Rattle.cq_model.specs.Moving.{of_building, SaysSize}
@@ -25,7 +25,7 @@ use Rattle.cq_model.specs.declared.moving.MoveRefusal.{MoveRefusal}
 use Rattle.cq_model.specs.declared.moving.MoveRefusal.TheVariants.{Depth, TooManyRows, Inconsistent, TooLarge, Memory}
 use Rattle.cq_model.proofs.BuildingRefusals.{is_depth, is_many, is_inconsistent}
 use Rattle.cq_model.proofs.Lists.{All_at, All_from}
-use Rattle.cq_push.specs.Gluing.{presented, is_long, has_long_side, is_oversized}
+use Rattle.cq_push.specs.Gluing.{presented}
 use Rattle.cq_push.specs.Sorted.{HasOneSort, AreSorted}
 use Rattle.cq_push.specs.Answers.{IsModelOrCause}
 use Rattle.cq_terms.proofs.Naming.{named_length, sort_of_named}

@@ -10,7 +10,7 @@ use Rattle.cq_model.specs.Listed.{IsListed}
 use Rattle.cq_model.specs.Moving.{SaysSize}
 use Rattle.cq_model.specs.declared.moving.MoveRefusal.{MoveRefusal}
 use Rattle.cq_model.specs.declared.moving.MoveRefusal.TheVariants.{Depth, TooManyRows, Inconsistent}
-use Rattle.cq_push.specs.Gluing.{is_oversized}
+use Rattle.cq_theory.specs.Presentation.{is_oversized}
 
 -- the listed model of the presentation, or why there is none at this depth
 pub record IsModelOrCause (S : Schema) (P : Presentation) (depth : ℕ) (result : Result InstanceData MoveRefusal) : Type 0 where

@@ -1,14 +1,11 @@
 -- The presentations of coproducts and pushouts.
-use Rattle.std.specs.Prelude.{ℕ, Bool, List, [], ◌∷◌, ◌++◌, ◌+◌, ◌||◌, map, length, nat_lt}
-use Rattle.std.specs.List.{flat_map, list_any}
+use Rattle.std.specs.Prelude.{ℕ, List, [], ◌∷◌, ◌++◌, ◌+◌, map, length}
+use Rattle.std.specs.List.{flat_map}
 use Rattle.cq_theory.specs.declared.presentation.Sort.{Sort}
 use Rattle.cq_theory.specs.declared.presentation.Equation.{Equation}
 use Rattle.cq_theory.specs.declared.presentation.Presentation.{Presentation}
-use Rattle.cq_theory.specs.declared.term.Term.{Term}
 use Rattle.cq_theory.specs.Canonical.{named}
-use Rattle.cq_theory.specs.Derivation.{left_of, right_of}
 use Rattle.cq_theory.specs.Parts.{equation_of}
-use Rattle.cq_theory.specs.Presentation.{term_symbols}
 use Rattle.cq_model.specs.declared.transform.Image.{Image}
 use Rattle.cq_model.specs.declared.transform.Transform.{Transform}
 use Rattle.cq_transform.specs.Transforms.{term_of}
@@ -46,14 +43,3 @@ abbrev pub pushout_of : Transform → Transform → Presentation → Presentatio
 pushout_of to_left to_right left right =
     presented (sorts_of (left ∷ right ∷ []))
     (equations_from 0 (left ∷ right ∷ []) ++ glued_images (length left.generators) to_left.images to_right.images)
-
--- over 1,024 symbols
-abbrev pub is_long : Term → Bool
-is_long t = nat_lt 1024 (term_symbols t)
-
-abbrev pub has_long_side : Equation → Bool
-has_long_side e = is_long (left_of e) || is_long (right_of e)
-
--- over 16,000,000 generators, or a term of over 1,024 symbols
-abbrev pub is_oversized : Presentation → Bool
-is_oversized P = nat_lt 16000000 (length P.generators) || list_any has_long_side P.equations

@@ -3,12 +3,12 @@ ghost use Rattle.std.specs.Prelude.{◌≡◌, ◌≤◌, ◌<◌, ◌⊎◌, If
 ghost use Rattle.cq_rows.specs.Saturated.{NoneCloses, SomeWide};
 ghost use Rattle.cq_theory.specs.declared.constant.Con.{Con};
 ghost use Rattle.cq_theory.specs.SchemaData.{SchemaData as AnySchema};
-ghost use Rattle.cq_theory.specs.Presentation.{IsPresentation};
+ghost use Rattle.cq_theory.specs.Presentation.{IsPresentation, is_oversized};
 ghost use Rattle.cq_theory.specs.Closing.{IsInconsistent, IsInconsistentAt};
 ghost use Rattle.cq_model.specs.Listed.{IsListed};
 ghost use Rattle.cq_model.specs.Moving.{SaysSize};
 ghost use Rattle.cq_model.specs.declared.moving.MoveRefusal.TheVariants.{Depth, TooManyRows, Inconsistent};
-ghost use Rattle.cq_push.specs.Gluing.{sorts_of, equations_from, coproduct_of, is_oversized};
+ghost use Rattle.cq_push.specs.Gluing.{sorts_of, equations_from, coproduct_of};
 
 use crate::gluing::Gluing;
 use cq_model::{Instance, MoveRefusal};

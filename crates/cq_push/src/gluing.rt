@@ -2,19 +2,18 @@
 ghost use Rattle.std.specs.Prelude.{◌≡◌, ◌≤◌, ◌<◌, ◌+◌, ◌++◌, ◌⊎◌, [], true, false, IfOk, IfErr, OnOk, All, length};
 ghost use Rattle.std.specs.Prelude.{map};
 ghost use Rattle.cq_theory.specs.Canonical.{named};
-ghost use Rattle.cq_theory.specs.Presentation.{IsSort};
+ghost use Rattle.cq_theory.specs.Presentation.{IsSort, is_oversized};
 ghost use Rattle.cq_push.specs.Shifted.{shifted_equation};
-ghost use Rattle.cq_push.specs.Gluing.{presented, is_oversized};
+ghost use Rattle.cq_push.specs.Gluing.{presented};
 ghost use Rattle.cq_push.specs.Sorted.{AreSorted};
 ghost use Rattle.cq_push.specs.Answers.{IsModelOrCause};
 
 use crate::generators::push_sorts;
 use crate::shifting::push_shifted;
-use crate::sizes::has_long_sides;
 use cq_base::Seq;
 use cq_model::{Instance, MoveRefusal, build};
 use cq_terms::name_generators;
-use cq_theory::{Equation, Presentation, Schema, SizeRefusal, Sort};
+use cq_theory::{Equation, Presentation, Schema, SizeRefusal, Sort, has_long_sides};
 use std::alloc::{AllocError, Global};
 use std::rc::Rc;
 
@@ -62,10 +61,8 @@ impl Gluing {
         if presentation.generators.len() > (MOST_GENERATORS - first) as usize {
             return Err(SizeRefusal::TooLarge);
         }
-        match self.append(alloc, first, presentation) {
-            Ok(()) => Ok(()),
-            Err(_) => Err(SizeRefusal::Memory),
-        }
+        self.append(alloc, first, presentation)?;
+        Ok(())
     }
 
     /// Appends the sorts of a presentation's generators, and its equations, with their generators behind `first`
@@ -105,13 +102,11 @@ impl Gluing {
         if has_long_sides(equations.as_slice()) {
             return Err(SizeRefusal::TooLarge);
         }
-        match name_generators(alloc, sorts.as_slice()) {
-            Ok(generators) => Ok(Presentation {
-                generators: Seq::from_vec(generators),
-                equations: Seq::from_vec(equations),
-            }),
-            Err(_) => Err(SizeRefusal::Memory),
-        }
+        let generators = name_generators(alloc, sorts.as_slice())?;
+        Ok(Presentation {
+            generators: Seq::from_vec(generators),
+            equations: Seq::from_vec(equations),
+        })
     }
 
     /// The listed model of the presentation, of which the limit on terms is tested first.

@@ -10,12 +10,13 @@ ghost use Rattle.cq_model.specs.Listed.{IsListed};
 ghost use Rattle.cq_model.specs.Moving.{SaysSize};
 ghost use Rattle.cq_model.specs.declared.moving.MoveRefusal.TheVariants.{Depth, TooManyRows, Inconsistent};
 ghost use Rattle.cq_transform.specs.Transforms.{GoesFrom};
-ghost use Rattle.cq_push.specs.Gluing.{sorts_of, equations_from, glued, glued_images, pushout_of, is_oversized};
+ghost use Rattle.cq_theory.specs.Presentation.{is_oversized};
+ghost use Rattle.cq_push.specs.Gluing.{sorts_of, equations_from, glued, glued_images, pushout_of};
 
-use crate::copies::{copy_ent, copy_type};
 use crate::gluing::Gluing;
 use crate::shifting::{shift_ent, shift_type};
 use cq_model::{Image, Instance, MoveRefusal, Transform};
+use cq_terms::{copy_entity_term, copy_type_term};
 use cq_theory::{Con, Equation, Presentation, SizeRefusal, TypeTerm};
 use std::alloc::{AllocError, Global};
 
@@ -100,10 +101,8 @@ fn glue(
         return Err(refusal);
     }
     let first = left.generators.len() as u32;
-    match push_glued(alloc, first, lefts, rights, &mut gluing.equations) {
-        Ok(()) => Ok(gluing),
-        Err(_) => Err(SizeRefusal::Memory),
-    }
+    push_glued(alloc, first, lefts, rights, &mut gluing.equations)?;
+    Ok(gluing)
 }
 
 /// Appends an equation for each two images that stand beside one another.
@@ -135,11 +134,11 @@ fn glue_images(
 {
     match (left, right) {
         (Image::Row(left), Image::Row(right)) => {
-            let left = copy_ent(alloc, left)?;
+            let left = copy_entity_term(alloc, left)?;
             Ok(Equation::Ent(left, shift_ent(alloc, first, right)?))
         }
         (Image::Value(left), Image::Value(right)) => {
-            let left = copy_type(alloc, left)?;
+            let left = copy_type_term(alloc, left)?;
             Ok(Equation::Typ(left, shift_type(alloc, first, right)?))
         }
         (Image::Row(_), Image::Value(_)) => Ok(no_equation()),

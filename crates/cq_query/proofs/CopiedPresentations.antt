@@ -29,7 +29,7 @@ use Rattle.cq_theory.specs.TypesideData.{TypesideData as Typeside}
 use Rattle.cq_theory.specs.Typeside.{constant_type}
 use Rattle.cq_theory.specs.Sorts.{Generators, target_of, entity_at, type_at, entity_of, is_type, have_types, applied_type, type_of, type_step}
 use Rattle.cq_theory.specs.Derivation.{left_of, right_of}
-use Rattle.cq_theory.specs.Presentation.{IsSort, IsPresentation, term_symbols}
+use Rattle.cq_theory.specs.Presentation.{IsSort, IsPresentation, term_symbols, has_long_side, is_oversized}
 use Rattle.cq_theory.specs.Tables.{Tables, value_type, value_type_step, IsWellFormed, IsSoundEntry}
 use Rattle.cq_theory.specs.Canonical.{below}
 use Rattle.cq_theory.proofs.Faults.{made_of, neither, at_most}
@@ -39,11 +39,12 @@ use Rattle.cq_theory.proofs.TypeTerms.{fold-Gen, fold-Const, fold-Fun}
 use Rattle.cq_theory.proofs.Values as values
 use Rattle.cq_query.specs.QueryData.{QueryData as Query}
 use Rattle.cq_theory.specs.Groups.{positions}
-use Rattle.cq_query.specs.Puts.{alone, generators_from, put, put_type, put_equation}
+use Rattle.cq_theory.specs.EntTerm.{alone}
+use Rattle.cq_query.specs.Puts.{generators_from, put, put_type, put_equation}
 use Rattle.cq_query.specs.Translation.{key_sources, attribute_sources, variables_at, tests_at, assigned, term_or_constant}
 use Rattle.cq_query.specs.IsQuery.{IsQuery}
 use Rattle.cq_terms.specs.ValueTerms.{value_term, value_term_step, entry_equation}
-use Rattle.cq_query.specs.Coeval.{size_of, start_of, null_start, row_sorts, terms_from, row_terms, is_large, is_oversized, key_equations, key_equations_at, cell_equation, row_equations, entity_equations, coeval_of}
+use Rattle.cq_query.specs.Coeval.{size_of, start_of, null_start, row_sorts, terms_from, row_terms, key_equations, key_equations_at, cell_equation, row_equations, entity_equations, coeval_of}
 use Rattle.cq_theory.proofs.Grouped.{made_at}
 use Rattle.cq_query.proofs.Parted.{below_at}
 use Rattle.cq_query.proofs.Standing.{HasOneSort, Stand, generators_at, put_type_sorted, put_equation_sorted, put_stand, alone_at}
@@ -97,7 +98,7 @@ none_large p [] h n x at = cc
 none_large p (y ∷ ys) h zero x at = let same : y ≡ x = cc in ap p (sym same) ∙ (neither (p y) (list_any p ys) h).0
 none_large p (y ∷ ys) h (suc n) x at = none_large p ys (neither (p y) (list_any p ys) h).1 n x at
 
-sides_fit : (e : Equation) → is_large e ≡ false → (term_symbols (left_of e) ≤ 1024) × (term_symbols (right_of e) ≤ 1024)
+sides_fit : (e : Equation) → has_long_side e ≡ false → (term_symbols (left_of e) ≤ 1024) × (term_symbols (right_of e) ≤ 1024)
 sides_fit (EntEquation t u) h =
     let both = neither (nat_lt 1024 (ent.symbols_of t)) (nat_lt 1024 (ent.symbols_of u)) h in
     (at_most 1024 (ent.symbols_of t) both.0, at_most 1024 (ent.symbols_of u) both.1)
@@ -316,11 +317,11 @@ module _ (Q : Query) (query : IsQuery Q) (M : Tables) (tables : IsWellFormed Q.t
       subst (IsSort S) (sym null.2) (subst (λ (y : Typeside). null.0 < length y.types) (sym query.typeside) of_target))
 
   few : is_oversized (coeval_of Q M) ≡ false → length H ≤ 16000000
-  few h = at_most 16000000 (length H) (neither (nat_lt 16000000 (length H)) (list_any is_large (coeval_of Q M).equations) h).0
+  few h = at_most 16000000 (length H) (neither (nat_lt 16000000 (length H)) (list_any has_long_side (coeval_of Q M).equations) h).0
 
   pub coeval_is : is_oversized (coeval_of Q M) ≡ false → IsPresentation S (coeval_of Q M)
   coeval_is h =
-      let fits = none_large is_large (coeval_of Q M).equations (neither (nat_lt 16000000 (length H)) (list_any is_large (coeval_of Q M).equations) h).1 in
+      let fits = none_large has_long_side (coeval_of Q M).equations (neither (nat_lt 16000000 (length H)) (list_any has_long_side (coeval_of Q M).equations) h).1 in
       record {
         generators = λ i d inside. sorts_right i (get_or H i d).1 (sort_named 1 sorts i (get_or H i d) (slice_get-get_or H i d inside));
         count = few h;

@@ -17,11 +17,12 @@ use Rattle.cq_theory.specs.declared.presentation.Sort.{Sort}
 use Rattle.cq_theory.specs.declared.presentation.Sort.TheVariants.{Plain, Entity}
 use Rattle.cq_theory.specs.declared.lookup.SizeRefusal.{SizeRefusal}
 use Rattle.cq_theory.specs.declared.presentation.Presentation.{Presentation}
+use Rattle.cq_theory.specs.Presentation.{has_long_side, is_oversized}
 use Rattle.cq_theory.specs.Tables.{Tables}
 use Rattle.cq_theory.specs.Canonical.{below}
 use Rattle.cq_query.specs.QueryData.{QueryData as Query}
 use Rattle.cq_query.specs.Translation.{variables_at}
-use Rattle.cq_query.specs.Coeval.{size_of, start_of, starts, null_start, row_sorts, is_large, is_oversized, coeval_of}
+use Rattle.cq_query.specs.Coeval.{size_of, start_of, starts, null_start, row_sorts, coeval_of}
 use Rattle.cq_theory.proofs.Grouped.{made_at}
 use Rattle.cq_terms.proofs.Naming.{named_length}
 
@@ -107,14 +108,14 @@ module _ (Q : Query) (M : Tables) where
 
   -- too many generators
   pub many_generators : 16000000 < null_start Q M.sheet.counts + length M.algebra.nulls → is_oversized (coeval_of Q M) ≡ true
-  many_generators h = ap (λ b. b || list_any is_large (coeval_of Q M).equations) (ap (nat_lt 16000000) generators_count ∙ is_more (null_start Q M.sheet.counts + length M.algebra.nulls) h)
+  many_generators h = ap (λ b. b || list_any has_long_side (coeval_of Q M).equations) (ap (nat_lt 16000000) generators_count ∙ is_more (null_start Q M.sheet.counts + length M.algebra.nulls) h)
     where
       is_more : (n : ℕ) → 16000000 < n → nat_lt 16000000 n ≡ true
       is_more n h = grind (arith, nat_tests)
 
   -- where the generators are not too many, the equations decide
-  pub few_generators : null_start Q M.sheet.counts + length M.algebra.nulls ≤ 16000000 → is_oversized (coeval_of Q M) ≡ list_any is_large (coeval_of Q M).equations
-  few_generators h = ap (λ b. b || list_any is_large (coeval_of Q M).equations) (ap (nat_lt 16000000) generators_count ∙ is_less (null_start Q M.sheet.counts + length M.algebra.nulls) h)
+  pub few_generators : null_start Q M.sheet.counts + length M.algebra.nulls ≤ 16000000 → is_oversized (coeval_of Q M) ≡ list_any has_long_side (coeval_of Q M).equations
+  few_generators h = ap (λ b. b || list_any has_long_side (coeval_of Q M).equations) (ap (nat_lt 16000000) generators_count ∙ is_less (null_start Q M.sheet.counts + length M.algebra.nulls) h)
     where
       is_less : (n : ℕ) → n ≤ 16000000 → nat_lt 16000000 n ≡ false
       is_less n h = grind (arith, nat_tests)
@@ -128,6 +129,6 @@ module _ (Q : Query) (M : Tables) where
       inr (h.0, many_generators many)
 
   pub checked : (result : Result Presentation SizeRefusal) (made : Presentation) → made ≡ coeval_of Q M → null_start Q M.sheet.counts + length M.algebra.nulls ≤ 16000000
-      → IfOk result (λ same. (same ≡ made) × (list_any is_large made.equations ≡ false)) → IfOk result (λ _. is_oversized (coeval_of Q M) ≡ false)
-  checked (Ok same) made is small h = few_generators small ∙ ap (λ (P : Presentation). list_any is_large P.equations) (sym is) ∙ h.1
+      → IfOk result (λ same. (same ≡ made) × (list_any has_long_side made.equations ≡ false)) → IfOk result (λ _. is_oversized (coeval_of Q M) ≡ false)
+  checked (Ok same) made is small h = few_generators small ∙ ap (λ (P : Presentation). list_any has_long_side P.equations) (sym is) ∙ h.1
   checked (Err refusal) made is small h = h

@@ -30,7 +30,8 @@ use Rattle.cq_theory.proofs.Sound.{followed_some, both, is_type_some, applied_ty
 use Rattle.cq_theory.proofs.Typing.{value_typed}
 use Rattle.cq_theory.proofs.OnValues.{All_at}
 use Rattle.cq_query.specs.QueryData.{QueryData as Query}
-use Rattle.cq_query.specs.Puts.{alone, generators_from, put}
+use Rattle.cq_theory.specs.EntTerm.{alone}
+use Rattle.cq_query.specs.Puts.{generators_from, put}
 use Rattle.cq_query.specs.Translation.{variables_at, variable_terms, assigned, attribute_term, term_or_constant, along, translated, translated_step}
 use Rattle.cq_query.specs.Duties.{equal_terms, frozen, Sound}
 use Rattle.cq_query.specs.IsQuery.{IsQuery}

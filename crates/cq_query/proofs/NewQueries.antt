@@ -9,6 +9,7 @@ use Rattle.cq_theory.specs.declared.lookup.ArrowRefusal.{ArrowRefusal}
 use Rattle.cq_theory.specs.declared.lookup.ArrowRefusal.TheVariants.{Memory}
 use Rattle.cq_theory.specs.SchemaData.{SchemaData as Schema}
 use Rattle.cq_theory.specs.Schema.{IsSchema}
+use Rattle.cq_theory.specs.ArrowRefusals.{of_arrow, first_missing}
 use Rattle.cq_theory.specs.Resolve.{or_else}
 use Rattle.cq_theory.proofs.DeclaredParts.{or_else_none, new_name, first_part_fault-each}
 use Rattle.cq_query.specs.declared.parts.QueryParts.{QueryParts}
@@ -18,11 +19,11 @@ use Rattle.cq_theory.specs.declared.groups.Groups.{Groups}
 use Rattle.cq_theory.specs.Groups.{AreGroups}
 use Rattle.cq_theory.specs.Groups.{edge_sources, path_eq_sources, obs_eq_sources}
 use Rattle.cq_query.specs.IsQuery.{IsQuery}
-use Rattle.cq_query.specs.QueryParts.{of_query, block_fault, blocks_fault, block_entities, entity_named, first_missing, scopes_of, variables_fault, clauses_fault, missing_part, blocks_made, clauses_and_rest_fault, variables_and_rest_fault, query_fault, query_made}
+use Rattle.cq_query.specs.QueryParts.{block_fault, blocks_fault, block_entities, entity_named, scopes_of, variables_fault, clauses_fault, missing_part, blocks_made, clauses_and_rest_fault, variables_and_rest_fault, query_fault, query_made}
 use Rattle.cq_query.proofs.Parted.{named_entity}
 use Rattle.cq_query.proofs.MadeQueries.{made_is}
 
-no_refusal : (o : Option TheoryRefusal) → option_map of_query o ≡ None → o ≡ None
+no_refusal : (o : Option TheoryRefusal) → option_map of_arrow o ≡ None → o ≡ None
 no_refusal None h = refl
 no_refusal (Some r) h = cc
 
@@ -31,10 +32,10 @@ query_made-is : (S T : Schema) → IsSchema S → IsSchema T → S.typeside ≡ 
 query_made-is S T source target typeside parts none =
     let E : List ℕ = block_entities T parts.entities in
     let scopes : List (List (Name × ℕ)) = scopes_of S E (length T.entities) parts.vars in
-    let first = or_else_none (option_map of_query (blocks_fault T parts.entities)) (or_else (first_missing parts.entities T.entities) (variables_and_rest_fault S T E (length parts.entities) parts.vars parts.clauses)) none in
+    let first = or_else_none (option_map of_arrow (blocks_fault T parts.entities)) (or_else (first_missing parts.entities T.entities) (variables_and_rest_fault S T E (length parts.entities) parts.vars parts.clauses)) none in
     let second = or_else_none (first_missing parts.entities T.entities) (variables_and_rest_fault S T E (length parts.entities) parts.vars parts.clauses) first.1 in
-    let third = or_else_none (option_map of_query (variables_fault S E (length parts.entities) parts.vars)) (clauses_and_rest_fault S T E scopes parts.clauses (length parts.entities + length parts.vars)) second.1 in
-    let fourth = or_else_none (option_map of_query (clauses_fault S T E scopes (length parts.entities + length parts.vars) parts.clauses)) (missing_part T scopes parts.clauses) third.1 in
+    let third = or_else_none (option_map of_arrow (variables_fault S E (length parts.entities) parts.vars)) (clauses_and_rest_fault S T E scopes parts.clauses (length parts.entities + length parts.vars)) second.1 in
+    let fourth = or_else_none (option_map of_arrow (clauses_fault S T E scopes (length parts.entities + length parts.vars) parts.clauses)) (missing_part T scopes parts.clauses) third.1 in
     made_is S T source target E (length parts.entities) (length parts.entities + length parts.vars) parts.vars parts.clauses (no_refusal _ third.0) (no_refusal _ fourth.0) fourth.1 typeside
 
 entities_within : (T : Schema) → IsSchema T → (names : List Name) → blocks_fault T names ≡ None → All (λ e. e < length T.entities) (block_entities T names)
@@ -84,7 +85,7 @@ module _ (S T S₁ T₁ T₂ : Schema) (parts : QueryParts) (names : List Name) 
 
   pub new_fault : query_fault S T parts ≡ variables_and_rest_fault S₁ T₁ entities first vars clauses
   new_fault =
-      ap (λ o. or_else (option_map of_query o) (or_else (first_missing parts.entities T.entities) rest)) right_here.0 ∙ ap (λ o. or_else o rest) right_here.1
+      ap (λ o. or_else (option_map of_arrow o) (or_else (first_missing parts.entities T.entities) rest)) right_here.0 ∙ ap (λ o. or_else o rest) right_here.1
       ∙ λ i. variables_and_rest_fault (sym source₁ i) (sym target₁ i) (sym entities_are i) (sym same_first i) (sym same_vars i) (sym same_clauses i)
 
   pub new_refused : (refusal : ArrowRefusal) → (refusal ≡ Memory) ⊎ (variables_and_rest_fault S₁ T₁ entities first vars clauses ≡ Some refusal) → (refusal ≡ Memory) ⊎ (query_fault S T parts ≡ Some refusal)

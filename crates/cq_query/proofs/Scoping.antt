@@ -11,9 +11,10 @@ use Rattle.cq_theory.specs.declared.lookup.TheoryRefusal.{TheoryRefusal}
 use Rattle.cq_theory.specs.declared.lookup.TheoryRefusal.TheVariants.{Memory}
 use Rattle.cq_theory.specs.Canonical.{below}
 use Rattle.cq_theory.specs.SchemaData.{SchemaData as Schema}
+use Rattle.cq_theory.specs.ArrowRefusals.{of_arrow}
 use Rattle.cq_theory.specs.Resolve.{or_else}
 use Rattle.cq_query.specs.declared.parts.Clause.{Clause}
-use Rattle.cq_query.specs.QueryParts.{of_query, scopes_of, variables_and_rest_fault, clauses_and_rest_fault, name_in, names_in, variable_in, variables_in, entity_named, first_of, first_fault_after, variable_fault_after, variable_fault, variables_fault}
+use Rattle.cq_query.specs.QueryParts.{scopes_of, variables_and_rest_fault, clauses_and_rest_fault, name_in, names_in, variable_in, variables_in, entity_named, first_of, first_fault_after, variable_fault_after, variable_fault, variables_fault}
 use Rattle.cq_theory.proofs.Grouped.{set-map_below}
 
 -- one step through the parts
@@ -104,5 +105,5 @@ pub rest_after : (S T : Schema) (entities : List ℕ) (n next : ℕ) (parts : Li
     → variables_fault S entities n parts ≡ None → scopes ≡ scopes_of S entities (length T.entities) parts → next ≡ n + length parts
     → variables_and_rest_fault S T entities n parts clauses ≡ clauses_and_rest_fault S T entities scopes clauses next
 rest_after S T entities n next parts clauses scopes none are is =
-    ap (λ o. or_else (option_map of_query o) (clauses_and_rest_fault S T entities (scopes_of S entities (length T.entities) parts) clauses (n + length parts))) none
+    ap (λ o. or_else (option_map of_arrow o) (clauses_and_rest_fault S T entities (scopes_of S entities (length T.entities) parts) clauses (n + length parts))) none
     ∙ λ i. clauses_and_rest_fault S T entities (sym are i) clauses (sym is i)

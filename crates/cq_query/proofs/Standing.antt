@@ -25,7 +25,8 @@ use Rattle.cq_theory.proofs.Closings.{entity_of-extended}
 use Rattle.cq_theory.proofs.Faults.{made_of}
 use Rattle.cq_theory.proofs.ResolvedSorts.{map_some}
 use Rattle.cq_query.specs.QueryData.{QueryData as Query}
-use Rattle.cq_query.specs.Puts.{alone, term_or_first, put, put_type, put_type_step, put_equation}
+use Rattle.cq_theory.specs.EntTerm.{alone}
+use Rattle.cq_query.specs.Puts.{term_or_first, put, put_type, put_type_step, put_equation}
 use Rattle.cq_query.specs.Translation.{variables_at, variable_terms, assigned, terms_or_none, term_or_constant, along, translated, translated_step}
 use Rattle.cq_query.specs.Duties.{frozen}
 use Rattle.cq_query.specs.IsQuery.{IsQuery}

@@ -1,10 +1,10 @@
 -- The presentation of coeval: a generator for each row and variable, and the equations that the query makes of the tables.
-use Rattle.std.specs.Prelude.{ℕ, Bool, List, [], ◌++◌, ◌+◌, ◌*◌, ◌||◌, if◌then◌else◌, map, length, sum, Option, Some, None, nat_lt}
+use Rattle.std.specs.Prelude.{ℕ, List, [], ◌++◌, ◌+◌, ◌*◌, if◌then◌else◌, map, length, sum, Option, Some, None, nat_lt}
 use Rattle.std.specs.Prelude.{slice_get, slice_index, slice_index_or}
-use Rattle.std.specs.List.{flat_map, list_any}
+use Rattle.std.specs.List.{flat_map}
 use Rattle.cq_theory.specs.declared.constant.Con.TheVariants.{Named}
 use Rattle.cq_theory.specs.declared.presentation.Equation.{Equation}
-use Rattle.cq_theory.specs.declared.presentation.Equation.TheVariants.{Ent as EntEquation, Typ as TypEquation}
+use Rattle.cq_theory.specs.declared.presentation.Equation.TheVariants.{Typ as TypEquation}
 use Rattle.cq_theory.specs.declared.presentation.Presentation.{Presentation}
 use Rattle.cq_theory.specs.declared.presentation.Sort.{Sort}
 use Rattle.cq_theory.specs.declared.presentation.Sort.TheVariants.{Plain, Entity}
@@ -14,8 +14,6 @@ use Rattle.cq_theory.specs.declared.term.TypeTerm.{TypeTerm}
 use Rattle.cq_theory.specs.declared.term.TypeTerm.TheVariants as term
 use Rattle.cq_theory.specs.declared.value.Value.TheVariants as value
 use Rattle.cq_theory.specs.declared.value.Sheet.{Sheet}
-use Rattle.cq_theory.specs.EntTerm as ent
-use Rattle.cq_theory.specs.TypeTerm as typ
 use Rattle.cq_theory.specs.Tables.{Tables}
 use Rattle.cq_theory.specs.Canonical.{below, named}
 use Rattle.cq_query.specs.QueryData.{QueryData as Query}
@@ -54,15 +52,6 @@ module _ (Q : Query) (counts : List ℕ) where
   -- the generators of a row, one for each variable; a row that doesn't exist has none
   abbrev pub row_terms : ℕ → ℕ → List EntTerm
   row_terms entity row = terms_from entity row (slice_get starts entity)
-
--- a term of the equation has over 1,024 symbols
-abbrev pub is_large : Equation → Bool
-is_large (EntEquation t u) = nat_lt 1024 (ent.symbols_of t) || nat_lt 1024 (ent.symbols_of u)
-is_large (TypEquation t u) = nat_lt 1024 (typ.symbols_of t) || nat_lt 1024 (typ.symbols_of u)
-
--- the presentation has over 16,000,000 generators, or a term of over 1,024 symbols
-abbrev pub is_oversized : Presentation → Bool
-is_oversized P = nat_lt 16000000 (length P.generators) || list_any is_large P.equations
 
 module _ (Q : Query) (sheet : Sheet) where
   -- for each variable of the key's target: its generator at the row to which the key leads, and the assigned term on this row's generators

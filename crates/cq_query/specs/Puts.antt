@@ -1,5 +1,5 @@
 -- Terms with other terms in place of their generators.
-use Rattle.std.specs.Prelude.{ℕ, List, [], map, Option, Some, None, slice_get}
+use Rattle.std.specs.Prelude.{ℕ, List, map, Option, Some, None, slice_get}
 use Rattle.std.specs.List.{range_with_len}
 use Rattle.cq_theory.specs.declared.presentation.Equation.{Equation}
 use Rattle.cq_theory.specs.declared.presentation.Equation.TheVariants.{Ent as EntEquation, Typ as TypEquation}
@@ -8,11 +8,7 @@ use Rattle.cq_theory.specs.declared.term.TypeTerm.{TypeTerm}
 use Rattle.cq_theory.specs.declared.term.TypeTerm.TheVariants as term
 use Rattle.cq_theory.specs.declared.term.TypeTerm.TheOpen.{TypeTerm-F, Gen, Const, Att, Fun}
 use Rattle.cq_theory.specs.declared.term.TypeTerm.TheFolds.{fold-TypeTerm}
-use Rattle.cq_theory.specs.EntTerm.{extended}
-
--- a generator alone
-abbrev pub alone : ℕ → EntTerm
-alone n = record { generator = n; path = [] }
+use Rattle.cq_theory.specs.EntTerm.{alone, extended}
 
 -- that many generators, from `first` on
 abbrev pub generators_from : ℕ → ℕ → List EntTerm

@@ -12,8 +12,7 @@ use Rattle.cq_theory.specs.declared.lookup.TermRefusal.TheVariants as term_refus
 use Rattle.cq_theory.specs.declared.lookup.TheoryRefusal.{TheoryRefusal}
 use Rattle.cq_theory.specs.declared.lookup.TheoryRefusal.TheVariants as theory_refusal
 use Rattle.cq_theory.specs.declared.lookup.ArrowRefusal.{ArrowRefusal}
-use Rattle.cq_theory.specs.declared.lookup.ArrowRefusal.TheVariants.{Duplicate, Unknown, WrongCount, WrongSort, Reserved, TooLarge, Missing}
-use Rattle.cq_theory.specs.declared.lookup.ArrowRefusal.TheVariants.{Memory}
+use Rattle.cq_theory.specs.declared.lookup.ArrowRefusal.TheVariants.{Missing}
 use Rattle.cq_theory.specs.declared.presentation.Sort.{Sort}
 use Rattle.cq_theory.specs.declared.presentation.Sort.TheVariants.{Plain, Entity}
 use Rattle.cq_theory.specs.declared.presentation.Equation.{Equation}
@@ -23,12 +22,13 @@ use Rattle.cq_theory.specs.declared.constant.Con.TheVariants.{Named}
 use Rattle.cq_theory.specs.declared.term.TypeTerm.{TypeTerm}
 use Rattle.cq_theory.specs.declared.term.TypeTerm.TheVariants.{Const}
 use Rattle.cq_theory.specs.SchemaData.{SchemaData as Schema}
+use Rattle.cq_theory.specs.ArrowRefusals.{of_arrow, first_missing}
+use Rattle.cq_theory.specs.EntTerm.{alone}
 use Rattle.cq_theory.specs.Canonical.{below}
 use Rattle.cq_theory.specs.Resolve.{or_else, sort_named, symbol_of, entity_in, has_unknown, has_wrong_count, has_reserved, raw_sort}
 use Rattle.cq_theory.specs.Resolve.{are_of_one_sort, is_too_large, in_part}
 use Rattle.cq_theory.specs.Resolved.{resolved, type_term_in, entity_term_in}
 use Rattle.cq_theory.specs.Parts.{equation_of}
-use Rattle.cq_theory.specs.Paths.{is_among}
 use Rattle.cq_theory.specs.Declaring.{first_part_fault, duplicate_or, number_or_zero}
 use Rattle.cq_query.specs.declared.parts.QueryParts.{QueryParts}
 use Rattle.cq_query.specs.declared.parts.Clause.{Clause}
@@ -36,18 +36,7 @@ use Rattle.cq_query.specs.declared.parts.Clause.TheVariants as clause
 use Rattle.cq_query.specs.declared.query.Block.{Block}
 use Rattle.cq_query.specs.QueryData.{QueryData as Query}
 use Rattle.cq_theory.specs.Groups.{positions}
-use Rattle.cq_query.specs.Puts.{alone}
 use Rattle.cq_theory.specs.Groups.{edge_sources}
-
--- the same refusal, of a query
-abbrev pub of_query : TheoryRefusal → ArrowRefusal
-of_query (theory_refusal.Duplicate n) = Duplicate n
-of_query (theory_refusal.Unknown n) = Unknown n
-of_query (theory_refusal.WrongCount n) = WrongCount n
-of_query (theory_refusal.WrongSort n) = WrongSort n
-of_query (theory_refusal.Reserved n) = Reserved n
-of_query (theory_refusal.TooLarge n) = TooLarge n
-of_query theory_refusal.Memory = Memory
 
 -- what f gives of the first item of which it gives something
 abbrev pub first_of : {X R : Type 0} → (X → Option R) → List X → Option R
@@ -82,11 +71,6 @@ module _ (S : Schema) where
   -- the entity of each block
   abbrev pub block_entities : List Name → List ℕ
   block_entities names = map entity_named names
-
--- the first of the wanted names that isn't given
-abbrev pub first_missing : List Name → List Name → Option ArrowRefusal
-first_missing given [] = None
-first_missing given (name ∷ names) = if is_among given name then first_missing given names else Some (Missing name)
 
 -- The variables of the blocks, each of which is given with the number of its block, its name and the name of its entity.
 module _ (entities : List ℕ) where
@@ -359,19 +343,19 @@ module _ (S T : Schema) (entities : List ℕ) (scopes : List (List (Name × ℕ)
 
   -- the faults after the variables: the clauses, the first of which is part n, and then what no clause gives
   abbrev pub clauses_and_rest_fault : ℕ → Option ArrowRefusal
-  clauses_and_rest_fault n = or_else (option_map of_query (clauses_fault S T entities scopes n clauses)) (missing_part T scopes clauses)
+  clauses_and_rest_fault n = or_else (option_map of_arrow (clauses_fault S T entities scopes n clauses)) (missing_part T scopes clauses)
 
 -- the faults after the entities of the blocks: the variables, the first of which is part n, and then the rest
 abbrev pub variables_and_rest_fault : Schema → Schema → List ℕ → ℕ → List (ℕ × Name × Name) → List (ℕ × Clause) → Option ArrowRefusal
 variables_and_rest_fault S T entities n variables clauses =
-    or_else (option_map of_query (variables_fault S entities n variables))
+    or_else (option_map of_arrow (variables_fault S entities n variables))
     (clauses_and_rest_fault S T entities (scopes_of S entities (length T.entities) variables) clauses (n + length variables))
 
 -- The first fault: the entities of the blocks, then an entity without a block, then the variables, then the clauses, and then what no
 -- clause gives.
 abbrev pub query_fault : Schema → Schema → QueryParts → Option ArrowRefusal
 query_fault S T parts =
-    or_else (option_map of_query (blocks_fault T parts.entities))
+    or_else (option_map of_arrow (blocks_fault T parts.entities))
     (or_else (first_missing parts.entities T.entities)
     (variables_and_rest_fault S T (block_entities T parts.entities) (length parts.entities) parts.vars parts.clauses))
 

@@ -8,7 +8,7 @@ ghost use Rattle.cq_theory.specs.Groups.{positions};
 ghost use Rattle.cq_query.specs.Assigned.{IsAssigned};
 ghost use Rattle.cq_query.specs.Index.{IsIndex};
 ghost use Rattle.cq_query.specs.Making.{AreTablesOf, IsMaking};
-ghost use Rattle.cq_query.specs.Puts.{alone};
+ghost use Rattle.cq_theory.specs.EntTerm.{alone as generator_alone};
 ghost use Rattle.cq_theory.specs.Groups.{edge_sources};
 ghost use Rattle.cq_query.specs.QueryParts.{names_of, sorts_of, type_made, entity_made, test_made, tests_made};
 ghost use Rattle.cq_query.specs.QueryParts.{scope_or_none, attribute_made, key_made, key_made_at, blocks_made};
@@ -23,7 +23,7 @@ use crate::scopes::Scope;
 use crate::tables::Tables;
 use cq_base::{Name, Raw, Seq};
 use cq_theory::lookup::{build, type_term};
-use cq_theory::{Con, Edge, EntTerm, Equation, Schema, Term, TypeTerm};
+use cq_theory::{Con, Edge, EntTerm, Equation, Schema, Term, TypeTerm, alone};
 use std::alloc::{AllocError, Global};
 
 /// The attributes and the foreign keys from an entity.
@@ -49,12 +49,9 @@ fn make_equation(left: Term, right: Term) -> Equation
 
 /// The first variable alone, which stands only in parts that break a rule.
 fn first_variable(alloc: Global) -> EntTerm
-    ensures { result ≡ alone 0 }
+    ensures { result ≡ generator_alone 0 }
 {
-    EntTerm {
-        generator: 0,
-        path: Seq::from_vec(Vec::new(alloc)),
-    }
+    alone(alloc, 0)
 }
 
 /// The entity term, which is there where the whole term breaks no rule.

@@ -2,13 +2,14 @@
 ghost use Rattle.std.specs.Prelude.{ℕ, List, ◌≡◌, ◌&&◌, ◌==◌, ◌+◌, ◌<◌, ◌^◌, ◌⊎◌, IfOk, IfErr, Some, None, length, map};
 ghost use Rattle.std.specs.Prelude.{option_map, option_copied, slice_get, is_none};
 ghost use Rattle.std.specs.List.{list_any};
+ghost use Rattle.cq_theory.specs.ArrowRefusals.{of_arrow as refusal_of_arrow};
 ghost use Rattle.cq_theory.specs.Resolve.{are_of_one_sort, has_unknown as unknown_in, in_part, raw_sort};
 ghost use Rattle.cq_theory.specs.SchemaData.{SchemaData};
 ghost use Rattle.cq_base.specs.declared.name.Name.{Name};
 ghost use Rattle.cq_query.specs.declared.parts.Clause.{Clause as ClausePart};
 ghost use Rattle.cq_query.specs.declared.parts.Clause.TheVariants as clause;
 ghost use Rattle.cq_query.specs.Making.{IsMaking};
-ghost use Rattle.cq_query.specs.QueryParts.{of_query as refusal_of_query, least_rule as rule_least};
+ghost use Rattle.cq_query.specs.QueryParts.{least_rule as rule_least};
 ghost use Rattle.cq_query.specs.QueryParts.{is_from as from_entity, is_right_attribute as right_attribute};
 ghost use Rattle.cq_query.specs.QueryParts.{attribute_edge as edge_of_attribute, key_edge as edge_of_key};
 ghost use Rattle.cq_query.specs.QueryParts.{variable_sort as sort_of_variable, target_sort as sort_of_target};
@@ -17,12 +18,11 @@ ghost use Rattle.cq_query.specs.QueryParts.{clauses_fault, names_of, sorts_of};
 
 use crate::given::add_clause;
 use crate::making::Making;
-use crate::owners::{entity_at, of_query};
 use crate::parts::Clause;
 use crate::scopes::Scope;
-use cq_base::{Hashing, Name, Raw};
+use cq_base::{Hashing, Name, Raw, number_at};
 use cq_theory::lookup::{
-    has_reserved, has_unknown, has_wrong_count, in_part_of, is_too_large, sort_of_raw,
+    has_reserved, has_unknown, has_wrong_count, in_part_of, is_too_large, of_arrow, sort_of_raw,
 };
 use cq_theory::{ArrowRefusal, Edge, Schema, Sort, Symbol, TermRefusal, TheoryRefusal};
 use std::alloc::{AllocError, Global};
@@ -254,7 +254,7 @@ fn fault_of_clause(
     if is_given {
         return Some(TheoryRefusal::Duplicate(number));
     }
-    let entity = entity_at(making.entities, part.0);
+    let entity = number_at(making.entities, part.0 as usize);
     match rule_of(making, entity, &part.1) {
         Some(rule) => Some(in_part_of(number, rule)),
         None => None,
@@ -289,15 +289,13 @@ pub(crate) fn check_clauses(alloc: Global, making: &Making) -> Result<(), ArrowR
         making.now.source.now making.now.target.now making.now.entities.now making.now.scopes.now
         making.now.first making.now.clauses.now ≡ None) }
     ensures refused { IfErr result (λ refusal. (refusal ≡ ArrowRefusal.Memory)
-        ⊎ (option_map refusal_of_query (clauses_fault
+        ⊎ (option_map refusal_of_arrow (clauses_fault
         making.now.source.now making.now.target.now making.now.entities.now making.now.scopes.now
         making.now.first making.now.clauses.now) ≡ Some refusal)) }
 {
-    let Ok(fault) = first_clause_fault(alloc, making) else {
-        return Err(ArrowRefusal::Memory);
-    };
+    let fault = first_clause_fault(alloc, making)?;
     match fault {
-        Some(refusal) => Err(of_query(refusal)),
+        Some(refusal) => Err(of_arrow(refusal)),
         None => Ok(()),
     }
 }

@@ -1,21 +1,18 @@
 //! The presentation of coeval.
 ghost use Rattle.std.specs.Prelude.{ℕ, ◌≡◌, ◌+◌, ◌*◌, ◌++◌, ◌∷◌, ◌<◌, ◌≤◌, ◌^◌, ◌⊎◌, ◌||◌, [], true, false, IfOk};
-ghost use Rattle.std.specs.Prelude.{IfErr, OnOk, MatchOption, length, map, sum, nat_lt};
+ghost use Rattle.std.specs.Prelude.{IfErr, MatchOption, length, map, sum};
 ghost use Rattle.std.specs.List.{list_any};
-ghost use Rattle.cq_theory.specs.EntTerm as ent;
-ghost use Rattle.cq_theory.specs.TypeTerm.{symbols_of};
-ghost use Rattle.cq_theory.specs.Presentation.{IsPresentation};
+ghost use Rattle.cq_theory.specs.Presentation.{IsPresentation, has_long_side, is_oversized};
 ghost use Rattle.cq_theory.specs.Tables.{Tables, IsWellFormed};
-ghost use Rattle.cq_query.specs.Coeval.{start_of, size_of, starts as starts_of, null_start, is_large as large};
-ghost use Rattle.cq_query.specs.Coeval.{is_oversized, coeval_of};
+ghost use Rattle.cq_query.specs.Coeval.{start_of, size_of, starts as starts_of, null_start, coeval_of};
 ghost use Rattle.cq_query.specs.Layout.{IsLayout};
 
 use crate::query::Query;
 use crate::rows::{Layout, push_rows};
-use crate::sorts::{build_generators, count_at};
-use cq_base::Seq;
+use crate::sorts::build_generators;
+use cq_base::{Seq, number_at};
 use cq_terms::push_entries;
-use cq_theory::{Algebra, EntTerm, Equation, Presentation, Sheet, SizeRefusal, TypeTerm};
+use cq_theory::{Algebra, Presentation, Sheet, SizeRefusal, has_long_sides};
 use std::alloc::{AllocError, Global};
 
 /// The most generators of a presentation.
@@ -66,16 +63,6 @@ fn end_of(start: u32, count: u32, width: u32) -> Option<u32>
     }
 }
 
-fn push_start(starts: &mut Vec<u32>, start: u32) -> Result<(), SizeRefusal>
-    ensures ok { OnOk result (starts.new.items ≡ starts.old.items ++ start ∷ []) }
-    ensures memory { IfErr result (λ refusal. refusal ≡ SizeRefusal.Memory) }
-{
-    match starts.push(start) {
-        Ok(()) => Ok(()),
-        Err(_) => Err(SizeRefusal::Memory),
-    }
-}
-
 /// The first generator of each entity's rows, and that of the nulls.
 fn find_starts(alloc: Global, query: &Query, counts: &[u32]) -> Result<(Vec<u32>, u32), SizeRefusal>
     ensures small { IfOk result (λ _. null_start query.now counts.now ≤ 16000000) }
@@ -87,8 +74,8 @@ fn find_starts(alloc: Global, query: &Query, counts: &[u32]) -> Result<(Vec<u32>
     let mut starts = Vec::new(alloc);
     let mut total = 0;
     for entity in 0..query.target.entities.len() {
-        push_start(&mut starts, total)?;
-        let count = count_at(counts, entity);
+        starts.push(total)?;
+        let count = number_at(counts, entity);
         let Some(end) = end_of(total, count, query.variable_count(entity)) else {
             return Err(SizeRefusal::TooLarge);
         };
@@ -128,10 +115,8 @@ fn coeval_from(
         first,
         nulls: nulls as u32,
     };
-    match build_coeval(alloc, &layout, algebra) {
-        Ok(made) => check_size(made),
-        Err(_) => Err(SizeRefusal::Memory),
-    }
+    let made = build_coeval(alloc, &layout, algebra)?;
+    check_size(made)
 }
 
 /// The presentation over this layout.
@@ -168,66 +153,13 @@ fn build_coeval(
 
 /// The presentation, where its terms are not too large.
 fn check_size(made: Presentation) -> Result<Presentation, SizeRefusal>
-    ensures ok { IfOk result (λ same. (same ≡ made) × (list_any large made.equations ≡ false)) }
+    ensures ok { IfOk result (λ same. (same ≡ made) × (list_any has_long_side made.equations ≡ false)) }
     ensures refused { IfErr result (λ refusal. (refusal ≡ SizeRefusal.TooLarge)
-        × (list_any large made.equations ≡ true)) }
+        × (list_any has_long_side made.equations ≡ true)) }
 {
-    if has_large(made.equations.as_slice()) {
+    if has_long_sides(made.equations.as_slice()) {
         Err(SizeRefusal::TooLarge)
     } else {
         Ok(made)
     }
-}
-
-/// The room that is left after the symbols of the term, if there is room for them.
-fn room_left(term: &TypeTerm, room: u64) -> Option<u64>
-    ensures { MatchOption result (room < symbols_of term.now) (λ left. symbols_of term.now + left ≡ room) }
-{
-    match term {
-        TypeTerm::Gen(_) => room.checked_sub(1),
-        TypeTerm::Const(_) => room.checked_sub(1),
-        TypeTerm::Att(_, at) => {
-            let left = room.checked_sub(2)?;
-            left.checked_sub(at.path.len() as u64)
-        }
-        TypeTerm::Fun(_, args) => {
-            let mut left = room.checked_sub(1)?;
-            for arg in args.as_slice() {
-                left = room_left(arg, left)?;
-            }
-            Some(left)
-        }
-    }
-}
-
-fn is_long_type(term: &TypeTerm) -> bool
-    ensures { result ≡ nat_lt 1024 (symbols_of term.now) }
-{
-    room_left(term, 1024).is_none()
-}
-
-fn is_long_entity(term: &EntTerm) -> bool
-    ensures { result ≡ nat_lt 1024 (ent.symbols_of term.now) }
-{
-    term.path.len() > 1023
-}
-
-fn is_large(equation: &Equation) -> bool
-    ensures { result ≡ large equation.now }
-{
-    match equation {
-        Equation::Ent(left, right) => is_long_entity(left) || is_long_entity(right),
-        Equation::Typ(left, right) => is_long_type(left) || is_long_type(right),
-    }
-}
-
-fn has_large(equations: &[Equation]) -> bool
-    ensures { result ≡ list_any large equations.now }
-{
-    for equation in equations {
-        if is_large(equation) {
-            return true;
-        }
-    }
-    false
 }

@@ -10,11 +10,12 @@ ghost use Rattle.cq_query.specs.Duties.{equal_terms, frozen as frozen_at, key_du
 ghost use Rattle.cq_query.specs.Duties.{duties as duties_at};
 ghost use Rattle.cq_query.specs.Puts.{put_equation};
 
-use crate::copies::{copy_entity_term, copy_equations};
+use crate::copies::copy_equations;
 use crate::puts::push_equations;
 use crate::query::Query;
 use crate::translation::{found_terms, terms_along, translate};
 use cq_base::{Name, Seq};
+use cq_terms::copy_entity_term;
 use cq_theory::{EntTerm, Equation, Presentation, Sort, TypeTerm};
 use std::alloc::{AllocError, Global};
 

@@ -11,7 +11,8 @@ ghost use Rattle.cq_theory.specs.Tables.{Tables, IsWellFormed};
 ghost use Rattle.cq_query.specs.QueryData.{QueryData as Query};
 ghost use Rattle.cq_query.specs.IsQuery.{IsQuery};
 ghost use Rattle.cq_query.specs.Duties.{frozen, duties as duties_at};
-ghost use Rattle.cq_query.specs.Coeval.{coeval_of, is_oversized};
+ghost use Rattle.cq_theory.specs.Presentation.{is_oversized};
+ghost use Rattle.cq_query.specs.Coeval.{coeval_of};
 ghost use Rattle.cq_query.specs.Answers.{AreAnswers, IsTuple, MeetsTests, variable_counts};
 
 /// The sides of each duty of a query have one sort over the frozen presentation of its entity.

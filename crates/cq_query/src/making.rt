@@ -50,17 +50,11 @@ fn finish_blocks(alloc: Global, making: &Making) -> Result<(Vec<Block>, Tables),
         making.now.scopes.now making.now.clauses.now making.now.first ≡ Some refusal)) }
 {
     check_clauses(alloc, making)?;
-    let Ok(tables) = make_tables(alloc, making.target) else {
-        return Err(ArrowRefusal::Memory);
-    };
-    let Ok(index) = make_index(alloc, making.target, making.clauses) else {
-        return Err(ArrowRefusal::Memory);
-    };
+    let tables = make_tables(alloc, making.target)?;
+    let index = make_index(alloc, making.target, making.clauses)?;
     check_missing(alloc, making, &index, &tables)?;
-    match build_blocks(alloc, making, &index, &tables) {
-        Ok(blocks) => Ok((blocks, tables)),
-        Err(_) => Err(ArrowRefusal::Memory),
-    }
+    let blocks = build_blocks(alloc, making, &index, &tables)?;
+    Ok((blocks, tables))
 }
 
 /// The blocks that the variables and the clauses give.

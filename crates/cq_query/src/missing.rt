@@ -16,11 +16,11 @@ ghost use Rattle.cq_query.specs.QueryParts.{missing_assigned, missing_in, missin
 use crate::assigned::{Assigned, find_assigned, make_assigned};
 use crate::index::{Index, find_attribute, has_key};
 use crate::making::Making;
-use crate::owners::missing;
 use crate::parts::Clause;
 use crate::scopes::Scope;
 use crate::tables::Tables;
 use cq_base::{Name, Raw};
+use cq_theory::lookup::missing;
 use cq_theory::{ArrowRefusal, Schema, Symbol};
 use std::alloc::Global;
 
@@ -182,10 +182,8 @@ fn check_variables_of(
     ensures refused { IfErr result (λ refusal. (refusal ≡ ArrowRefusal.Memory)
         ⊎ (first_of (missing_variable target.now clauses.now key) vars.now ≡ Some refusal)) }
 {
-    match make_assigned(alloc, target, clauses, index, key) {
-        Ok(assigned) => check_variables(target, clauses, &assigned, key, vars),
-        Err(_) => Err(ArrowRefusal::Memory),
-    }
+    let assigned = make_assigned(alloc, target, clauses, index, key)?;
+    check_variables(target, clauses, &assigned, key, vars)
 }
 
 fn check_assigned(

@@ -1,54 +1,15 @@
 //! The entities of the blocks.
 ghost use Rattle.std.specs.Prelude.{◌≡◌, ◌-◌, ◌<◌, ◌^◌, ◌⊎◌, ◌++◌, ◌∷◌, [], IfOk, IfErr, Some, None, length, map};
-ghost use Rattle.std.specs.Prelude.{option_map, slice_index};
+ghost use Rattle.std.specs.Prelude.{option_map};
+ghost use Rattle.cq_theory.specs.ArrowRefusals.{of_arrow as refusal_of_arrow, first_missing};
 ghost use Rattle.cq_theory.specs.Resolve.{or_else};
-ghost use Rattle.cq_query.specs.QueryParts.{of_query as refusal_of_query, first_missing};
 ghost use Rattle.cq_query.specs.QueryParts.{entity_fault as fault_of_entity, entity_named as number_named, block_fault};
 ghost use Rattle.cq_query.specs.QueryParts.{blocks_fault, block_entities};
 
 use cq_base::{Name, Names};
-use cq_theory::lookup::{declare, entity_of_sort};
+use cq_theory::lookup::{check_given, declare, entity_of_sort, of_arrow};
 use cq_theory::{ArrowRefusal, Schema, TheoryRefusal};
 use std::alloc::{AllocError, Global};
-
-/// The same refusal, of a query.
-pub(crate) fn of_query(refusal: TheoryRefusal) -> ArrowRefusal
-    ensures { result ≡ refusal_of_query refusal }
-{
-    match refusal {
-        TheoryRefusal::Duplicate(part) => ArrowRefusal::Duplicate(part),
-        TheoryRefusal::Unknown(part) => ArrowRefusal::Unknown(part),
-        TheoryRefusal::WrongCount(part) => ArrowRefusal::WrongCount(part),
-        TheoryRefusal::WrongSort(part) => ArrowRefusal::WrongSort(part),
-        TheoryRefusal::Reserved(part) => ArrowRefusal::Reserved(part),
-        TheoryRefusal::TooLarge(part) => ArrowRefusal::TooLarge(part),
-        TheoryRefusal::Memory => ArrowRefusal::Memory,
-    }
-}
-
-/// That this name has no part, or want of memory.
-pub(crate) fn missing(name: &Name) -> ArrowRefusal
-    ensures { (result ≡ ArrowRefusal.Memory) ⊎ (result ≡ ArrowRefusal.Missing name.now) }
-{
-    match name.clone() {
-        Ok(name) => ArrowRefusal::Missing(name),
-        Err(_) => ArrowRefusal::Memory,
-    }
-}
-
-/// Whether each name is given. Otherwise the first one that isn't.
-fn check_given(given: &Names, names: &[Name]) -> Result<(), ArrowRefusal>
-    ensures accepted { IfOk result (λ _. first_missing given.now names.now ≡ None) }
-    ensures refused { IfErr result (λ refusal. (refusal ≡ ArrowRefusal.Memory)
-        ⊎ (first_missing given.now names.now ≡ Some refusal)) }
-{
-    for name in names {
-        if given.find(name).is_none() {
-            return Err(missing(name));
-        }
-    }
-    Ok(())
-}
 
 /// The fault of a part with a name that is none of an entity.
 pub(crate) fn entity_fault(schema: &Schema, part: u32, name: &Name) -> Option<TheoryRefusal>
@@ -70,16 +31,6 @@ pub(crate) fn entity_named(schema: &Schema, name: &Name) -> u32
 {
     match entity_of_sort(schema.find_sort(name)) {
         Some(entity) => entity,
-        None => 0,
-    }
-}
-
-/// The entity of a block.
-pub(crate) fn entity_at(entities: &[u32], block: u32) -> u32
-    ensures { result ≡ slice_index entities.now block }
-{
-    match entities.get(block as usize) {
-        Some(entity) => *entity,
         None => 0,
     }
 }
@@ -142,12 +93,12 @@ pub(crate) fn make_entities(
         × (first_missing names.now target.now.entities ≡ None)) }
     ensures made { IfOk result (λ entities. entities.items ≡ block_entities target.now names.now) }
     ensures refused { IfErr result (λ refusal. (refusal ≡ ArrowRefusal.Memory)
-        ⊎ (or_else (option_map refusal_of_query (blocks_fault target.now names.now))
+        ⊎ (or_else (option_map refusal_of_arrow (blocks_fault target.now names.now))
         (first_missing names.now target.now.entities) ≡ Some refusal)) }
 {
     match add_blocks(alloc, target, names) {
         Ok(given) => finish_entities(alloc, target, &given, names),
-        Err(refusal) => Err(of_query(refusal)),
+        Err(refusal) => Err(of_arrow(refusal)),
     }
 }
 
@@ -163,8 +114,6 @@ fn finish_entities(
         ⊎ (first_missing given.now target.now.entities ≡ Some refusal)) }
 {
     check_given(given, target.entities.as_slice())?;
-    match build_entities(alloc, target, names) {
-        Ok(entities) => Ok(entities),
-        Err(_) => Err(ArrowRefusal::Memory),
-    }
+    let entities = build_entities(alloc, target, names)?;
+    Ok(entities)
 }

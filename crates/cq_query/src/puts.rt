@@ -1,20 +1,10 @@
 //! Terms with other terms in place of their generators.
-ghost use Rattle.std.specs.Prelude.{◌≡◌, ◌+◌, ◌<◌, ◌≤◌, ◌^◌, ◌++◌, map, length, IfOk, OnOk};
-ghost use Rattle.cq_query.specs.Puts.{alone, generators_from, put, put_type, put_equation};
+ghost use Rattle.std.specs.Prelude.{◌≡◌, ◌+◌, ◌≤◌, ◌^◌, ◌++◌, map, IfOk, OnOk};
+ghost use Rattle.cq_query.specs.Puts.{generators_from, put, put_type, put_equation};
 
 use cq_base::Seq;
-use cq_theory::{EntTerm, Equation, TypeTerm};
+use cq_theory::{EntTerm, Equation, TypeTerm, alone, extend};
 use std::alloc::{AllocError, Global};
-
-/// A generator alone.
-fn generator(alloc: Global, number: u32) -> EntTerm
-    ensures { result ≡ alone number }
-{
-    EntTerm {
-        generator: number,
-        path: Seq::from_vec(Vec::new(alloc)),
-    }
-}
 
 /// That many generators, from `first` on.
 pub(crate) fn generators(alloc: Global, first: u32, count: u32) -> Result<Vec<EntTerm>, AllocError>
@@ -23,26 +13,9 @@ pub(crate) fn generators(alloc: Global, first: u32, count: u32) -> Result<Vec<En
 {
     let mut made = Vec::new(alloc);
     for number in 0..count {
-        made.push(generator(alloc, first + number))?;
+        made.push(alone(alloc, first + number))?;
     }
     Ok(made)
-}
-
-/// A generator, the keys of a path, and then those of another one.
-fn joined(
-    alloc: Global,
-    generator: u32,
-    before: &[u32],
-    after: &[u32],
-) -> Result<EntTerm, AllocError>
-    ensures { IfOk result (λ made. made ≡ record { generator = generator; path = before.now ++ after.now }) }
-{
-    let mut path = Vec::from_slice(alloc, before)?;
-    path.extend_from_slice(after)?;
-    Ok(EntTerm {
-        generator,
-        path: Seq::from_vec(path),
-    })
 }
 
 /// The entity term with these terms in place of its generator.
@@ -54,13 +27,8 @@ pub(crate) fn put_entity(
     ensures { IfOk result (λ made. made ≡ put terms.now term.now) }
 {
     match terms.get(term.generator as usize) {
-        Some(at) => joined(
-            alloc,
-            at.generator,
-            at.path.as_slice(),
-            term.path.as_slice(),
-        ),
-        None => joined(alloc, 0, &[], term.path.as_slice()),
+        Some(at) => extend(alloc, at, term.path.as_slice()),
+        None => extend(alloc, &alone(alloc, 0), term.path.as_slice()),
     }
 }
 

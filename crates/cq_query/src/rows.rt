@@ -17,8 +17,8 @@ ghost use Rattle.cq_query.specs.Layout.{IsLayout, IsRow};
 use crate::duties::push_equal_terms;
 use crate::puts::{generators, push_equations};
 use crate::query::Query;
-use crate::sorts::count_at;
 use crate::translation::{put_assigned, put_attribute};
+use cq_base::number_at;
 use cq_terms::cell_term;
 use cq_theory::{EntTerm, Equation, Sheet, Value};
 use std::alloc::{AllocError, Global};
@@ -68,7 +68,7 @@ fn row_terms_from(
         ≡ terms_from layout.now.query.now layout.now.sheet.now.counts entity row (Some start)) }
 {
     let width = layout.query.variable_count(entity);
-    if row < count_at(layout.sheet.counts.as_slice(), entity) {
+    if row < number_at(layout.sheet.counts.as_slice(), entity) {
         generators_at(alloc, start, row, width)
     } else {
         Ok(Vec::new(alloc))
@@ -98,23 +98,13 @@ fn row_terms(
     }
 }
 
-/// The row in a column.
-fn row_in(column: &[u32], row: u32) -> u32
-    ensures { result ≡ slice_index column.now row }
-{
-    match column.get(row as usize) {
-        Some(row) => *row,
-        None => 0,
-    }
-}
-
 /// The row to which a foreign key leads.
 fn key_row(sheet: &Sheet, key: usize, row: u32) -> u32
     ensures { result ≡ slice_index (slice_index_or sheet.now.keys key []) row }
 {
     match sheet.keys.as_slice().get(key) {
-        Some(column) => row_in(column.as_slice(), row),
-        None => row_in(&[], row),
+        Some(column) => number_at(column.as_slice(), row as usize),
+        None => number_at(&[], row as usize),
     }
 }
 
@@ -294,7 +284,7 @@ fn push_entity_rows(
     ensures { OnOk result (made.new.items ≡ made.old.items
         ++ entity_equations layout.now.query.now layout.now.sheet.now layout.now.nulls entity) }
 {
-    let count = count_at(layout.sheet.counts.as_slice(), entity);
+    let count = number_at(layout.sheet.counts.as_slice(), entity);
     for row in 0..count {
         push_row(alloc, layout, entity, row, made)?;
     }

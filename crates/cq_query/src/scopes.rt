@@ -1,13 +1,15 @@
 //! The variables of the blocks.
 ghost use Rattle.std.specs.Prelude.{ℕ, ◌≡◌, ◌+◌, ◌-◌, ◌<◌, ◌^◌, ◌⊎◌, ◌++◌, ◌∷◌, [], All, IfOk, OnOk, IfErr, Some, None};
 ghost use Rattle.std.specs.Prelude.{length, map, option_map};
+ghost use Rattle.cq_theory.specs.ArrowRefusals.{of_arrow as refusal_of_arrow};
 ghost use Rattle.cq_theory.specs.Canonical.{below};
-ghost use Rattle.cq_query.specs.QueryParts.{of_query as refusal_of_query, entity_named as number_named, names_in};
+ghost use Rattle.cq_query.specs.QueryParts.{entity_named as number_named, names_in};
 ghost use Rattle.cq_query.specs.QueryParts.{variables_in, scopes_of, variable_fault_after, variable_fault};
 ghost use Rattle.cq_query.specs.QueryParts.{variables_fault, names_of, sorts_of};
 
-use crate::owners::{entity_fault, entity_named, of_query};
+use crate::owners::{entity_fault, entity_named};
 use cq_base::{Name, Names, Seq};
+use cq_theory::lookup::of_arrow;
 use cq_theory::{ArrowRefusal, Schema, Sort, TheoryRefusal};
 use std::alloc::{AllocError, Global};
 use std::marker::Model;
@@ -136,10 +138,8 @@ fn add_variable(
     if table.len() >= MOST_VARIABLES {
         return Err(TheoryRefusal::TooLarge(number));
     }
-    match add_name(table, &part.1) {
-        Ok(()) => Ok(()),
-        Err(_) => Err(TheoryRefusal::Memory),
-    }
+    add_name(table, &part.1)?;
+    Ok(())
 }
 
 /// Tests the variables, of which the first is part `first`.
@@ -158,9 +158,7 @@ fn check_variables(
     ensures refused { IfErr result (λ refusal. (refusal ≡ TheoryRefusal.Memory)
         ⊎ (variables_fault source.now entities.now first parts.now ≡ Some refusal)) }
 {
-    let Ok(mut tables) = empty_tables(alloc, count) else {
-        return Err(TheoryRefusal::Memory);
-    };
+    let mut tables = empty_tables(alloc, count)?;
     let mut number = first;
     for part in parts {
         let entity = entities[part.0 as usize];
@@ -258,13 +256,13 @@ pub(crate) fn make_scopes(
     ensures accepted { IfOk result (λ _. variables_fault source.now entities.now first parts.now ≡ None) }
     ensures made { IfOk result (λ scopes. scopes.items ≡ scopes_of source.now entities.now count parts.now) }
     ensures refused { IfErr result (λ refusal. (refusal ≡ ArrowRefusal.Memory)
-        ⊎ (option_map refusal_of_query (variables_fault source.now entities.now first parts.now) ≡ Some refusal)) }
+        ⊎ (option_map refusal_of_arrow (variables_fault source.now entities.now first parts.now) ≡ Some refusal)) }
 {
     match check_variables(alloc, source, entities, count as usize, first, parts) {
-        Ok(()) => match build_scopes(alloc, source, entities, count, parts) {
-            Ok(scopes) => Ok(scopes),
-            Err(_) => Err(ArrowRefusal::Memory),
-        },
-        Err(refusal) => Err(of_query(refusal)),
+        Ok(()) => {
+            let scopes = build_scopes(alloc, source, entities, count, parts)?;
+            Ok(scopes)
+        }
+        Err(refusal) => Err(of_arrow(refusal)),
     }
 }

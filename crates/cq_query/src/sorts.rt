@@ -1,13 +1,12 @@
 //! The generators of the coeval presentation.
 ghost use Rattle.std.specs.Prelude.{ℕ, ◌≡◌, ◌++◌, ◌<◌, ◌^◌, [], IfOk, OnOk, length, map};
-ghost use Rattle.std.specs.Prelude.{slice_index};
 ghost use Rattle.std.specs.List.{flat_map};
 ghost use Rattle.cq_theory.specs.declared.presentation.Sort.TheVariants.{Plain, Entity};
 ghost use Rattle.cq_theory.specs.Canonical.{below, named};
 ghost use Rattle.cq_query.specs.Coeval.{row_sorts};
 
 use crate::query::Query;
-use cq_base::Name;
+use cq_base::{Name, number_at};
 use cq_terms::{name_generators, push_null_sorts};
 use cq_theory::Sort;
 use std::alloc::{AllocError, Global};
@@ -42,20 +41,10 @@ fn push_entity_sorts(
 ) -> Result<(), AllocError>
     ensures { OnOk result (made.new.items ≡ made.old.items ++ row_sorts query.now counts.now entity) }
 {
-    let count = count_at(counts, entity);
+    let count = number_at(counts, entity);
     match query.block(entity) {
         Some(block) => push_rows_sorts(block.vars.as_slice(), count, made),
         None => push_rows_sorts(&[], count, made),
-    }
-}
-
-/// How many rows an entity has.
-pub(crate) fn count_at(counts: &[u32], entity: usize) -> u32
-    ensures { result ≡ slice_index counts.now entity }
-{
-    match counts.get(entity) {
-        Some(count) => *count,
-        None => 0,
     }
 }
 

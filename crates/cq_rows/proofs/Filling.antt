@@ -4,7 +4,7 @@ use Rattle.std.proofs.lemmas.Bool.{cases_eq, eq-eqb, ne_eqb, false≢true}
 use Rattle.std.proofs.lemmas.Option.{none-some, same_Some, slice_get-get_or}
 use Rattle.std.proofs.lemmas.List.{get_or_default}
 use Rattle.std.proofs.lemmas.List.Elements.{All-get_or}
-use Rattle.std.specs.Prelude.{All, slice_get, slice_index, IsSome, is_some}
+use Rattle.std.specs.Prelude.{All, slice_index, IsSome, is_some}
 use Rattle.cq_tables.specs.Content.{Content, made_of, live_of, entity_of, cell_of, step_of, IsWhole, keys_of}
 use Rattle.cq_tables.specs.Changes.{AddsRow, SetsCell}
 use Rattle.cq_rows.specs.Theory.{Term, Theory, reflexive, along, sort_of, Derives}

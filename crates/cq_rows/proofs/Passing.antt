@@ -1,12 +1,12 @@
 -- Passes over the equations, which go on after a merge.
-use Rattle.std.proofs.Common.{◌≡◌, ℕ, ◌+◌, ◌<◌, ◌≤◌, Bool, true, false, List, length, get_or, Some, refl, sym, ◌∙◌, ap, arith, ⊎_elim, ◌⊎◌, inl, inr}
+use Rattle.std.proofs.Common.{◌≡◌, ℕ, ◌+◌, ◌<◌, ◌≤◌, Bool, true, false, List, length, get_or, Some, refl, sym, ◌∙◌, ap, subst, arith, ⊎_elim, ◌⊎◌, inl, inr}
 use Rattle.std.proofs.lemmas.Bool.{cases_Bool, false≢true}
 use Rattle.std.specs.Prelude.{slice_get, IsSome}
 use Rattle.cq_tables.specs.Content.{Content, live_of, entity_of, end_of, IsWhole, keys_of}
 use Rattle.cq_rows.specs.Theory.{Term, Rule, Theory, IsTheory, Derives}
 use Rattle.cq_rows.specs.declared.entries.Entries.{Entries}
 use Rattle.cq_rows.specs.Entries.{rows_of, IsCurrent}
-use Rattle.cq_rows.specs.Rows.{IsSound, IsImage, IsSame, Passes, Continues, RuleHolds, GivenHolds, RuleJoins, GivenJoins, Agree, HoldIfLive, live_count}
+use Rattle.cq_rows.specs.Rows.{IsSound, IsImage, IsSame, Passes, Continues, RuleHolds, GivenHolds, RulesHold, GivenHold, RuleJoins, GivenJoins, Agree, HoldIfLive, live_count}
 use Rattle.cq_rows.proofs.Cells.{found_here, below_or_at}
 use Rattle.cq_rows.proofs.Equations.{HoldUnder}
 use Rattle.cq_rows.proofs.Settling.{IsSettling-start, IsSettling-merged, settling_then}
@@ -54,6 +54,13 @@ pub Passes-outer : (s : Theory) (old m m' : Content) (e_old e e' : Entries) (mer
 Passes-outer s old m m' e_old e e' merged inner hold next part is p q f =
     let o = q.still is in
     rw (o.0, o.1) (Passes-keep s old m e_old e merged hold next p (λ x _ h. f x h o.2))
+
+-- a pass over the path equations, and one over the equations of the presentation that merged nothing
+pub Passes-both : (s : Theory) (old m m' : Content) (e_old e e' : Entries) (before now : Bool) → now ≡ false
+    → Passes s old m e_old e before (RulesHold s old) → Passes s m m' e e' now (GivenHold s m (rows_of e)) → Passes s old m' e_old e' before (RulesHold s old × GivenHold s old (rows_of e_old))
+Passes-both s old m m' e_old e e' before now is p q =
+    let o = q.still is in
+    rw (o.0, o.1) (Passes-keep s old m e_old e before (RulesHold s old) _ p (λ x y h. (h, subst (λ (c : Content). GivenHold s c (rows_of e_old)) x (subst (λ (d : Entries). GivenHold s m (rows_of d)) y o.2))))
 
 -- what a pass leaves, whether it merged or not
 pub Passes-continues : (s : Theory) (old m : Content) (e_old e : Entries) (merged : Bool) (hold : Type 0) → Passes s old m e_old e merged hold → Continues s old m e_old e

@@ -7,7 +7,7 @@ use Rattle.cq_tables.specs.Content.{Content, made_of, live_of, entity_of, cell_o
 use Rattle.cq_rows.specs.Theory.{Term, Theory, Proves, reflexive, symmetric, transitive, key, given, rule, along, generator_term, sort_of, Within, Closes, IsTheory}
 use Rattle.cq_rows.specs.Rows.{no_row, IsSound, HaveRows, IsImage, IsSame, FillsAll, AllFilled, IsCellOf, row_of_term, RulesHold, GivenHold, HasBegun, IsName, OneRowIsEqual}
 use Rattle.cq_rows.specs.Stage.{IsGrown, IsStage}
-use Rattle.cq_rows.proofs.Cells.{below_or_at}
+use Rattle.cq_rows.proofs.Cells.{below_or_at, live_made}
 use Rattle.cq_rows.proofs.Sorts.{sorted_at, sort_from, sort-along, end_one, one_end, end_split, generator_sort}
 use Rattle.cq_rows.proofs.Tracing.{trace_append, trace-append, trace_leads, trace_image, trace_extends, trace_one, one_trace, same_row}
 
@@ -286,3 +286,7 @@ as_stage s m rows j k e h = rw (← e) h
 pub not_filled : (m : Content) (b : Bool) → b ≡ false → MatchBool b (AllFilled m) (AllFilled m → ⊥) → AllFilled m → ⊥
 not_filled m true e h = absurd (false≢true (sym e))
 not_filled m false e h = h
+
+-- where a cell is empty there are rows
+pub some_made : (m : Content) → IsWhole m → (AllFilled m → ⊥) → 0 < made_of m
+some_made m w empty = ⊎_elim (λ some. some) (λ none. absurd (empty (λ r k d live e. absurd (omega (arith, live_made m r w live, none))))) (cases_lt 0 (made_of m))

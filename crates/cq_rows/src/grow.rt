@@ -1,12 +1,11 @@
 //! The stages.
 ghost use Rattle.std.specs.Prelude.{◌≡◌, ℕ, ◌<◌, ◌≤◌, ◌^◌, length, map, Err, IfOk, OnOk, MatchBool, false, All};
-ghost use Rattle.cq_tables.specs.Content.{keys_of, entities_of, IsWhole};
+ghost use Rattle.cq_tables.specs.Content.{keys_of, entities_of, made_of, IsWhole};
 ghost use Rattle.cq_theory.specs.Groups.{path_eq_sources, AreGroups};
 ghost use Rattle.cq_theory.specs.Schema.{IsSchema};
 ghost use Rattle.cq_theory.specs.Presentation.{IsPresentation};
 ghost use Rattle.cq_rows.specs.Theory.{IsTheory};
 ghost use Rattle.cq_rows.specs.Plain.{theory_of, ends_of};
-ghost use Rattle.cq_rows.specs.Origin.{theory_at};
 ghost use Rattle.cq_rows.specs.Rows as rows;
 ghost use Rattle.cq_rows.specs.Entries.{rows_of};
 ghost use Rattle.cq_rows.specs.Stage.{IsStage};
@@ -19,7 +18,7 @@ use crate::origin::Origin;
 use crate::settle::settle;
 use cq_base::Seq;
 use cq_tables::Tables;
-use cq_theory::{Presentation, Schema, Sort, path_equations_by_entity};
+use cq_theory::{Groups, Presentation, Schema, Sort, path_equations_by_entity};
 use std::alloc::{AllocError, Global};
 
 /// The most live rows at the end of a stage.
@@ -96,27 +95,45 @@ fn begin(
     Ok((tables, entries))
 }
 
+// The path equations that begin at each entity, or none where there are no rows. An instance without rows costs no more
+// where its schema has many.
+fn list_rules(alloc: Global, schema: &Schema, tables: &Tables) -> Result<Groups, AllocError>
+    ensures { IfOk result (λ groups. 0 < made_of tables.now → AreGroups (path_eq_sources schema.now.path_eqs)
+        (length schema.now.entities) groups) }
+{
+    if tables.made() == 0 {
+        return Groups::new(alloc, 0, &[]);
+    }
+    path_equations_by_entity(alloc, schema)
+}
+
 // The tables at the end of the last stage, the rows of the generators, and whether all cells are filled.
 fn grow(
     alloc: Global,
-    origin: &Origin,
+    schema: &Schema,
+    presentation: &Presentation,
     keys: &[(u32, u32)],
     depth: u32,
 ) -> Result<(Tables, Entries, bool), RowsRefusal>
-    requires theory { IsTheory (theory_at origin.now) }
-    requires keys { keys.now ≡ (theory_at origin.now).keys }
-    requires groups { AreGroups (path_eq_sources origin.now.schema.now.path_eqs)
-        (length origin.now.schema.now.entities) origin.now.groups.now }
-    requires range { All (λ k. (k.0 < length origin.now.schema.now.entities)
-        × (k.1 < length origin.now.schema.now.entities)) keys.now }
-    ensures stage { IfOk result (λ p. IsStage (theory_at origin.now) p.0 (rows_of p.1) depth) }
+    requires theory { IsTheory (theory_of schema.now presentation.now) }
+    requires keys { keys.now ≡ (theory_of schema.now presentation.now).keys }
+    requires range { All (λ k. (k.0 < length schema.now.entities) × (k.1 < length schema.now.entities)) keys.now }
+    ensures stage { IfOk result (λ p. IsStage (theory_of schema.now presentation.now) p.0 (rows_of p.1) depth) }
     ensures closed { IfOk result (λ p. MatchBool p.2 (rows.AllFilled p.0) (rows.AllFilled p.0 → ⊥)) }
-    ensures unclosed { IfOk result (λ p. p.2 ≡ false → rows.NoneCloses (theory_at origin.now) depth) }
-    ensures many { result ≡ Err TooManyRows → rows.SomeWide (theory_at origin.now) depth MOST_ROWS }
+    ensures unclosed { IfOk result (λ p. p.2 ≡ false
+        → rows.NoneCloses (theory_of schema.now presentation.now) depth) }
+    ensures many { result ≡ Err TooManyRows
+        → rows.SomeWide (theory_of schema.now presentation.now) depth MOST_ROWS }
 {
-    let (mut tables, first) = begin(alloc, origin.schema, origin.presentation, keys)?;
+    let (mut tables, first) = begin(alloc, schema, presentation, keys)?;
+    let groups = list_rules(alloc, schema, &tables)?;
+    let origin = Origin {
+        schema,
+        presentation,
+        groups: &groups,
+    };
     let mut rows = Entries::new(alloc, first);
-    settle(alloc, origin, &mut tables, &mut rows)?;
+    settle(alloc, &origin, &mut tables, &mut rows)?;
     if count_live(&tables) > MOST_ROWS {
         return Err(RowsRefusal::TooManyRows);
     }
@@ -125,7 +142,7 @@ fn grow(
             return Ok((tables, rows, true));
         }
         fill(keys, &mut tables)?;
-        settle(alloc, origin, &mut tables, &mut rows)?;
+        settle(alloc, &origin, &mut tables, &mut rows)?;
         if count_live(&tables) > MOST_ROWS {
             return Err(RowsRefusal::TooManyRows);
         }
@@ -175,13 +192,7 @@ pub fn saturate(
     ensures many { result ≡ Err TooManyRows → saturated.SomeWide schema.now presentation.now depth }
 {
     let keys = key_ends(alloc, schema)?;
-    let groups = path_equations_by_entity(alloc, schema)?;
-    let origin = Origin {
-        schema,
-        presentation,
-        groups: &groups,
-    };
-    let (tables, rows, closed) = grow(alloc, &origin, &keys, depth)?;
+    let (tables, rows, closed) = grow(alloc, schema, presentation, &keys, depth)?;
     Ok(Partial {
         tables,
         generator_rows: Seq::from_vec(rows.into_rows()),

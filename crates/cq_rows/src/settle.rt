@@ -1,9 +1,8 @@
 //! Merging, as long as some equation joins two rows.
 ghost use Rattle.std.specs.Prelude.{◌≡◌, ℕ, ◌<◌, ◌≤◌, length, IfOk, OnOk};
 ghost use Rattle.cq_tables.specs.Content.{keys_of, entities_of, made_of, IsWhole};
-ghost use Rattle.cq_theory.specs.Groups.{path_eq_sources, AreGroups};
 ghost use Rattle.cq_rows.specs.Theory.{Term, IsTheory};
-ghost use Rattle.cq_rows.specs.Origin.{theory_at, IsReady};
+ghost use Rattle.cq_rows.specs.Origin.{theory_at, AreListed, IsReady};
 ghost use Rattle.cq_rows.specs.Entries.{rows_of, IsCurrent, IsBehind};
 ghost use Rattle.cq_rows.specs.Rows.{no_row, IsSound, IsImage, IsSame, RulesHold, GivenHold, HaveRows, IsSettling};
 ghost use Rattle.cq_rows.specs.Rows.{Passes, Continues, HoldIfLive};
@@ -180,24 +179,30 @@ fn pass_given(
     Ok(merged)
 }
 
-// The first pass, over the path equations and then over the equations of the presentation.
-fn first_pass(
+// Passes over the path equations and then over the equations of the presentation, and says whether some joined rows.
+fn pass(
     alloc: Global,
     origin: &Origin,
     tables: &mut Tables,
     rows: &mut Entries,
     waits: &mut Waiting,
-) -> Result<(), AllocError>
+) -> Result<bool, AllocError>
     requires ready { IsReady origin.now tables.old rows.old }
-    ensures { OnOk result (Continues (theory_at origin.now) tables.old tables.new rows.old rows.new) }
+    ensures { IfOk result (λ merged. Passes (theory_at origin.now) tables.old tables.new rows.old rows.new merged
+        (RulesHold (theory_at origin.now) tables.old × GivenHold (theory_at origin.now) tables.old
+        (rows_of rows.old))) }
 {
-    pass_rules(alloc, origin, tables, rows, waits)?;
-    pass_given(alloc, origin, tables, rows, waits)?;
-    Ok(())
+    let before = pass_rules(alloc, origin, tables, rows, waits)?;
+    let now = pass_given(alloc, origin, tables, rows, waits)?;
+    if now {
+        return Ok(true);
+    }
+    Ok(before)
 }
 
 // Passes over all equations until none joins two rows. The first pass lists those that stop at an empty cell, and
-// each merge looks again at those that may go on, so that the later passes find little.
+// each merge looks again at those that may go on, so that the later passes find little. A pass that merges nothing is
+// the last one, also where it is the first.
 fn merge_all(
     alloc: Global,
     origin: &Origin,
@@ -211,16 +216,12 @@ fn merge_all(
     ensures rules { OnOk result (RulesHold (theory_at origin.now) tables.new) }
     ensures given { OnOk result (GivenHold (theory_at origin.now) tables.new (rows_of rows.new)) }
 {
-    first_pass(alloc, origin, tables, rows, waits)?;
-    waits.close();
     loop {
-        if pass_rules(alloc, origin, tables, rows, waits)? {
-            continue;
+        let merged = pass(alloc, origin, tables, rows, waits)?;
+        if !merged {
+            return Ok(());
         }
-        if pass_given(alloc, origin, tables, rows, waits)? {
-            continue;
-        }
-        return Ok(());
+        waits.close();
     }
 }
 
@@ -233,8 +234,7 @@ pub fn settle(
 ) -> Result<(), AllocError>
     requires theory { IsTheory (theory_at origin.now) }
     requires keys { keys_of tables.old ≡ (theory_at origin.now).keys }
-    requires groups { AreGroups (path_eq_sources origin.now.schema.now.path_eqs)
-        (length origin.now.schema.now.entities) origin.now.groups.now }
+    requires groups { AreListed origin.now tables.old }
     requires entities { entities_of tables.old ≡ length origin.now.schema.now.entities }
     requires whole { IsWhole tables.old }
     requires behind { IsBehind tables.old rows.old }

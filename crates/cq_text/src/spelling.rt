@@ -7,9 +7,9 @@ ghost use Rattle.cq_text.specs.Transcript.{edge_name, IsNamedEntry};
 ghost use Rattle.cq_text.specs.Literal.{applied_text, content_of, generator_text};
 ghost use Rattle.cq_text.specs.Spelling.{entry_equation_line, spelled};
 
-use crate::pieces::{push_edge_name, push_name, push_number};
+use crate::pieces::{push_edge_name, push_number};
 use crate::plan::sum_of;
-use cq_theory::value_text::push_quoted;
+use cq_theory::value_text::{push_function_name, push_quoted};
 use cq_theory::{Con, Edge, Entry, Typeside, Value};
 use std::alloc::AllocError;
 
@@ -127,20 +127,6 @@ fn push_content(typeside: &Typeside, constant: &Con, text: &mut Vec<u8>) -> Resu
     ensures { OnOk result (text.new.items ≡ text.old.items ++ quoted (content_of typeside.now constant.now)) }
 {
     push_quoted(content(typeside, constant), text)?;
-    Ok(())
-}
-
-fn push_function_name(
-    typeside: &Typeside,
-    function: u32,
-    text: &mut Vec<u8>,
-) -> Result<(), AllocError>
-    requires { function < length typeside.now.functions }
-    ensures { OnOk result (text.new.items ≡ text.old.items
-        ++ function_name (slice_get typeside.now.functions function)) }
-{
-    let functions = typeside.functions.as_slice();
-    push_name(&functions[function as usize].name, text)?;
     Ok(())
 }
 

@@ -12,6 +12,7 @@ pub mod PartFaults
 pub mod Bounded
 pub mod Raws
 pub mod ResolvedSorts
+pub mod KnownTerms
 pub mod DeclaredParts
 pub mod PartLoops
 pub mod MadeTypesides

@@ -1,6 +1,6 @@
 -- Loops over parts: what a part adds to the lists that the earlier ones made, and what it leaves of the first fault.
-use Rattle.std.proofs.Common.{ℕ, Bool, false, not, List, [], ◌∷◌, ◌++◌, Option, Some, None, ◌≡◌, ◌⊎◌, inl, inr, ◌<◌, ◌≤◌, ◌+◌, map, take, drop, length, get_or, sym, ap, ◌∙◌}
-use Rattle.std.specs.Prelude.{option_map, cond}
+use Rattle.std.proofs.Common.{ℕ, List, [], ◌∷◌, ◌++◌, Option, Some, None, ◌≡◌, ◌⊎◌, inl, inr, ◌<◌, ◌≤◌, ◌+◌, map, take, drop, length, get_or, sym, ap, ◌∙◌}
+use Rattle.std.specs.Prelude.{option_map}
 use Rattle.std.proofs.lemmas.List.{take_more, take_all, at_drop_more, at_drop_all, map-append}
 use Rattle.cq_base.specs.declared.name.Name.{Name}
 use Rattle.cq_theory.specs.declared.lookup.TermRefusal.{TermRefusal}
@@ -8,10 +8,6 @@ use Rattle.cq_theory.specs.declared.lookup.TheoryRefusal.{TheoryRefusal}
 use Rattle.cq_theory.specs.declared.lookup.TheoryRefusal.TheVariants.{Memory}
 use Rattle.cq_theory.specs.Resolve.{or_else, first_fault, in_part}
 use Rattle.cq_theory.specs.Declaring.{first_part_fault}
-
--- a list to which an element was added without a fault
-pub pushed : {Y : Type 0} (ok failed : Bool) (before after : List Y) (y : Y) → after ≡ cond ok (before ++ y ∷ []) before → ok ≡ not failed → failed ≡ false → after ≡ before ++ y ∷ []
-pushed ok failed before after y items negation passed = items ∙ ap (λ b. cond b (before ++ y ∷ []) before) (negation ∙ ap not passed)
 
 module _ {X Y : Type 0} (f : X → Y) (xs : List X) (i : ℕ) where
   pub map_more : (x : X) (before after : List Y) (y : Y) → i < length xs → x ≡ get_or xs i x → before ≡ map f (take i xs) → y ≡ f x → after ≡ before ++ y ∷ [] → after ≡ map f (take (i + 1) xs)

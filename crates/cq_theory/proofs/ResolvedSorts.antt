@@ -28,12 +28,12 @@ use Rattle.cq_theory.proofs.Faults.{neither}
 use Rattle.cq_theory.proofs.Sound.{both}
 use Rattle.cq_theory.proofs.Closings.{entity_of-extended}
 
-plain_of : (o : Option Sort) (type : ℕ) → is_plain_of o type ≡ true → o ≡ Some (Plain type)
+pub plain_of : (o : Option Sort) (type : ℕ) → is_plain_of o type ≡ true → o ≡ Some (Plain type)
 plain_of None type h = cc
 plain_of (Some (Plain t)) type h = ap (λ n. Some (Plain n)) (eqb-true t type h)
 plain_of (Some (Entity e)) type h = cc
 
-in_entity : (o : Option Sort) (e : ℕ) → entity_in o ≡ Some e → o ≡ Some (Entity e)
+pub in_entity : (o : Option Sort) (e : ℕ) → entity_in o ≡ Some e → o ≡ Some (Entity e)
 in_entity None e h = cc
 in_entity (Some (Plain t)) e h = cc
 in_entity (Some (Entity f)) e h = let same : f ≡ e = cc in ap (λ n. Some (Entity n)) same

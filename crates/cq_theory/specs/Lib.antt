@@ -25,4 +25,5 @@ pub mod TypesideParts
 pub mod Paths
 pub mod SchemaParts
 pub mod Routes
+pub mod ArrowRefusals
 pub mod Groups

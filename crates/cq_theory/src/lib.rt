@@ -10,6 +10,7 @@ pub mod parts;
 pub mod presentation;
 pub mod route;
 pub mod schema;
+pub mod sizes;
 pub mod term;
 pub mod typeside;
 pub mod value;
@@ -27,6 +28,7 @@ pub use parts::{
 pub use presentation::{Equation, Presentation, Sort};
 pub use route::{Route, resolve_path};
 pub use schema::{Edge, ObsEq, PathEq, Schema};
-pub use term::{EntTerm, Term, TypeTerm, depth, ent_symbols, substitute, symbols};
+pub use sizes::{has_long_sides, is_long_entity, is_long_type, is_long_value};
+pub use term::{EntTerm, Term, TypeTerm, alone, depth, ent_symbols, extend, substitute, symbols};
 pub use typeside::{Fun, Typeside};
 pub use value::{Algebra, Entry, Sheet, Value, value_symbols};

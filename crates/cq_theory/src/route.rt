@@ -33,10 +33,10 @@ pub fn resolve_path(alloc: Global, schema: &Schema, names: &[Name]) -> Result<Ro
 {
     match path_fault(schema, names) {
         Some(rule) => Err(rule),
-        None => match build_route(alloc, schema, names) {
-            Ok(route) => Ok(route),
-            Err(_) => Err(TermRefusal::Memory),
-        },
+        None => {
+            let route = build_route(alloc, schema, names)?;
+            Ok(route)
+        }
     }
 }
 

@@ -114,7 +114,8 @@ fn push_constant_name(
     Ok(())
 }
 
-fn push_function_name(
+/// Appends the name of a function.
+pub fn push_function_name(
     typeside: &Typeside,
     function: u32,
     text: &mut Vec<u8>,

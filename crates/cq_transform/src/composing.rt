@@ -12,7 +12,7 @@ ghost use Rattle.cq_transform.specs.Transforms.{GoesFrom};
 
 use crate::putting::put_image;
 use crate::sizes::is_long;
-use cq_base::Seq;
+use cq_base::{Seq, number_at};
 use cq_model::values::copied;
 use cq_model::{Image, Instance, Transform};
 use cq_theory::{Con, SizeRefusal, Value};
@@ -41,10 +41,8 @@ pub fn compose(
     middle.is_instance();
     last.is_instance();
     let images = images_of(alloc, first, second)?;
-    match finished(alloc, first, second, last, images) {
-        Ok(made) => Ok(made),
-        Err(_) => Err(SizeRefusal::Memory),
-    }
+    let made = finished(alloc, first, second, last, images)?;
+    Ok(made)
 }
 
 /// Puts an image behind others, with the second images in place of its generators.
@@ -59,16 +57,12 @@ fn push_image(
     ensures refused { IfErr result (λ refusal. (refusal ≡ SizeRefusal.Memory)
         ⊎ ((refusal ≡ SizeRefusal.TooLarge) × (is_over (image_put second.now image.now) ≡ true))) }
 {
-    let Ok(put) = put_image(alloc, second, image) else {
-        return Err(SizeRefusal::Memory);
-    };
+    let put = put_image(alloc, second, image)?;
     if is_long(&put) {
         return Err(SizeRefusal::TooLarge);
     }
-    match made.push(put) {
-        Ok(()) => Ok(()),
-        Err(_) => Err(SizeRefusal::Memory),
-    }
+    made.push(put)?;
+    Ok(())
 }
 
 /// The images of the first transform, with those of the second one in place of their generators.
@@ -82,13 +76,9 @@ fn composed_images(
     ensures refused { IfErr result (λ refusal. (refusal ≡ SizeRefusal.Memory)
         ⊎ ((refusal ≡ SizeRefusal.TooLarge) × (has_long (images_then first.now second.now) ≡ true))) }
 {
-    let Ok(mut made) = Vec::with_capacity(alloc, first.len()) else {
-        return Err(SizeRefusal::Memory);
-    };
+    let mut made = Vec::with_capacity(alloc, first.len())?;
     for image in first {
-        if let Err(refusal) = push_image(alloc, second, image, &mut made) {
-            return Err(refusal);
-        }
+        push_image(alloc, second, image, &mut made)?;
     }
     Ok(made)
 }
@@ -111,16 +101,6 @@ fn images_of(
     }
 }
 
-/// The number at a place, and 0 past the end.
-fn number_at(numbers: &[u32], place: u32) -> u32
-    ensures { result ≡ slice_index numbers.now place }
-{
-    match numbers.get(place as usize) {
-        Some(number) => *number,
-        None => 0,
-    }
-}
-
 /// The rows of an entity, and none where there is no such entity.
 fn rows_at(rows: &[Seq<u32>], entity: usize) -> &[u32]
     ensures { result.now ≡ slice_index_or rows.now entity [] }
@@ -137,7 +117,7 @@ fn rows_then(alloc: Global, rows: &[u32], then: &[u32]) -> Result<Seq<u32>, Allo
 {
     let mut made = Vec::with_capacity(alloc, rows.len())?;
     for row in rows {
-        made.push(number_at(then, *row))?;
+        made.push(number_at(then, *row as usize))?;
     }
     Ok(Seq::from_vec(made))
 }

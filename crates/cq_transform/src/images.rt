@@ -233,10 +233,8 @@ fn images_over(
         Err(refusal) => return Err(of_transform(refusal)),
     };
     check_given(&given, generators)?;
-    match make_images(alloc, schema, to, &given, parts, generators) {
-        Ok(images) => Ok(images),
-        Err(_) => Err(TransformRefusal::Memory),
-    }
+    let images = make_images(alloc, schema, to, &given, parts, generators)?;
+    Ok(images)
 }
 
 /// The images that the parts give to the generators of one presentation over those of another. There are none where
@@ -257,11 +255,7 @@ pub(crate) fn images(
     ensures refused { IfErr result (λ refusal. (refusal ≡ TransformRefusal.Memory)
         ⊎ (fault_over schema.now generators.now others.now parts.now ≡ Some refusal)) }
 {
-    let Ok(from) = make_scope(alloc, generators) else {
-        return Err(TransformRefusal::Memory);
-    };
-    let Ok(to) = make_scope(alloc, others) else {
-        return Err(TransformRefusal::Memory);
-    };
+    let from = make_scope(alloc, generators)?;
+    let to = make_scope(alloc, others)?;
     images_over(alloc, schema, &from, &to, generators, parts)
 }

@@ -1,7 +1,7 @@
 //! The values to which nulls go. Generators, cells and entries tell them: what means the null in the source has its
 //! value in the target.
 ghost use Rattle.std.specs.Prelude.{ℕ, [], ◌≡◌, ◌<◌, IfOk, OnOk, Some, None, length, map, replicate, slice_get};
-ghost use Rattle.std.specs.Prelude.{slice_index, slice_index_or};
+ghost use Rattle.std.specs.Prelude.{slice_index_or};
 ghost use Rattle.cq_theory.specs.declared.schema.Edge.{Edge as AnyEdge};
 ghost use Rattle.cq_theory.specs.declared.term.Term.TheVariants.{Typ};
 ghost use Rattle.cq_theory.specs.declared.term.TypeTerm.TheVariants.{Gen};
@@ -16,7 +16,7 @@ ghost use Rattle.cq_transform.specs.Nulls.{AreAttributesClosed, IsStandingOf, Is
 
 use crate::entries::find_entries;
 use crate::found::{open_label, put, values_of};
-use cq_base::Seq;
+use cq_base::{Seq, number_at};
 use cq_model::values::copied;
 use cq_model::{Instance, Standing};
 use cq_theory::{Con, Sort, TypeTerm, Value};
@@ -132,16 +132,6 @@ fn find_generators(
         find_generator(alloc, source, standings, number as u32, generator.1, found)?;
     }
     Ok(())
-}
-
-/// The number at a place, and 0 past the end.
-fn number_at(numbers: &[u32], place: usize) -> u32
-    ensures { result ≡ slice_index numbers.now place }
-{
-    match numbers.get(place) {
-        Some(number) => *number,
-        None => 0,
-    }
 }
 
 /// Finds the value of a null in a cell of the source, if it is one: that of the attribute at the row to which its row

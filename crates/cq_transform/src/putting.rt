@@ -1,71 +1,22 @@
 //! Terms with the images of generators in the place of these.
-ghost use Rattle.std.specs.Prelude.{◌≡◌, ◌++◌, IfOk, slice_get};
+ghost use Rattle.std.specs.Prelude.{◌≡◌, IfOk, slice_get};
 ghost use Rattle.cq_transform.specs.Composing.{value_term, put_row as row_put, put_value as value_put};
 ghost use Rattle.cq_transform.specs.Composing.{put_image as image_put};
 
 use cq_base::Seq;
 use cq_model::Image;
-use cq_theory::{Con, EntTerm, TypeTerm};
+use cq_terms::copy_type_term;
+use cq_theory::{Con, EntTerm, TypeTerm, alone, extend};
 use std::alloc::{AllocError, Global};
-
-/// A generator, the foreign keys of a path, and then those of another one.
-fn joined(
-    alloc: Global,
-    generator: u32,
-    before: &[u32],
-    after: &[u32],
-) -> Result<EntTerm, AllocError>
-    ensures { IfOk result (λ made. made ≡ record { generator = generator; path = before.now ++ after.now }) }
-{
-    let mut path = Vec::from_slice(alloc, before)?;
-    path.extend_from_slice(after)?;
-    Ok(EntTerm {
-        generator,
-        path: Seq::from_vec(path),
-    })
-}
 
 /// An entity term with the image of its generator in the generator's place.
 fn put_row(alloc: Global, images: &[Image], term: &EntTerm) -> Result<EntTerm, AllocError>
     ensures { IfOk result (λ made. made ≡ row_put images.now term.now) }
 {
     match images.get(term.generator as usize) {
-        Some(Image::Row(at)) => joined(
-            alloc,
-            at.generator,
-            at.path.as_slice(),
-            term.path.as_slice(),
-        ),
-        Some(Image::Value(_)) => joined(alloc, 0, &[], term.path.as_slice()),
-        None => joined(alloc, 0, &[], term.path.as_slice()),
-    }
-}
-
-/// The same entity term.
-fn copied_row(alloc: Global, term: &EntTerm) -> Result<EntTerm, AllocError>
-    ensures { IfOk result (λ made. made ≡ term.now) }
-{
-    Ok(EntTerm {
-        generator: term.generator,
-        path: Seq::from_vec(Vec::from_slice(alloc, term.path.as_slice())?),
-    })
-}
-
-/// The same type term.
-fn copied_value(alloc: Global, term: &TypeTerm) -> Result<TypeTerm, AllocError>
-    ensures { IfOk result (λ made. made ≡ term.now) }
-{
-    match term {
-        TypeTerm::Gen(generator) => Ok(TypeTerm::Gen(*generator)),
-        TypeTerm::Const(constant) => Ok(TypeTerm::Const(constant.clone()?)),
-        TypeTerm::Att(attribute, term) => Ok(TypeTerm::Att(*attribute, copied_row(alloc, term)?)),
-        TypeTerm::Fun(function, args) => {
-            let mut made = Vec::new(alloc);
-            for arg in args.as_slice() {
-                made.push(copied_value(alloc, arg)?)?;
-            }
-            Ok(TypeTerm::Fun(*function, Seq::from_vec(made)))
-        }
+        Some(Image::Row(at)) => extend(alloc, at, term.path.as_slice()),
+        Some(Image::Value(_)) => extend(alloc, &alone(alloc, 0), term.path.as_slice()),
+        None => extend(alloc, &alone(alloc, 0), term.path.as_slice()),
     }
 }
 
@@ -74,7 +25,7 @@ fn value_at(alloc: Global, images: &[Image], generator: u32) -> Result<TypeTerm,
     ensures { IfOk result (λ made. made ≡ value_term (slice_get images.now generator)) }
 {
     match images.get(generator as usize) {
-        Some(Image::Value(term)) => copied_value(alloc, term),
+        Some(Image::Value(term)) => copy_type_term(alloc, term),
         Some(Image::Row(_)) => Ok(TypeTerm::Const(Con::Named(0))),
         None => Ok(TypeTerm::Const(Con::Named(0))),
     }

@@ -4,6 +4,7 @@ ghost use Rattle.cq_transform.specs.Images.{of_transform as refusal_of_transform
 
 use cq_base::Name;
 use cq_theory::TheoryRefusal;
+use std::alloc::AllocError;
 
 /// Why there is no transform by given images: a rule of `ArrowRefusal`, broken by the image with this number, from 0;
 /// the first generator that has no image; or the number, from 1, of the first equation that isn't kept. `Memory` is
@@ -19,6 +20,16 @@ pub enum TransformRefusal {
     Missing(Name),
     Broken(u64),
     Memory,
+}
+
+impl From<AllocError> for TransformRefusal {
+    ghost use Rattle.cq_transform.specs.declared.refusal.TransformRefusal.TheVariants.{Memory};
+
+    ghost from_gives = { λ _ e. e ≡ Memory };
+
+    fn from(_error: AllocError) -> TransformRefusal {
+        TransformRefusal::Memory
+    }
 }
 
 /// The same refusal, of a transform.

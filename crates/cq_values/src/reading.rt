@@ -1,5 +1,5 @@
 //! Values by their texts.
-ghost use Rattle.std.specs.Prelude.{◌≡◌, ◌+◌, ◌<◌, IfOk, MatchOption, nat_le, option_map};
+ghost use Rattle.std.specs.Prelude.{◌≡◌, IfOk, nat_le, option_map};
 ghost use Rattle.cq_theory.specs.Value.{symbols_of};
 ghost use Rattle.cq_values.specs.Readable.{IsRead};
 ghost use Rattle.cq_values.specs.Reading as reading;
@@ -10,14 +10,11 @@ use crate::labels::null;
 use crate::quotes::quoted;
 use crate::words::{function_for, is_word_byte, name_of, word_len};
 use cq_base::Seq;
-use cq_theory::{Typeside, Value};
+use cq_theory::{Typeside, Value, is_long_value};
 use std::alloc::{AllocError, Global};
 
 /// The most levels of a readable value.
 const MOST_LEVELS: u32 = 64;
-
-/// The most symbols of a readable value.
-const MOST_SYMBOLS: u64 = 1024;
 
 /// The bytes behind a comma and a space.
 fn behind_comma(bytes: &[u8]) -> Option<&[u8]>
@@ -166,28 +163,11 @@ fn value<'a>(
     }
 }
 
-/// The room that is left after the symbols of the value, if there is room for them.
-fn room_left(value: &Value, room: u64) -> Option<u64>
-    ensures { MatchOption result (room < symbols_of value.now) (λ left. symbols_of value.now + left ≡ room) }
-{
-    match value {
-        Value::Const(_) => room.checked_sub(1),
-        Value::Null(_) => room.checked_sub(1),
-        Value::Fun(_, args) => {
-            let mut left = room.checked_sub(1)?;
-            for arg in args.as_slice() {
-                left = room_left(arg, left)?;
-            }
-            Some(left)
-        }
-    }
-}
-
 /// Whether the value has at most 1,024 symbols.
 fn is_small(value: &Value) -> bool
     ensures { result ≡ nat_le (symbols_of value.now) 1024 }
 {
-    room_left(value, MOST_SYMBOLS).is_some()
+    !is_long_value(value)
 }
 
 /// The value of this type, of at most 64 levels and 1,024 symbols, that is read of the whole text.

@@ -6,10 +6,9 @@ ghost use Rattle.cq_theory.specs.Canonical.{below};
 ghost use Rattle.cq_model.specs.Numbers as made_of;
 
 use crate::canonical::Numbers;
-use crate::canonical::generators::{alone, number_at};
-use cq_base::Seq;
+use cq_base::{Seq, number_at};
 use cq_terms::{cell_term, push_entries};
-use cq_theory::{EntTerm, Entry, Equation, Sheet, TypeTerm, Value};
+use cq_theory::{EntTerm, Entry, Equation, Sheet, TypeTerm, Value, alone};
 use std::alloc::{AllocError, Global};
 
 /// A row of an entity: its number among the entity's rows, and its generator.

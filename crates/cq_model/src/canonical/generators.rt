@@ -10,9 +10,9 @@ ghost use Rattle.cq_model.specs.Numbers as made_of;
 ghost use Rattle.cq_model.specs.Standing.{meaning};
 
 use crate::standing::Standing;
-use cq_base::{Name, Seq};
+use cq_base::{Name, Seq, number_at};
 use cq_terms::{name_generators, push_null_sorts};
-use cq_theory::{EntTerm, Sort, Value};
+use cq_theory::{EntTerm, Sort, Value, alone};
 use std::alloc::{AllocError, Global};
 
 /// Appends the sorts of that many rows of an entity.
@@ -23,16 +23,6 @@ fn push_row_sorts(entity: u32, count: u32, made: &mut Vec<Sort>) -> Result<(), A
         made.push(Sort::Entity(entity))?;
     }
     Ok(())
-}
-
-/// The number at a place, and 0 past the end.
-pub(crate) fn number_at(numbers: &[u32], place: usize) -> u32
-    ensures { result ≡ slice_index numbers.now place }
-{
-    match numbers.get(place) {
-        Some(number) => *number,
-        None => 0,
-    }
 }
 
 /// Appends the sorts of an entity's rows.
@@ -71,16 +61,6 @@ pub(crate) fn build_generators(
     push_null_sorts(nulls, &mut sorts)?;
     let made = name_generators(alloc, sorts.as_slice())?;
     Ok(made)
-}
-
-/// A generator as a term.
-pub(crate) fn alone(alloc: Global, generator: u32) -> EntTerm
-    ensures { result ≡ record { generator = generator; path = [] } }
-{
-    EntTerm {
-        generator,
-        path: Seq::from_vec(Vec::new(alloc)),
-    }
 }
 
 /// That many generators from `start` on, as terms.

@@ -37,7 +37,7 @@ pub fn resolve(
     }
 }
 
-fn generator(alloc: Global, number: u32, sort: Option<Sort>) -> Term
+pub(crate) fn generator(alloc: Global, number: u32, sort: Option<Sort>) -> Term
     ensures { result ≡ generator_term number sort }
 {
     match sort {
@@ -90,7 +90,7 @@ pub fn type_term(term: Term) -> TypeTerm
 }
 
 /// The entity term, which is there where the whole term breaks no rule.
-fn entity_term(alloc: Global, term: Term) -> EntTerm
+pub(crate) fn entity_term(alloc: Global, term: Term) -> EntTerm
     ensures { result ≡ entity_term_in term }
 {
     match term {
@@ -103,7 +103,7 @@ fn entity_term(alloc: Global, term: Term) -> EntTerm
 }
 
 /// The term with one more foreign key.
-fn with_key(term: EntTerm, key: u32) -> Result<EntTerm, AllocError>
+pub(crate) fn with_key(term: EntTerm, key: u32) -> Result<EntTerm, AllocError>
     ensures { IfOk result (λ made. made ≡ extended term (key ∷ [])) }
 {
     let EntTerm { generator, path } = term;

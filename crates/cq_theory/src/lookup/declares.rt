@@ -15,9 +15,7 @@ pub fn declare(table: &mut Names, part: u32, name: &Name) -> Result<(), TheoryRe
     if table.find(name).is_some() {
         return Err(TheoryRefusal::Duplicate(part));
     }
-    let Ok(name) = name.clone() else {
-        return Err(TheoryRefusal::Memory);
-    };
+    let name = name.clone()?;
     match table.add(name) {
         Ok(_) => Ok(()),
         Err(_) => Err(TheoryRefusal::Memory),

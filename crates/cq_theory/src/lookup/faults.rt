@@ -1,7 +1,9 @@
 //! The first fault of terms and equations as they are written.
-ghost use Rattle.std.specs.Prelude.{◌≡◌, ◌+◌, ◌<◌, ◌≤◌, ◌^◌, MatchOption, Some, length, sum, map};
+ghost use Rattle.std.specs.Prelude.{◌≡◌, ◌+◌, ◌<◌, ◌||◌, if◌then◌else◌, MatchOption, Some, None, sum, map};
 ghost use Rattle.cq_theory.specs.Resolve.{raw_symbols, is_too_large as too_large, term_fault as fault_of_term};
-ghost use Rattle.cq_theory.specs.Resolve.{equation_fault as fault_of_equation, first_fault, in_part, are_of_one_sort};
+ghost use Rattle.cq_theory.specs.Resolve.{has_unknown as unknown_in, has_wrong_count as wrong_count_in};
+ghost use Rattle.cq_theory.specs.Resolve.{has_reserved as reserved_in};
+ghost use Rattle.cq_theory.specs.Resolve.{in_part, are_of_one_sort};
 
 use crate::lookup::passes::{has_reserved, has_unknown, has_wrong_count, sort_of_raw};
 use crate::lookup::{TermRefusal, TheoryRefusal};
@@ -33,22 +35,26 @@ pub fn is_too_large(raw: &Raw) -> bool
     room_left(raw, 1024).is_none()
 }
 
-/// The least rule that the term breaks.
-pub(crate) fn term_fault(
-    schema: &Schema,
-    names: &Names,
-    sorts: &[Sort],
-    raw: &Raw,
-) -> Option<TermRefusal>
-    ensures { result ≡ fault_of_term schema.now names.now sorts.now raw.now }
+/// The least rule that a term without a sort breaks.
+fn unsorted_rule(schema: &Schema, names: &Names, raw: &Raw) -> TermRefusal
+    ensures { result ≡ (if unknown_in schema.now names.now raw.now then TermRefusal.Unknown
+        else (if wrong_count_in schema.now raw.now then TermRefusal.WrongCount else TermRefusal.WrongSort)) }
 {
     if has_unknown(schema, names, raw) {
-        Some(TermRefusal::Unknown)
+        TermRefusal::Unknown
     } else if has_wrong_count(schema, raw) {
-        Some(TermRefusal::WrongCount)
-    } else if sort_of_raw(schema, names, sorts, raw).is_none() {
-        Some(TermRefusal::WrongSort)
-    } else if has_reserved(schema, raw) {
+        TermRefusal::WrongCount
+    } else {
+        TermRefusal::WrongSort
+    }
+}
+
+/// The least rule that a term with a sort breaks.
+fn sorted_rule(schema: &Schema, raw: &Raw) -> Option<TermRefusal>
+    ensures { result ≡ (if reserved_in schema.now raw.now then Some TermRefusal.Reserved
+        else (if too_large raw.now then Some TermRefusal.TooLarge else None)) }
+{
+    if has_reserved(schema, raw) {
         Some(TermRefusal::Reserved)
     } else if is_too_large(raw) {
         Some(TermRefusal::TooLarge)
@@ -57,7 +63,23 @@ pub(crate) fn term_fault(
     }
 }
 
-fn have_one_sort(left: Option<Sort>, right: Option<Sort>) -> bool
+/// The least rule that the term breaks. One that has a sort has only declared names, and each symbol in it its count
+/// of arguments, so these rules are asked for only where there is no sort.
+pub(crate) fn term_fault(
+    schema: &Schema,
+    names: &Names,
+    sorts: &[Sort],
+    raw: &Raw,
+) -> Option<TermRefusal>
+    ensures { result ≡ fault_of_term schema.now names.now sorts.now raw.now }
+{
+    match sort_of_raw(schema, names, sorts, raw) {
+        None => Some(unsorted_rule(schema, names, raw)),
+        Some(_) => sorted_rule(schema, raw),
+    }
+}
+
+pub(crate) fn have_one_sort(left: Option<Sort>, right: Option<Sort>) -> bool
     ensures { result ≡ are_of_one_sort left right }
 {
     match (left, right) {
@@ -67,35 +89,40 @@ fn have_one_sort(left: Option<Sort>, right: Option<Sort>) -> bool
     }
 }
 
-/// The least rule that the equation breaks.
-pub(crate) fn equation_fault(
+/// The least rule that an equation breaks whose sides aren't of one sort.
+pub(crate) fn unsorted_sides_rule(
     schema: &Schema,
     names: &Names,
-    sorts: &[Sort],
     left: &Raw,
     right: &Raw,
-) -> Option<TermRefusal>
-    ensures { result ≡ fault_of_equation schema.now names.now sorts.now (left.now, right.now) }
+) -> TermRefusal
+    ensures { result ≡ (if unknown_in schema.now names.now left.now || unknown_in schema.now names.now right.now
+        then TermRefusal.Unknown
+        else (if wrong_count_in schema.now left.now || wrong_count_in schema.now right.now then TermRefusal.WrongCount
+        else TermRefusal.WrongSort)) }
 {
     if has_unknown(schema, names, left) || has_unknown(schema, names, right) {
-        return Some(TermRefusal::Unknown);
+        TermRefusal::Unknown
+    } else if has_wrong_count(schema, left) || has_wrong_count(schema, right) {
+        TermRefusal::WrongCount
+    } else {
+        TermRefusal::WrongSort
     }
-    if has_wrong_count(schema, left) || has_wrong_count(schema, right) {
-        return Some(TermRefusal::WrongCount);
-    }
-    if !have_one_sort(
-        sort_of_raw(schema, names, sorts, left),
-        sort_of_raw(schema, names, sorts, right),
-    ) {
-        return Some(TermRefusal::WrongSort);
-    }
+}
+
+/// The least rule that an equation breaks whose sides are of one sort.
+pub(crate) fn sorted_sides_rule(schema: &Schema, left: &Raw, right: &Raw) -> Option<TermRefusal>
+    ensures { result ≡ (if reserved_in schema.now left.now || reserved_in schema.now right.now
+        then Some TermRefusal.Reserved
+        else (if too_large left.now || too_large right.now then Some TermRefusal.TooLarge else None)) }
+{
     if has_reserved(schema, left) || has_reserved(schema, right) {
-        return Some(TermRefusal::Reserved);
+        Some(TermRefusal::Reserved)
+    } else if is_too_large(left) || is_too_large(right) {
+        Some(TermRefusal::TooLarge)
+    } else {
+        None
     }
-    if is_too_large(left) || is_too_large(right) {
-        return Some(TermRefusal::TooLarge);
-    }
-    None
 }
 
 /// A rule, broken by this part of the call.
@@ -110,25 +137,4 @@ pub fn in_part_of(part: u32, rule: TermRefusal) -> TheoryRefusal
         TermRefusal::TooLarge => TheoryRefusal::TooLarge(part),
         TermRefusal::Memory => TheoryRefusal::Memory,
     }
-}
-
-/// The first equation, counted from `first`, that breaks a rule, with the least rule that it breaks.
-pub(crate) fn first_equation_fault(
-    schema: &Schema,
-    names: &Names,
-    sorts: &[Sort],
-    equations: &[(Raw, Raw)],
-    first: u32,
-) -> Option<TheoryRefusal>
-    requires { first + length equations.now < 2 ^ 32 }
-    ensures { result ≡ first_fault (fault_of_equation schema.now names.now sorts.now) first equations.now }
-{
-    let mut part = first;
-    for equation in equations {
-        if let Some(rule) = equation_fault(schema, names, sorts, &equation.0, &equation.1) {
-            return Some(in_part_of(part, rule));
-        }
-        part += 1;
-    }
-    None
 }

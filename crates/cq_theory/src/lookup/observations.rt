@@ -222,10 +222,8 @@ fn add_over(
     if let Some(rule) = fault_over(schema, names, part) {
         return Err(in_part_of(number, rule));
     }
-    match build_over(alloc, schema, names, part) {
-        Ok(made) => Ok(made),
-        Err(_) => Err(TheoryRefusal::Memory),
-    }
+    let made = build_over(alloc, schema, names, part)?;
+    Ok(made)
 }
 
 /// The table of one name.
@@ -233,9 +231,7 @@ pub fn table_of(alloc: Global, name: &Name) -> Result<Names, TheoryRefusal>
     ensures ok { IfOk result (λ table. table ≡ name.now ∷ []) }
     ensures memory { IfErr result (λ refusal. refusal ≡ TheoryRefusal.Memory) }
 {
-    let Ok(name) = name.clone() else {
-        return Err(TheoryRefusal::Memory);
-    };
+    let name = name.clone()?;
     let mut table = Names::new(alloc);
     match table.add(name) {
         Ok(_) => Ok(table),
@@ -276,9 +272,7 @@ pub(crate) fn add_observations(
     let mut number = first;
     for part in parts {
         let observation = add_observation(alloc, schema, number, part)?;
-        if made.push(observation).is_err() {
-            return Err(TheoryRefusal::Memory);
-        }
+        made.push(observation)?;
         number += 1;
     }
     Ok(made)

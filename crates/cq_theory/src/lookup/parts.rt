@@ -1,17 +1,17 @@
 //! The parts of a presentation.
 ghost use Rattle.std.specs.Prelude.{◌≡◌, ◌-◌, ◌<◌, ◌^◌, ◌⊎◌, ◌++◌, ◌∷◌, [], IfOk, IfErr, Some, None, length};
-ghost use Rattle.std.specs.Prelude.{◌+◌, map};
+ghost use Rattle.std.specs.Prelude.{◌+◌, map, option_map, is_some, IfSome};
 ghost use Rattle.cq_base.specs.Names.{AreDistinct};
 ghost use Rattle.cq_theory.specs.Presentation.{IsPresentation};
-ghost use Rattle.cq_theory.specs.Resolve.{sort_named};
+ghost use Rattle.cq_theory.specs.Resolve.{sort_named, first_fault, equation_fault, are_of_one_sort};
 ghost use Rattle.cq_theory.specs.Resolved.{resolved};
 ghost use Rattle.cq_theory.specs.Parts.{presentation_fault, presented, equation_of, sort_or_first, generator_fault};
 ghost use Rattle.cq_theory.specs.Parts.{first_generator_fault, generator_names, generator_sorts};
 
 use crate::constant::Con;
-use crate::lookup::TheoryRefusal;
-use crate::lookup::builds::build;
-use crate::lookup::faults::first_equation_fault;
+use crate::lookup::faults::{have_one_sort, in_part_of, sorted_sides_rule, unsorted_sides_rule};
+use crate::lookup::typed::typed_term;
+use crate::lookup::{TermRefusal, TheoryRefusal};
 use crate::parts::PresentationParts;
 use crate::presentation::{Equation, Presentation, Sort};
 use crate::schema::Schema;
@@ -45,9 +45,7 @@ fn add_generator(
     if part >= MOST_GENERATORS {
         return Err(TheoryRefusal::TooLarge(part));
     }
-    let Ok(name) = name.clone() else {
-        return Err(TheoryRefusal::Memory);
-    };
+    let name = name.clone()?;
     match names.add(name) {
         Ok(_) => Ok(found),
         Err(_) => Err(TheoryRefusal::Memory),
@@ -72,9 +70,7 @@ pub(crate) fn add_generators(
     let mut part = 0;
     for generator in parts {
         let sort = add_generator(schema, &mut names, part, &generator.0, &generator.1)?;
-        if sorts.push(sort).is_err() {
-            return Err(TheoryRefusal::Memory);
-        }
+        sorts.push(sort)?;
         part += 1;
     }
     Ok((names, sorts))
@@ -99,46 +95,13 @@ impl Presentation {
         let generators = parts.generators.as_slice();
         let equations = parts.equations.as_slice();
         let (names, sorts) = add_generators(alloc, schema, generators)?;
-        if let Some(refusal) = fault_after_generators(
-            schema,
-            &names,
-            sorts.as_slice(),
-            generators,
-            equations,
-        ) {
-            return Err(refusal);
-        }
-        match build_presentation(
-            alloc,
-            schema,
-            &names,
-            sorts.as_slice(),
-            generators,
-            equations,
-        ) {
-            Ok(presentation) => Ok(presentation),
-            Err(_) => Err(TheoryRefusal::Memory),
-        }
+        let sorts = sorts.as_slice();
+        let made = build_presentation(alloc, schema, &names, sorts, generators, equations)?;
+        Ok(made)
     }
 }
 
-/// The first fault of the parts, of whose generators none breaks a rule.
-fn fault_after_generators(
-    schema: &Schema,
-    names: &Names,
-    sorts: &[Sort],
-    generators: &[(Name, Name)],
-    equations: &[(Raw, Raw)],
-) -> Option<TheoryRefusal>
-    requires generators { first_generator_fault schema.now [] 0 generators.now ≡ None }
-    requires names { names.now ≡ generator_names generators.now }
-    requires sorts { sorts.now ≡ generator_sorts schema.now generators.now }
-    requires parts { length generators.now + length equations.now < 2 ^ 32 }
-    ensures { result ≡ presentation_fault schema.now generators.now equations.now }
-{
-    first_equation_fault(schema, names, sorts, equations, generators.len() as u32)
-}
-
+/// The presentation of the parts, of whose generators none breaks a rule.
 fn build_presentation(
     alloc: Global,
     schema: &Schema,
@@ -146,13 +109,19 @@ fn build_presentation(
     sorts: &[Sort],
     generators: &[(Name, Name)],
     equations: &[(Raw, Raw)],
-) -> Result<Presentation, AllocError>
+) -> Result<Presentation, TheoryRefusal>
+    requires generators { first_generator_fault schema.now [] 0 generators.now ≡ None }
     requires names { names.now ≡ generator_names generators.now }
     requires sorts { sorts.now ≡ generator_sorts schema.now generators.now }
-    ensures { IfOk result (λ made. made ≡ presented schema.now generators.now equations.now) }
+    requires parts { length generators.now + length equations.now < 2 ^ 32 }
+    ensures accepted { IfOk result (λ _. presentation_fault schema.now generators.now equations.now ≡ None) }
+    ensures made { IfOk result (λ made. made ≡ presented schema.now generators.now equations.now) }
+    ensures refused { IfErr result (λ refusal. (refusal ≡ TheoryRefusal.Memory)
+        ⊎ (presentation_fault schema.now generators.now equations.now ≡ Some refusal)) }
 {
+    let first = generators.len() as u32;
+    let equations = resolve_equations(alloc, schema, names, sorts, equations, first)?;
     let generators = build_generators(alloc, schema, generators)?;
-    let equations = build_equations(alloc, schema, names, sorts, equations)?;
     Ok(Presentation {
         generators: Seq::from_vec(generators),
         equations: Seq::from_vec(equations),
@@ -198,22 +167,76 @@ fn make_equation(left: Term, right: Term) -> Equation
     }
 }
 
-fn build_equations(
+/// The terms, where both are there and are of one sort.
+fn terms_of_one_sort(
+    left: Option<(Term, Sort)>,
+    right: Option<(Term, Sort)>,
+) -> Option<(Term, Term)>
+    ensures same { is_some result ≡ are_of_one_sort (option_map (λ t. t.1) left) (option_map (λ t. t.1) right) }
+    ensures terms { IfSome result (λ terms. (option_map (λ t. t.0) left ≡ Some terms.0)
+        × (option_map (λ t. t.0) right ≡ Some terms.1)) }
+{
+    let (left, left_sort) = left?;
+    let (right, right_sort) = right?;
+    if have_one_sort(Some(left_sort), Some(right_sort)) {
+        Some((left, right))
+    } else {
+        None
+    }
+}
+
+/// The equation, each of whose sides is walked once, or the least rule that it breaks.
+fn resolve_equation(
+    alloc: Global,
+    schema: &Schema,
+    names: &Names,
+    sorts: &[Sort],
+    left: &Raw,
+    right: &Raw,
+) -> Result<Equation, TermRefusal>
+    ensures accepted { IfOk result (λ _. equation_fault schema.now names.now sorts.now (left.now, right.now) ≡ None) }
+    ensures made { IfOk result (λ made. made ≡ equation_of (resolved schema.now names.now sorts.now left.now)
+        (resolved schema.now names.now sorts.now right.now)) }
+    ensures refused { IfErr result (λ rule. (rule ≡ TermRefusal.Memory)
+        ⊎ (equation_fault schema.now names.now sorts.now (left.now, right.now) ≡ Some rule)) }
+{
+    let left_made = typed_term(alloc, schema, names, sorts, left)?;
+    let right_made = typed_term(alloc, schema, names, sorts, right)?;
+    let Some((left_term, right_term)) = terms_of_one_sort(left_made, right_made) else {
+        return Err(unsorted_sides_rule(schema, names, left, right));
+    };
+    match sorted_sides_rule(schema, left, right) {
+        Some(rule) => Err(rule),
+        None => Ok(make_equation(left_term, right_term)),
+    }
+}
+
+/// The equations, or the first, counted from `first`, that breaks a rule, with the least rule that it breaks.
+fn resolve_equations(
     alloc: Global,
     schema: &Schema,
     names: &Names,
     sorts: &[Sort],
     equations: &[(Raw, Raw)],
-) -> Result<Vec<Equation>, AllocError>
-    ensures { IfOk result (λ made. made.items ≡ map
+    first: u32,
+) -> Result<Vec<Equation>, TheoryRefusal>
+    requires { first + length equations.now < 2 ^ 32 }
+    ensures accepted { IfOk result (λ _. first_fault (equation_fault schema.now names.now sorts.now) first equations.now
+        ≡ None) }
+    ensures made { IfOk result (λ made. made.items ≡ map
         (λ e. equation_of (resolved schema.now names.now sorts.now e.0) (resolved schema.now names.now sorts.now e.1))
         equations.now) }
+    ensures refused { IfErr result (λ refusal. (refusal ≡ TheoryRefusal.Memory)
+        ⊎ (first_fault (equation_fault schema.now names.now sorts.now) first equations.now ≡ Some refusal)) }
 {
-    let mut made = Vec::new(alloc);
+    let mut made = Vec::with_capacity(alloc, equations.len())?;
+    let mut part = first;
     for equation in equations {
-        let left = build(alloc, schema, names, sorts, &equation.0)?;
-        let right = build(alloc, schema, names, sorts, &equation.1)?;
-        made.push(make_equation(left, right))?;
+        match resolve_equation(alloc, schema, names, sorts, &equation.0, &equation.1) {
+            Ok(equation) => made.push(equation)?,
+            Err(rule) => return Err(in_part_of(part, rule)),
+        }
+        part += 1;
     }
     Ok(made)
 }

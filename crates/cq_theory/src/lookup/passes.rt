@@ -158,7 +158,7 @@ fn sort_of_word(
 }
 
 /// Where an edge leads from an entity.
-fn followed_from(edge: &Edge, entity: u32) -> Option<u32>
+pub(crate) fn followed_from(edge: &Edge, entity: u32) -> Option<u32>
     ensures { result ≡ followed (Some edge.now) entity }
 {
     if edge.from == entity {
@@ -168,7 +168,7 @@ fn followed_from(edge: &Edge, entity: u32) -> Option<u32>
     }
 }
 
-fn is_plain_sort(sort: Option<Sort>, expected: u32) -> bool
+pub(crate) fn is_plain_sort(sort: Option<Sort>, expected: u32) -> bool
     ensures { result ≡ is_plain_of sort expected }
 {
     match sort {

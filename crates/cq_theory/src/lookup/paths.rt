@@ -229,10 +229,8 @@ fn add_path_eq(
     if let Some(rule) = path_eq_fault(schema, attributes, left, right) {
         return Err(in_part_of(part, rule));
     }
-    match build_path_eq(alloc, schema, left, right) {
-        Ok(made) => Ok(made),
-        Err(_) => Err(TheoryRefusal::Memory),
-    }
+    let made = build_path_eq(alloc, schema, left, right)?;
+    Ok(made)
 }
 
 /// The path equations, the first of which is part `first`.
@@ -254,9 +252,7 @@ pub(crate) fn add_path_eqs(
     let mut part = first;
     for path_eq in parts {
         let path_eq = add_path_eq(alloc, schema, attributes, part, path_eq)?;
-        if made.push(path_eq).is_err() {
-            return Err(TheoryRefusal::Memory);
-        }
+        made.push(path_eq)?;
         part += 1;
     }
     Ok(made)

@@ -144,10 +144,8 @@ fn add_key(
 {
     declare_key(typeside, table, part, &key.0)?;
     let (from, to) = key_ends(typeside, entities, part, &key.1, &key.2)?;
-    match key.0.clone() {
-        Ok(name) => Ok(Edge { name, from, to }),
-        Err(_) => Err(TheoryRefusal::Memory),
-    }
+    let name = key.0.clone()?;
+    Ok(Edge { name, from, to })
 }
 
 /// The foreign keys, the first of which is part `first`, and the table of their names.
@@ -170,9 +168,7 @@ pub(crate) fn add_keys(
     let mut part = first;
     for key in parts {
         let made = add_key(typeside, entities, &mut table, part, key)?;
-        if keys.push(made).is_err() {
-            return Err(TheoryRefusal::Memory);
-        }
+        keys.push(made)?;
         part += 1;
     }
     Ok((table, keys))
@@ -256,10 +252,8 @@ fn add_attribute(
 {
     declare_attribute(schema, table, part, &attribute.0)?;
     let (from, to) = attribute_ends(schema, part, &attribute.1, &attribute.2)?;
-    match attribute.0.clone() {
-        Ok(name) => Ok(Edge { name, from, to }),
-        Err(_) => Err(TheoryRefusal::Memory),
-    }
+    let name = attribute.0.clone()?;
+    Ok(Edge { name, from, to })
 }
 
 /// The attributes, the first of which is part `first`, and the table of their names.
@@ -281,9 +275,7 @@ pub(crate) fn add_attributes(
     let mut part = first;
     for attribute in parts {
         let made = add_attribute(schema, &mut table, part, attribute)?;
-        if attributes.push(made).is_err() {
-            return Err(TheoryRefusal::Memory);
-        }
+        attributes.push(made)?;
         part += 1;
     }
     Ok((table, attributes))
@@ -317,9 +309,7 @@ fn note_name(table: &mut Names, name: &Name) -> Result<(), TheoryRefusal>
     if table.find(name).is_some() {
         return Ok(());
     }
-    let Ok(name) = name.clone() else {
-        return Err(TheoryRefusal::Memory);
-    };
+    let name = name.clone()?;
     match table.add(name) {
         Ok(_) => Ok(()),
         Err(_) => Err(TheoryRefusal::Memory),

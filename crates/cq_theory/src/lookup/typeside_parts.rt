@@ -69,10 +69,8 @@ fn add_constant(
     if is_reserved(&constant.0) {
         return Err(TheoryRefusal::Reserved(part));
     }
-    match constant.0.clone() {
-        Ok(name) => Ok((name, number)),
-        Err(_) => Err(TheoryRefusal::Memory),
-    }
+    let name = constant.0.clone()?;
+    Ok((name, number))
 }
 
 /// The constants, the first of which is part `first`, and the table of their names.
@@ -94,9 +92,7 @@ pub(crate) fn add_constants(
     let mut part = first;
     for constant in parts {
         let made = add_constant(types, &mut table, part, constant)?;
-        if constants.push(made).is_err() {
-            return Err(TheoryRefusal::Memory);
-        }
+        constants.push(made)?;
         part += 1;
     }
     Ok((table, constants))
@@ -119,9 +115,7 @@ fn find_types(
         let Some(number) = types.find(name) else {
             return Err(TheoryRefusal::Unknown(part));
         };
-        if found.push(number).is_err() {
-            return Err(TheoryRefusal::Memory);
-        }
+        found.push(number)?;
     }
     Ok(found)
 }
@@ -145,14 +139,12 @@ fn add_function(
     let Some(result) = types.find(&function.2) else {
         return Err(TheoryRefusal::Unknown(part));
     };
-    match function.0.clone() {
-        Ok(name) => Ok(Fun {
-            name,
-            args: Seq::from_vec(args),
-            result,
-        }),
-        Err(_) => Err(TheoryRefusal::Memory),
-    }
+    let name = function.0.clone()?;
+    Ok(Fun {
+        name,
+        args: Seq::from_vec(args),
+        result,
+    })
 }
 
 /// The functions, the first of which is part `first`, and the table of their names.
@@ -174,9 +166,7 @@ pub(crate) fn add_functions(
     let mut part = first;
     for function in parts {
         let made = add_function(alloc, types, &mut table, part, function)?;
-        if functions.push(made).is_err() {
-            return Err(TheoryRefusal::Memory);
-        }
+        functions.push(made)?;
         part += 1;
     }
     Ok((table, functions))

@@ -1,4 +1,4 @@
-use Rattle.std.proofs.Common.{ℕ, Some, ◌≡◌, ◌+◌, ◌∙◌, length, ap, sym, subst, arith}
+use Rattle.std.proofs.Common.{ℕ, Some, ◌≡◌, ◌∙◌, length, ap, sym, subst, arith}
 use Rattle.std.specs.Prelude.{slice_get}
 use Rattle.cq_check.specs.Answers.{IsWellSorted, IsDerived, IsTooDeep, IsTooWide, AreMetOf, frozen_over, duty_equation}
 use Rattle.cq_check.specs.declared.duties.CheckRefusal.TheVariants.{NotPreserved, Depth, TooManyRows}

@@ -1,4 +1,4 @@
-use Rattle.std.proofs.Common.{ℕ, ◌≡◌, ◌∙◌, length, ap, subst, arith}
+use Rattle.std.proofs.Common.{◌≡◌, ◌∙◌, length, ap, subst, arith}
 use Rattle.cq_check.specs.Answers.{AreMetOf}
 use Rattle.cq_check.proofs.QueryDuties.{all_met}
 use Rattle.cq_query.specs.QueryData.{QueryData as Query}

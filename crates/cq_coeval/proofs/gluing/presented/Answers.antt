@@ -1,6 +1,7 @@
 use Rattle.std.proofs.Common.{◌≡◌, ◌⊎◌, true, false, sym, subst}
 use Rattle.std.specs.Prelude.{IfOk, IfErr}
-use Rattle.cq_query.specs.Coeval.{coeval_of, is_oversized}
+use Rattle.cq_theory.specs.Presentation.{is_oversized}
+use Rattle.cq_query.specs.Coeval.{coeval_of}
 use Rattle.cq_query.specs.QueryData.{QueryData as Query}
 use Rattle.cq_theory.specs.Tables.{Tables, IsWellFormed}
 use Rattle.cq_theory.specs.declared.lookup.SizeRefusal.TheVariants.{TooLarge, Memory}

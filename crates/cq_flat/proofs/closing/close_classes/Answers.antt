@@ -1,6 +1,6 @@
 use Rattle.std.proofs.Common.{◌≡◌, length, arith, refl, sym, ◌∙◌, ap, inl, inr, ⊎_elim}
 use Rattle.std.proofs.lemmas.Bool.{false≢true}
-use Rattle.cq_flat.proofs.Merged.{taken_differ, taken_within, closing_merged, roots_fall, closing_end, congruent_within}
+use Rattle.cq_flat.proofs.Merged.{taken_within, taken_roots, closing_merged, roots_fall, closing_end, congruent_within}
 use Rattle.cq_flat.proofs.Refreshed.{closing_refreshed}
 use Rattle.cq_flat.proofs.Steps.{waits_none, fewer_merged, fewer_refreshed}
 use Rattle.cq_flat.proofs.closing.close_classes.Goals as goal
@@ -22,6 +22,16 @@ merge-requires-clause-right c =
     let w = taken_within c.args.nodes.now c.requires.arguments c.args.equations.items c.requires.sides c.loop-alloc.closing c.loop-alloc.invariant c.next.new.pending c.in-Some.left c.in-Some.right
     (rw c.as_slice.ensures.value at c.in-Some.ensures) in
     omega (arith, w.1, c.loop-alloc.invariant.shape.count)
+
+pub merge-requires-clause-left_root : goal.merge-requires-clause-left_root
+merge-requires-clause-left_root c =
+    (taken_roots c.args.nodes.now c.requires.arguments c.args.equations.items c.requires.sides c.loop-alloc.closing c.loop-alloc.invariant c.next.new.pending c.in-Some.left c.in-Some.right
+    (rw c.as_slice.ensures.value at c.in-Some.ensures)).0
+
+pub merge-requires-clause-right_root : goal.merge-requires-clause-right_root
+merge-requires-clause-right_root c =
+    (taken_roots c.args.nodes.now c.requires.arguments c.args.equations.items c.requires.sides c.loop-alloc.closing c.loop-alloc.invariant c.next.new.pending c.in-Some.left c.in-Some.right
+    (rw c.as_slice.ensures.value at c.in-Some.ensures)).1
 
 pub loop-alloc-smaller-in-Continue-branch-2 : goal.loop-alloc-smaller-in-Continue-branch-2
 loop-alloc-smaller-in-Continue-branch-2 c =

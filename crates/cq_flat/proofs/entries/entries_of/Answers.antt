@@ -6,7 +6,7 @@ use Rattle.cq_flat.proofs.Listing.{listing_none, listing_plain, listing_again, l
 use Rattle.cq_flat.proofs.entries.entries_of.Goals as goal
 
 pub loop-node-init : goal.loop-node-init
-loop-node-init c = rw (c.in_ok-table.ensures, c.new-entries.ensures.items) (listing_none c.args.nodes.now c.args.classes.now c.args.values.now)
+loop-node-init c = rw (c.new-table.ensures, c.new-entries.ensures.items) (listing_none c.args.nodes.now c.args.classes.now c.args.values.now)
 
 pub loop-node-preserved-in_default : goal.loop-node-preserved-in_default
 loop-node-preserved-in_default c =

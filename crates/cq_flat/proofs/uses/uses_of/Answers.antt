@@ -5,7 +5,7 @@ use Rattle.cq_flat.proofs.uses.uses_of.Goals as goal
 use Rattle.cq_flat.proofs.uses.uses_of.Goals.{in-Fun+in_ok-add_uses, in_default}
 
 pub loop-node-init : goal.loop-node-init
-loop-node-init c = rw c.in_ok-uses.ensures (uses_none c.args.nodes.now)
+loop-node-init c = rw c.new-uses.ensures (uses_none c.args.nodes.now)
 
 pub loop-node-preserved : goal.loop-node-preserved
 loop-node-preserved c =

@@ -7,9 +7,9 @@ use Rattle.cq_lex.proofs.text.name_of.Goals as goal
 pub returns-in_default : goal.returns-in_default
 returns-in_default c = (refl, utf8_false c.args.content.now c.in_default.ensures.cases.0)
 
-pub returns-in-Ok-new : goal.returns-in-Ok-new
-returns-in-Ok-new c =
-    (c.in-Ok-new.ensures.ok ∙ c.in-Ok.ensures.cases.0, is_utf8-from_IsUtf8 c.args.content.now c.in-Ok.ensures.cases.1, rw (← c.in-Ok.ensures.cases.0) (fits (length c.in-Ok.text.now) (λ lt. cc (c.in-Ok-new.ensures.long.1 lt))))
+pub returns-in-Ok-name : goal.returns-in-Ok-name
+returns-in-Ok-name c =
+    (c.in-Ok-name.ensures.ok ∙ c.in-Ok.ensures.cases.0, is_utf8-from_IsUtf8 c.args.content.now c.in-Ok.ensures.cases.1, rw (← c.in-Ok.ensures.cases.0) (fits (length c.in-Ok.text.now) (λ lt. cc (c.in-Ok-name.ensures.long.1 lt))))
 
 pub returns-in-Err-Long : goal.returns-in-Err-Long
 returns-in-Err-Long c =

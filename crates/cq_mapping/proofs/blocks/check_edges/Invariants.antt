@@ -1,6 +1,6 @@
 use Rattle.std.proofs.Common.{◌≡◌, drop}
 use Rattle.cq_theory.specs.Schema.{edge_names}
-use Rattle.cq_mapping.specs.MappingParts.{first_missing}
+use Rattle.cq_theory.specs.ArrowRefusals.{first_missing}
 use Rattle.cq_mapping.proofs.blocks.check_edges.Given as goal
 
 abbrev pub invariant-loop-edge : goal.invariant-loop-edge

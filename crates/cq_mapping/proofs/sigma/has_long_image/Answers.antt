@@ -1,6 +1,6 @@
 use Rattle.std.proofs.Common.{arith, ◌≡◌, true}
 use Rattle.cq_mapping.specs.Images.{equation_image}
-use Rattle.cq_mapping.specs.Duties.{has_long_side}
+use Rattle.cq_theory.specs.Presentation.{has_long_side}
 use Rattle.cq_mapping.proofs.ImagedPresentations.{any_image}
 use Rattle.cq_mapping.proofs.sigma.has_long_image.Goals as goal
 

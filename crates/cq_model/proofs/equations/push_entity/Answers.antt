@@ -1,4 +1,4 @@
-use Rattle.std.proofs.Common.{ℕ, List, [], ◌≡◌, ◌∙◌, true, length, take, get_or, slice_index_or, sym, ap, subst}
+use Rattle.std.proofs.Common.{ℕ, List, [], ◌≡◌, ◌∙◌, true, length, take, get_or, slice_index_or, sym, ap, subst, arith}
 use Rattle.std.proofs.lemmas.List.{take_more, take_all}
 use Rattle.cq_tables.specs.Content.{live_of}
 use Rattle.cq_tables.specs.Content.{entity_of as row_entity}
@@ -20,7 +20,7 @@ push_row-requires c =
       places = HavePlaces-wider c.args.ground.now.schema.now c.args.ground.now.tables.now c.args.ground.now.places.now (length c.args.list.now.nodes) (length c.loop-row.list.nodes) c.loop-row.invariant.grows c.requires.places;
       live = is.0;
       numbers = c.group_at-numbers.ensures ∙ ap (λ (l : List (List ℕ)). slice_index_or l c.args.entity []) c.as_slice.ensures
-          ∙ group_is c.args.ground.now.schema.now c.is_well_sorted.ensures c.args.groups.now c.requires.groups c.args.entity ∙ ap (positions (obs_eq_sources c.args.ground.now.schema.now.obs_eqs)) (sym is.1);
+          ∙ group_is c.args.ground.now.schema.now c.is_well_sorted.ensures c.args.groups.now (c.requires.groups (omega (arith, c.loop-row-test.true))) c.args.entity ∙ ap (positions (obs_eq_sources c.args.ground.now.schema.now.obs_eqs)) (sym is.1);
     }
 
 pub loop-row-preserved : goal.loop-row-preserved

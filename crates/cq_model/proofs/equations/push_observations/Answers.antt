@@ -24,3 +24,9 @@ returns-clause-added c =
     let all : c.loop-entity.entity ≡ length c.args.order.now = omega (arith, c.loop-entity-test.false) in
     let are = subst (λ n. AreObserved c.args.ground.now.schema.now c.args.ground.now.tables.now c.args.ground.now.places.now c.args.order.now n c.args.list.now c.loop-entity.list) all c.loop-entity.invariant in
     are.added
+
+pub push_entity-requires-clause-groups : goal.push_entity-requires-clause-groups
+push_entity-requires-clause-groups c = λ some.
+    let e : ℕ = c.loop-entity.entity in
+    let rows : c.as_slice.result.now ≡ slice_index_or c.args.order.now e [] = c.as_slice.ensures ∙ c.index-order-entity.is ∙ get_or_default c.args.order.now e c.index-order-entity.result [] c.loop-entity-test.true in
+    c.in_ok-groups.ensures e (omega (arith, some, ap length rows))

@@ -13,7 +13,7 @@ use Rattle.cq_parse.proofs.term.+terms.Goals as goal
 
 pub arguments-items-init : goal.arguments-items-init
 arguments-items-init t c =
-    let pushed : c.push.new.self.items ≡ c.in_ok-first.first ∷ [] = c.in_ok-push.ensures.items ∙ ap (λ z. z ++ c.in_ok-first.first ∷ []) c.new-args.ensures.items in
+    let pushed : c.push.new.self.items ≡ c.in_ok-first.first ∷ [] = c.in_ok-push.ensures.items ∙ ap (λ z. z ++ c.in_ok-first.first ∷ []) c.in_ok-args.ensures.items in
     record {
       fits = c.in_ok-first.ensures.fits;
       known = rw (pushed, c.in_ok-first.ensures.levels) (omega arith);

@@ -1,12 +1,12 @@
 use Rattle.std.proofs.Common.{◌≡◌, refl, subst}
 use Rattle.std.specs.Prelude.{IfErr, IfOk}
 use Rattle.cq_theory.specs.declared.presentation.Presentation.{Presentation}
-use Rattle.cq_theory.specs.Presentation.{IsPresentation}
+use Rattle.cq_theory.specs.Presentation.{IsPresentation, is_oversized}
 use Rattle.cq_theory.specs.SchemaData.{SchemaData}
 use Rattle.cq_model.specs.InstanceData.{InstanceData}
 use Rattle.cq_model.specs.declared.transform.Transform.{Transform}
 use Rattle.cq_transform.specs.Transforms.{GoesFrom}
-use Rattle.cq_push.specs.Gluing.{is_oversized, pushout_of}
+use Rattle.cq_push.specs.Gluing.{pushout_of}
 use Rattle.cq_push.proofs.Beside.{presented_in}
 use Rattle.cq_program.specs.Checks.{Posed, a_made, pushed_out}
 use Rattle.cq_program.specs.Environment.{meant, transform_meant}

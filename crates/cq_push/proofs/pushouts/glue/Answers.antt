@@ -24,8 +24,8 @@ returns-in-Err-add-clause-refused c =
     omega (arith, h, first, own_count c.args.left.now, two_count c.args.left.now c.args.right.now))
     c.in-Err-add.ensures.refused
 
-pub returns-in-Ok : goal.returns-in-Ok
-returns-in-Ok c =
+pub returns : goal.returns
+returns c =
     let equations : c.add-2.new.self.equations.items ≡ equations_from 0 (c.args.left.now ∷ c.args.right.now ∷ []) =
     two_equations c.args.left.now c.args.right.now c.new-gluing.result.sorts.items c.add.new.self.sorts.items c.add-2.new.self.sorts.items
     c.new-gluing.result.equations.items c.add.new.self.equations.items c.add-2.new.self.equations.items
@@ -35,6 +35,6 @@ returns-in-Ok c =
       sorts = two_sorts c.args.left.now c.args.right.now c.new-gluing.result.sorts.items c.add.new.self.sorts.items c.add-2.new.self.sorts.items
           c.new-gluing.result.equations.items c.add.new.self.equations.items c.add-2.new.self.equations.items
           c.new-gluing.ensures.sorts c.in_default.ensures.sorts c.in_default-add.ensures.sorts;
-      equations = c.in-Ok.ensures ∙ (λ i. equations i ++ glued_images (c.len-first.ensures i) c.args.lefts.now c.args.rights.now);
+      equations = c.in_ok-push_glued.ensures ∙ (λ i. equations i ++ glued_images (c.len-first.ensures i) c.args.lefts.now c.args.rights.now);
       refused = tt;
     }

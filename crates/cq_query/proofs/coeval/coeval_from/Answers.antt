@@ -8,10 +8,10 @@ returns-then-nulls-first-clause-refused c =
     let many : 16000000 < null_start c.args.query.now c.args.sheet.now.counts + length c.args.algebra.now.nulls = omega (arith, c.if-nulls-first.true, c.len-nulls.ensures, c.requires.first, c.requires.small) in
     inr (refl, many_generators c.args.query.now (record { sheet = c.args.sheet.now; algebra = c.args.algebra.now }) many)
 
-pub returns-in-Ok-clause-accepted : goal.returns-in-Ok-clause-accepted
-returns-in-Ok-clause-accepted c =
+pub returns-clause-accepted : goal.returns-clause-accepted
+returns-clause-accepted c =
     let few : null_start c.args.query.now c.args.sheet.now.counts + length c.args.algebra.now.nulls ≤ 16000000 = omega (arith, c.if-nulls-first.false, c.len-nulls.ensures, c.requires.first, c.requires.small) in
-    checked c.args.query.now (record { sheet = c.args.sheet.now; algebra = c.args.algebra.now }) c.check_size.result c.in-Ok.made c.in-Ok.ensures few c.check_size.ensures.ok
+    checked c.args.query.now (record { sheet = c.args.sheet.now; algebra = c.args.algebra.now }) c.check_size.result c.in_ok-made.made c.in_ok-made.ensures few c.check_size.ensures.ok
 
 pub build_coeval-requires-clause-layout : goal.build_coeval-requires-clause-layout
 build_coeval-requires-clause-layout c = record {

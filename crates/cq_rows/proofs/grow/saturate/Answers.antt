@@ -15,7 +15,6 @@ grow-requires c =
     record {
       theory = theory_is c.args.schema.now c.args.presentation.now c.in_ok-keys.ensures.schema c.requires.presentation;
       keys = keys;
-      groups = c.in_ok-groups.ensures;
       range = rw keys (ends_in c.args.schema.now c.args.presentation.now c.in_ok-keys.ensures.schema c.requires.presentation);
     }
 

@@ -16,7 +16,7 @@ returns-then-not-live c = Passes-start _ _ _ _ c.requires.ready.whole c.requires
 pub of-place-items-requires : goal.of-place-items-requires
 of-place-items-requires c =
     let within : c.entity.result < length c.args.origin.now.schema.now.entities = omega (arith, c.requires.ready.whole.kind c.args.row c.requires.row, c.entity.ensures, c.requires.ready.entities) in
-    group_within _ _ c.entity.result _ c.requires.ready.groups within
+    group_within _ _ c.entity.result _ (c.requires.ready.groups (omega (arith, c.requires.row))) within
 
 pub loop-place-init : goal.loop-place-init
 loop-place-init c = Passes-start _ _ _ _ c.requires.ready.whole c.requires.ready.current (λ r i b. absurd (omega arith))
@@ -24,7 +24,7 @@ loop-place-init c = Passes-start _ _ _ _ c.requires.ready.whole c.requires.ready
 pub join_rule-requires-clause-place : goal.join_rule-requires-clause-place
 join_rule-requires-clause-place c =
     let within : c.entity.result < length c.args.origin.now.schema.now.entities = omega (arith, c.requires.ready.whole.kind c.args.row c.requires.row, c.entity.ensures, c.requires.ready.entities) in
-    let is = group_read _ _ c.entity.result _ c.requires.ready.groups within _ c.of-place-items.ensures in
+    let is = group_read _ _ c.entity.result _ (c.requires.ready.groups (omega (arith, c.requires.row))) within _ c.of-place-items.ensures in
     position_below (λ (e : Rule). e.entity) c.args.origin.now.schema.now.path_eqs c.entity.result c.loop-place.place-index (slice_index_or c.of-place-items.result.now c.loop-place.place-index 0)
     (rw (← is) (slice_get-get_or c.of-place-items.result.now c.loop-place.place-index 0 c.loop-place-test.true))
 
@@ -38,7 +38,7 @@ loop-place-preserved c = Passes-inner (theory_at c.args.origin.now) c.args.table
 pub returns : goal.returns
 returns c =
     let within : c.entity.result < length c.args.origin.now.schema.now.entities = omega (arith, c.requires.ready.whole.kind c.args.row c.requires.row, c.entity.ensures, c.requires.ready.entities) in
-    let is = group_read _ _ c.entity.result _ c.requires.ready.groups within _ c.of-place-items.ensures in
+    let is = group_read _ _ c.entity.result _ (c.requires.ready.groups (omega (arith, c.requires.row))) within _ c.of-place-items.ensures in
     Passes-keep _ _ _ _ _ _ _ _ c.loop-place.invariant
     (λ e f h. hold_there (theory_at c.args.origin.now) c.args.tables.now c.args.row c.of-place-items.result.now c.loop-place.place-index (rw c.entity.ensures at is) (omega (arith, c.loop-place-test.false)) h)
 

@@ -1,4 +1,4 @@
-use Rattle.std.proofs.Common.{◌≡◌, ◌<◌, rules, arith, length, slice_index, ◌∙◌, ap, refl, sym}
+use Rattle.std.proofs.Common.{◌<◌, rules, arith, length, slice_index, ◌∙◌, ap, refl}
 use Rattle.cq_flat.specs.Partition.{Has}
 use Rattle.cq_flat.proofs.Entered.{enters_some}
 use Rattle.cq_flat.proofs.closing.Closing.refresh.Goals as goal
@@ -12,7 +12,7 @@ enter_all-requires-clause-entered c = λ a h. c.requires.stale a (rw c.replace.e
 pub returns : goal.returns
 returns c = record {
   classes = refl;
-  members = refl;
+  following = refl;
   uses = refl;
   stale = ap (λ v. v.items) c.replace.ensures.after ∙ c.new.ensures.items;
   idle = λ e.

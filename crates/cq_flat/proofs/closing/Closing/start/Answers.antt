@@ -11,5 +11,5 @@ enter_all-requires-clause-entered c = λ a h.
     below_has (length c.args.nodes.now) a (rw (c.as_slice-2.ensures.value, c.in_ok-classes.ensures.classes) at h)
 
 pub returns : goal.returns
-returns c = closing_start c.args.nodes.now c.requires.arguments c.args.equations.items _ c.in_ok-classes.ensures.classes c.in_ok-classes.ensures.partition c.in_ok-uses.ensures
-    (rw (c.as_slice.ensures.value, c.as_slice-2.ensures.value, c.in_ok-table.ensures) at c.in_ok-enter_all.ensures) c.new.ensures.items
+returns c = closing_start c.args.nodes.now c.requires.arguments c.args.equations.items _ c.in_ok-classes.ensures.classes c.in_ok-classes.ensures.rings c.in_ok-uses.ensures
+    (rw (c.as_slice.ensures.value, c.as_slice-2.ensures.value, c.new-table.ensures) at c.in_ok-enter_all.ensures) c.new.ensures.items

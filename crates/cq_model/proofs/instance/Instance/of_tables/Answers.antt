@@ -20,64 +20,64 @@ from_parts-requires c =
     let few : size_of M ≤ 16000000 = search rules in
     let with : Algebra → InstanceData = λ algebra. record {
       schema = S;
-      presentation = c.in-Ok.parts.presentation;
-      names = c.in-Ok.parts.names;
+      presentation = c.in_ok-parts.parts.presentation;
+      names = c.in_ok-parts.parts.names;
       tables = tables c.args.sheet algebra;
-      assignment = map meaning c.in-Ok.parts.standings;
+      assignment = map meaning c.in_ok-parts.parts.standings;
     } in
-    subst (λ (a : Algebra). IsInstance (with a)) (sym c.in-Ok.ensures.algebra)
+    subst (λ (a : Algebra). IsInstance (with a)) (sym c.in_ok-parts.ensures.algebra)
     (parts_instance S M (subst IsSchema c.deref.ensures c.is_well_sorted.ensures) c.requires
-    c.in-Ok.parts.presentation c.in-Ok.parts.names (map meaning c.in-Ok.parts.standings)
-    (c.in-Ok.ensures.presentation ∙ ap (λ (s : Schema). canonical s M) c.deref-2.ensures)
-    (c.in-Ok.ensures.names ∙ ap (λ (s : Schema). (given s M).names) c.deref-2.ensures)
-    (c.in-Ok.ensures.standings ∙ ap (λ (s : Schema). canonical_assignment s M) c.deref-2.ensures)
+    c.in_ok-parts.parts.presentation c.in_ok-parts.parts.names (map meaning c.in_ok-parts.parts.standings)
+    (c.in_ok-parts.ensures.presentation ∙ ap (λ (s : Schema). canonical s M) c.deref-2.ensures)
+    (c.in_ok-parts.ensures.names ∙ ap (λ (s : Schema). (given s M).names) c.deref-2.ensures)
+    (c.in_ok-parts.ensures.standings ∙ ap (λ (s : Schema). canonical_assignment s M) c.deref-2.ensures)
     few)
 
-pub returns-in-Ok-clause-instance : goal.returns-in-Ok-clause-instance
-returns-in-Ok-clause-instance c =
+pub returns-clause-instance : goal.returns-clause-instance
+returns-clause-instance c =
     let S : Schema = c.args.schema.value in
     let M : Tables = tables c.args.sheet c.args.algebra in
-    let presentation = c.in-Ok.ensures.presentation ∙ ap (λ (s : Schema). canonical s M) c.deref-2.ensures in
-    let names = c.in-Ok.ensures.names ∙ ap (λ (s : Schema). (given s M).names) c.deref-2.ensures in
-    let standings = c.in-Ok.ensures.standings ∙ ap (λ (s : Schema). canonical_assignment s M) c.deref-2.ensures in
+    let presentation = c.in_ok-parts.ensures.presentation ∙ ap (λ (s : Schema). canonical s M) c.deref-2.ensures in
+    let names = c.in_ok-parts.ensures.names ∙ ap (λ (s : Schema). (given s M).names) c.deref-2.ensures in
+    let standings = c.in_ok-parts.ensures.standings ∙ ap (λ (s : Schema). canonical_assignment s M) c.deref-2.ensures in
     c.from_parts.ensures ∙ (λ j. record {
       schema = S;
       presentation = presentation j;
       names = names j;
-      tables = tables c.args.sheet (c.in-Ok.ensures.algebra j);
+      tables = tables c.args.sheet (c.in_ok-parts.ensures.algebra j);
       assignment = standings j;
     })
 
-pub returns-in-Ok-clause-initial : goal.returns-in-Ok-clause-initial
-returns-in-Ok-clause-initial c =
+pub returns-clause-initial : goal.returns-clause-initial
+returns-clause-initial c =
     let S : Schema = c.args.schema.value in
     let M : Tables = tables c.args.sheet c.args.algebra in
     made_initial S M (subst IsSchema c.deref.ensures c.is_well_sorted.ensures) c.requires
-    c.in-Ok.parts.presentation c.in-Ok.parts.names (map meaning c.in-Ok.parts.standings)
-    (c.in-Ok.ensures.presentation ∙ ap (λ (s : Schema). canonical s M) c.deref-2.ensures)
-    (c.in-Ok.ensures.names ∙ ap (λ (s : Schema). (given s M).names) c.deref-2.ensures)
-    (c.in-Ok.ensures.standings ∙ ap (λ (s : Schema). canonical_assignment s M) c.deref-2.ensures)
+    c.in_ok-parts.parts.presentation c.in_ok-parts.parts.names (map meaning c.in_ok-parts.parts.standings)
+    (c.in_ok-parts.ensures.presentation ∙ ap (λ (s : Schema). canonical s M) c.deref-2.ensures)
+    (c.in_ok-parts.ensures.names ∙ ap (λ (s : Schema). (given s M).names) c.deref-2.ensures)
+    (c.in_ok-parts.ensures.standings ∙ ap (λ (s : Schema). canonical_assignment s M) c.deref-2.ensures)
     c.from_parts.result (c.from_parts.ensures ∙ (λ j. record {
       schema = S;
-      presentation = c.in-Ok.parts.presentation;
-      names = c.in-Ok.parts.names;
-      tables = tables c.args.sheet (c.in-Ok.ensures.algebra j);
-      assignment = map meaning c.in-Ok.parts.standings;
+      presentation = c.in_ok-parts.parts.presentation;
+      names = c.in_ok-parts.parts.names;
+      tables = tables c.args.sheet (c.in_ok-parts.ensures.algebra j);
+      assignment = map meaning c.in_ok-parts.parts.standings;
     }))
 
-pub returns-in-Ok-clause-least : goal.returns-in-Ok-clause-least
-returns-in-Ok-clause-least c =
+pub returns-clause-least : goal.returns-clause-least
+returns-clause-least c =
     let S : Schema = c.args.schema.value in
     let M : Tables = tables c.args.sheet c.args.algebra in
     made_least S M (subst IsSchema c.deref.ensures c.is_well_sorted.ensures) c.requires
-    c.in-Ok.parts.presentation c.in-Ok.parts.names (map meaning c.in-Ok.parts.standings)
-    (c.in-Ok.ensures.presentation ∙ ap (λ (s : Schema). canonical s M) c.deref-2.ensures)
-    (c.in-Ok.ensures.names ∙ ap (λ (s : Schema). (given s M).names) c.deref-2.ensures)
-    (c.in-Ok.ensures.standings ∙ ap (λ (s : Schema). canonical_assignment s M) c.deref-2.ensures)
+    c.in_ok-parts.parts.presentation c.in_ok-parts.parts.names (map meaning c.in_ok-parts.parts.standings)
+    (c.in_ok-parts.ensures.presentation ∙ ap (λ (s : Schema). canonical s M) c.deref-2.ensures)
+    (c.in_ok-parts.ensures.names ∙ ap (λ (s : Schema). (given s M).names) c.deref-2.ensures)
+    (c.in_ok-parts.ensures.standings ∙ ap (λ (s : Schema). canonical_assignment s M) c.deref-2.ensures)
     c.from_parts.result (c.from_parts.ensures ∙ (λ j. record {
       schema = S;
-      presentation = c.in-Ok.parts.presentation;
-      names = c.in-Ok.parts.names;
-      tables = tables c.args.sheet (c.in-Ok.ensures.algebra j);
-      assignment = map meaning c.in-Ok.parts.standings;
+      presentation = c.in_ok-parts.parts.presentation;
+      names = c.in_ok-parts.parts.names;
+      tables = tables c.args.sheet (c.in_ok-parts.ensures.algebra j);
+      assignment = map meaning c.in_ok-parts.parts.standings;
     }))

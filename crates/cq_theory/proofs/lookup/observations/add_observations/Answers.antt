@@ -1,7 +1,7 @@
 use Rattle.std.proofs.Common.{◌<◌, ◌≤◌, length, arith}
 use Rattle.std.proofs.lemmas.Result.{err_from_is_err_and}
 use Rattle.cq_theory.specs.SchemaParts.{observation_fault, made_observation}
-use Rattle.cq_theory.proofs.PartLoops.{pushed, map_more, map_whole, term_passed, term_refused, terms_passed}
+use Rattle.cq_theory.proofs.PartLoops.{map_more, map_whole, term_passed, term_refused, terms_passed}
 use Rattle.cq_theory.proofs.lookup.observations.add_observations.Goals as goal
 
 pub returns-in_err-observation-clause-refused : goal.returns-in_err-observation-clause-refused
@@ -18,7 +18,7 @@ loop-part-preserved c =
     let x = c.part-item.result in
     let within : i < length parts = omega arith in
     let one = c.in_ok-observation.ensures.ok in
-    let more = pushed _ _ c.loop-part.made.items c.push.new.self.items c.in_ok-observation.observation c.push.ensures.items c.is_err.ensures.negation c.if-is_err.false in (
+    let more = c.in_ok-push.ensures.items in (
       omega arith,
       map_more (made_observation c.args.schema.now) parts i x c.loop-part.made.items c.push.new.self.items c.in_ok-observation.observation within c.part-item.is c.loop-part.invariant.1 one.1 more,
       term_passed (observation_fault c.args.schema.now) parts i c.loop-part.number _ x within c.part-item.is one.0 c.loop-part.invariant.2,

@@ -2,7 +2,7 @@ use Rattle.std.proofs.Common.{◌<◌, ◌≤◌, length, refl, sym, ap, arith}
 use Rattle.std.proofs.lemmas.Result.{err_from_is_err_and}
 use Rattle.cq_theory.specs.Resolve.{sort_named}
 use Rattle.cq_theory.specs.Parts.{generator_fault, sort_or_first}
-use Rattle.cq_theory.proofs.PartLoops.{pushed, map_more, map_whole, part_passed, part_refused, parts_passed}
+use Rattle.cq_theory.proofs.PartLoops.{map_more, map_whole, part_passed, part_refused, parts_passed}
 use Rattle.cq_theory.proofs.lookup.parts.add_generators.Goals as goal
 
 pub returns-in_err-sort-clause-refused : goal.returns-in_err-sort-clause-refused
@@ -19,7 +19,7 @@ loop-generator-preserved c =
     let x = c.generator-item.result in
     let within : i < length parts = omega arith in
     let one = c.in_ok-sort.ensures.ok in
-    let more = pushed _ _ c.loop-generator.sorts.items c.push.new.self.items c.in_ok-sort.sort c.push.ensures.items c.is_err.ensures.negation c.if-is_err.false in (
+    let more = c.in_ok-push.ensures.items in (
       omega arith,
       map_more (λ p. p.0) parts i x c.loop-generator.names c.add_generator.new.names x.0 within c.generator-item.is c.loop-generator.invariant.1 refl one.1,
       map_more (λ p. sort_or_first (sort_named c.args.schema.now p.1)) parts i x c.loop-generator.sorts.items c.push.new.self.items c.in_ok-sort.sort within c.generator-item.is c.loop-generator.invariant.2 (sym (ap sort_or_first one.2)) more,

@@ -1,7 +1,7 @@
 use Rattle.std.proofs.Common.{◌<◌, ◌≤◌, length, arith}
 use Rattle.std.proofs.lemmas.Result.{err_from_is_err_and}
 use Rattle.cq_theory.specs.Paths.{is_among, path_eq_fault, made_path_eq}
-use Rattle.cq_theory.proofs.PartLoops.{pushed, map_more, map_whole, term_passed, term_refused, terms_passed}
+use Rattle.cq_theory.proofs.PartLoops.{map_more, map_whole, term_passed, term_refused, terms_passed}
 use Rattle.cq_theory.proofs.lookup.paths.add_path_eqs.Goals as goal
 
 pub returns-in_err-path_eq-clause-refused : goal.returns-in_err-path_eq-clause-refused
@@ -18,7 +18,7 @@ loop-path_eq-preserved c =
     let x = c.path_eq-item.result in
     let within : i < length parts = omega arith in
     let one = c.in_ok-path_eq.ensures.ok in
-    let more = pushed _ _ c.loop-path_eq.made.items c.push.new.self.items c.in_ok-path_eq.path_eq c.push.ensures.items c.is_err.ensures.negation c.if-is_err.false in (
+    let more = c.in_ok-push.ensures.items in (
       omega arith,
       map_more (made_path_eq c.args.schema.now) parts i x c.loop-path_eq.made.items c.push.new.self.items c.in_ok-path_eq.path_eq within c.path_eq-item.is c.loop-path_eq.invariant.1 one.1 more,
       term_passed (path_eq_fault c.args.schema.now (is_among c.args.attributes.now)) parts i c.loop-path_eq.part _ x within c.path_eq-item.is one.0 c.loop-path_eq.invariant.2,

@@ -3,7 +3,7 @@ use Rattle.std.proofs.lemmas.Result.{err_from_is_err_and}
 use Rattle.cq_theory.specs.Typeside.{function_names}
 use Rattle.cq_theory.specs.Schema.{edge_names}
 use Rattle.cq_theory.specs.SchemaParts.{attribute_fault, made_attribute}
-use Rattle.cq_theory.proofs.PartLoops.{pushed, map_more, map_whole, part_passed, part_refused, parts_passed}
+use Rattle.cq_theory.proofs.PartLoops.{map_more, map_whole, part_passed, part_refused, parts_passed}
 use Rattle.cq_theory.proofs.lookup.schema_parts.add_attributes.Goals as goal
 
 pub returns-in_err-made-clause-refused : goal.returns-in_err-made-clause-refused
@@ -22,7 +22,7 @@ loop-attribute-preserved c =
     let names = function_names c.args.schema.now.typeside ++ edge_names c.args.schema.now.keys in
     let within : i < length parts = omega arith in
     let one = c.in_ok-made.ensures.ok in
-    let more = pushed _ _ c.loop-attribute.attributes.items c.push.new.self.items c.in_ok-made.made c.push.ensures.items c.is_err.ensures.negation c.if-is_err.false in (
+    let more = c.in_ok-push.ensures.items in (
       omega arith,
       map_more (λ p. p.0) parts i x c.loop-attribute.table c.add_attribute.new.table x.0 within c.attribute-item.is c.loop-attribute.invariant.1 refl one.1,
       map_more (made_attribute c.args.schema.now.typeside c.args.schema.now.entities) parts i x c.loop-attribute.attributes.items c.push.new.self.items c.in_ok-made.made within c.attribute-item.is c.loop-attribute.invariant.2 one.2 more,

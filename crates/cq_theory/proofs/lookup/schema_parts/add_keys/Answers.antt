@@ -2,7 +2,7 @@ use Rattle.std.proofs.Common.{◌<◌, ◌≤◌, ◌++◌, ◌∷◌, [], lengt
 use Rattle.std.proofs.lemmas.Result.{err_from_is_err_and}
 use Rattle.cq_theory.specs.Typeside.{function_names}
 use Rattle.cq_theory.specs.SchemaParts.{key_fault, made_key}
-use Rattle.cq_theory.proofs.PartLoops.{pushed, map_more, map_whole, part_passed, part_refused, parts_passed}
+use Rattle.cq_theory.proofs.PartLoops.{map_more, map_whole, part_passed, part_refused, parts_passed}
 use Rattle.cq_theory.proofs.lookup.schema_parts.add_keys.Goals as goal
 
 pub returns-in_err-made-clause-refused : goal.returns-in_err-made-clause-refused
@@ -21,7 +21,7 @@ loop-key-preserved c =
     let names = function_names c.args.typeside.now in
     let within : i < length parts = omega arith in
     let one = c.in_ok-made.ensures.ok in
-    let more = pushed _ _ c.loop-key.keys.items c.push.new.self.items c.in_ok-made.made c.push.ensures.items c.is_err.ensures.negation c.if-is_err.false in (
+    let more = c.in_ok-push.ensures.items in (
       omega arith,
       map_more (λ p. p.0) parts i x c.loop-key.table c.add_key.new.table x.0 within c.key-item.is c.loop-key.invariant.1 refl one.1,
       map_more (made_key c.args.typeside.now c.args.entities.now) parts i x c.loop-key.keys.items c.push.new.self.items c.in_ok-made.made within c.key-item.is c.loop-key.invariant.2 one.2 more,

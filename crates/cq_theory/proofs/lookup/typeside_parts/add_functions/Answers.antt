@@ -1,7 +1,7 @@
 use Rattle.std.proofs.Common.{◌<◌, ◌≤◌, length, refl, arith}
 use Rattle.std.proofs.lemmas.Result.{err_from_is_err_and}
 use Rattle.cq_theory.specs.TypesideParts.{function_fault, made_function}
-use Rattle.cq_theory.proofs.PartLoops.{pushed, map_more, map_whole, part_passed, part_refused, parts_passed}
+use Rattle.cq_theory.proofs.PartLoops.{map_more, map_whole, part_passed, part_refused, parts_passed}
 use Rattle.cq_theory.proofs.lookup.typeside_parts.add_functions.Goals as goal
 
 pub returns-in_err-made-clause-refused : goal.returns-in_err-made-clause-refused
@@ -18,7 +18,7 @@ loop-function-preserved c =
     let x = c.function-item.result in
     let within : i < length parts = omega arith in
     let one = c.in_ok-made.ensures.ok in
-    let more = pushed _ _ c.loop-function.functions.items c.push.new.self.items c.in_ok-made.made c.push.ensures.items c.is_err.ensures.negation c.if-is_err.false in (
+    let more = c.in_ok-push.ensures.items in (
       omega arith,
       map_more (λ p. p.0) parts i x c.loop-function.table c.add_function.new.table x.0 within c.function-item.is c.loop-function.invariant.1 refl one.1,
       map_more (made_function c.args.types.now) parts i x c.loop-function.functions.items c.push.new.self.items c.in_ok-made.made within c.function-item.is c.loop-function.invariant.2 one.2 more,
