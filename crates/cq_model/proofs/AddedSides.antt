@@ -29,10 +29,12 @@ use Rattle.cq_theory.proofs.Sorted.{type_of-substituted}
 use Rattle.cq_theory.proofs.TypeTerms.{fold-Gen, fold-Const, fold-Att, fold-Fun}
 use Rattle.cq_model.specs.declared.places.Places.{Places}
 use Rattle.cq_model.specs.NodeListData.{NodeListData}
-use Rattle.cq_model.specs.NodeTerms.{side_terms, equation_sides}
-use Rattle.cq_model.specs.Pushing.{AreReadable, IsPlacing, AreEquationsOf, IsEquated}
+use Rattle.cq_model.specs.NodeTerms.{side_terms, equation_sides, IsConstantTerm}
+use Rattle.cq_model.specs.Pushing.{AreReadable, IsPlacing, AreEquationsOf, HasMore, IsEquated}
+use Rattle.cq_model.specs.Thins.{Thins, ended}
 use Rattle.cq_model.specs.Equating.{sides_at, AddsSides, IsNameOf, AreNamesOf, none, more, AddsAtRow, AddsAtRows, AddsObservations}
 use Rattle.cq_model.proofs.Lists.{map-append, range-append}
+use Rattle.cq_model.proofs.Thinning.{Thins-append}
 
 -- one member more
 flat_more : {X Y : Type 0} (f : X → List Y) (xs : List X) (x : X) → flat_map f (xs ++ x ∷ []) ≡ flat_map f xs ++ f x
@@ -133,22 +135,29 @@ module _ (S : Schema) (m : Content) (places : Places) where
     }
 
     pub sides_none : (list : NodeListData) → AddsSides S m places P entries [] list list
-    sides_none list = λ terms sides h.
-        subst (λ (p : List TypeTerm × List (TypeTerm × TypeTerm)). AreEquationsOf S m places P entries p.0 p.1 list) (λ i. (sym (append-nil terms) i, sym (append-nil sides) i)) h
+    sides_none list = λ terms sides h. record {
+      more = [];
+      thinned = ended;
+      are = subst (λ (p : List TypeTerm × List (TypeTerm × TypeTerm)). AreEquationsOf S m places P entries p.0 p.1 list) (λ i. (sym (append-nil terms) i, sym (append-nil sides) i)) h;
+    }
 
     pub sides_append : (old mid new : NodeListData) (xs ys : List (TypeTerm × TypeTerm)) → AddsSides S m places P entries xs old mid → AddsSides S m places P entries ys mid new
         → AddsSides S m places P entries (xs ++ ys) old new
     sides_append old mid new xs ys first second = λ terms sides h.
-        let longer : (terms ++ flat_map side_terms xs) ++ flat_map side_terms ys ≡ terms ++ flat_map side_terms (xs ++ ys) =
-        append_assoc terms (flat_map side_terms xs) (flat_map side_terms ys) ∙ ap (λ (l : List TypeTerm). terms ++ l) (sym (flat_map-append side_terms xs ys)) in
-        subst (λ (p : List TypeTerm × List (TypeTerm × TypeTerm)). AreEquationsOf S m places P entries p.0 p.1 new) (λ i. (longer i, append_assoc sides xs ys i))
-        (second (terms ++ flat_map side_terms xs) (sides ++ xs) (first terms sides h))
+        let one : HasMore S m places P entries terms (flat_map side_terms xs) (sides ++ xs) mid = first terms sides h in
+        let two : HasMore S m places P entries (terms ++ one.more) (flat_map side_terms ys) ((sides ++ xs) ++ ys) new = second (terms ++ one.more) (sides ++ xs) one.are in
+        record {
+          more = one.more ++ two.more;
+          thinned = subst (λ (l : List TypeTerm). Thins IsConstantTerm l (one.more ++ two.more)) (sym (flat_map-append side_terms xs ys)) (Thins-append IsConstantTerm one.thinned two.thinned);
+          are = subst (λ (p : List TypeTerm × List (TypeTerm × TypeTerm)). AreEquationsOf S m places P entries p.0 p.1 new)
+              (λ i. (append_assoc terms one.more two.more i, append_assoc sides xs ys i)) two.are;
+        }
 
     -- one equation
     pub sides_one : (G : Generators) (rows : List ℕ) (placed : TypeTerm → TypeTerm) (named : EntTerm → EntTerm) (old new : NodeListData) (t u : TypeTerm)
         → IsPlacing S m places P entries G rows placed named → HaveOneType S G t u → IsEquated S m places rows old new t u → AddsSides S m places P entries ((placed t, placed u) ∷ []) old new
     sides_one G rows placed named old new t u placing typed equated = λ terms sides h.
-        subst (λ (l : List TypeTerm). AreEquationsOf S m places P entries (terms ++ l) (sides ++ (placed t, placed u) ∷ []) new) (sym (append-nil (side_terms (placed t, placed u))))
+        subst (λ (l : List TypeTerm). HasMore S m places P entries terms l (sides ++ (placed t, placed u) ∷ []) new) (sym (append-nil (side_terms (placed t, placed u))))
         (equated.listed P entries G placed named terms sides typed.type placing typed.left typed.right h)
 
     -- the equations of a presentation so far

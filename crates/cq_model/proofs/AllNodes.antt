@@ -11,11 +11,14 @@ use Rattle.cq_model.specs.BuiltParts.{AreLeaves}
 use Rattle.cq_model.specs.Equating.{IsNameOf, AreNamesOf, none, more, AddsSides, AddsObservations}
 use Rattle.cq_model.specs.LeastNames.{rows_at, terms_at, AreNumbered}
 use Rattle.cq_model.specs.NodeListData.{NodeListData}
-use Rattle.cq_model.specs.NodeTerms.{made_terms, side_terms, equation_sides, entity_sides, given_sides, leaf_terms, node_terms, StandsAt, ArePlaces}
-use Rattle.cq_model.specs.Pushing.{AreEquationsOf}
+use Rattle.cq_model.specs.NodeTerms.{side_terms, equation_sides, entity_sides, given_sides, leaf_terms, IsConstantTerm, StandsAt, ArePlaces}
+use Rattle.cq_model.specs.Pushing.{AreEquationsOf, HasMore}
+use Rattle.cq_model.specs.Thins.{Thins}
+use Rattle.cq_model.proofs.Thinning.{Thins-append}
 use Rattle.cq_model.proofs.Lists.{IsIn, in_append, from_flat_map, get-append_front}
 use Rattle.cq_model.proofs.PlacedLeaves.{split_at, out-Gen}
-use Rattle.cq_model.proofs.PushedTerms.{StandsFor-more, made-Gen, made-Const, made-Att, made-Fun, out-Const, out-Fun}
+use Rattle.cq_model.proofs.MadeTerms.{IsMadeLayer, IsMade, AllMade, sides_made, made_thinned, from_layer}
+use Rattle.cq_model.proofs.PushedTerms.{StandsFor-more}
 use Rattle.cq_model.proofs.Variants.{out-Att}
 use Rattle.cq_theory.specs.declared.presentation.Presentation.{Presentation}
 use Rattle.cq_theory.specs.SchemaData.{SchemaData as Schema}
@@ -26,60 +29,6 @@ use Rattle.cq_theory.specs.declared.term.TypeTerm.TheOpen as layer
 use Rattle.cq_theory.specs.declared.term.TypeTerm.TheViews.{out-TypeTerm, roll-TypeTerm}
 use Rattle.cq_theory.specs.Canonical.{below}
 use Rattle.cq_theory.proofs.TypeTerms.{Each, on_terms}
-
--- a constant or an application
-abbrev IsMadeLayer : layer.TypeTerm-F TypeTerm → Type 0
-IsMadeLayer (layer.Gen n) = ⊥
-IsMadeLayer (layer.Const c) = Unit {0}
-IsMadeLayer (layer.Att a t) = ⊥
-IsMadeLayer (layer.Fun f ts) = Unit {0}
-
-abbrev IsMade : TypeTerm → Type 0
-IsMade t = IsMadeLayer (out-TypeTerm t)
-
--- each member is one
-abbrev AllMade : List TypeTerm → Type 0
-AllMade ts = (t : TypeTerm) → IsIn t ts → IsMade t
-
-made_none : AllMade []
-made_none t h = let no : slice_get [] h.place ≡ Some t = h.is in cc
-
-made_one : (t : TypeTerm) → IsMade t → AllMade (t ∷ [])
-made_one t made u h = go h.place h.is
-  where
-    go : (n : ℕ) → slice_get (t ∷ []) n ≡ Some u → IsMade u
-    go zero is = subst IsMade (same_Some t u is) made
-    go (suc n) is = let no : slice_get [] n ≡ Some u = is in cc
-
-made_append : (ts us : List TypeTerm) → AllMade ts → AllMade us → AllMade (ts ++ us)
-made_append ts us left right t h = in_append (IsMade t) ts us h.place t h.is (left t) (right t)
-
-made_flat : (ts : List TypeTerm) → Each (λ t. AllMade (made_terms t)) ts → AllMade (flat_map made_terms ts)
-made_flat [] each = made_none
-made_flat (t ∷ ts) each = made_append (made_terms t) (flat_map made_terms ts) each.0 (made_flat ts each.1)
-
-all_made : (t : TypeTerm) → AllMade (made_terms t)
-all_made = on_terms (λ t. AllMade (made_terms t))
-    (λ n. subst AllMade (sym (made-Gen n)) made_none)
-    (λ c. subst AllMade (sym (made-Const c)) (made_one (term.Const c) (subst IsMadeLayer (sym (out-Const c)) tt)))
-    (λ a t. subst AllMade (sym (made-Att a t)) made_none)
-    (λ f ts each. subst AllMade (sym (made-Fun f ts)) (made_append (flat_map made_terms ts) (term.Fun f ts ∷ []) (made_flat ts each) (made_one (term.Fun f ts) (subst IsMadeLayer (sym (out-Fun f ts)) tt))))
-
-sides_made : (sides : List (TypeTerm × TypeTerm)) → AllMade (flat_map side_terms sides)
-sides_made sides t h =
-    let from = from_flat_map side_terms sides t h in
-    made_append (made_terms from.source.0) (made_terms from.source.1) (all_made from.source.0) (all_made from.source.1) t from.in_part
-
--- a term is its layer, closed
-from_layer : (t : TypeTerm) (l : layer.TypeTerm-F TypeTerm) → out-TypeTerm t ≡ l → t ≡ roll-TypeTerm l
-from_layer t l h = closed t ∙ ap roll-TypeTerm h
-  where
-    closed : (t : TypeTerm) → t ≡ roll-TypeTerm (out-TypeTerm t)
-    closed = on_terms (λ t. t ≡ roll-TypeTerm (out-TypeTerm t))
-        (λ n. sym (term.rolls-Gen n) ∙ ap roll-TypeTerm (sym (out-Gen n)))
-        (λ c. sym (term.rolls-Const c) ∙ ap roll-TypeTerm (sym (out-Const c)))
-        (λ a t. sym (term.rolls-Att a t) ∙ ap roll-TypeTerm (sym (out-Att a t)))
-        (λ f ts each. sym (term.rolls-Fun f ts) ∙ ap roll-TypeTerm (sym (out-Fun f ts)))
 
 module _ (m : Content) (rows : List ℕ) (places : Places) where
   -- a constant or an application stands for itself
@@ -103,8 +52,10 @@ module _ (m : Content) (rows : List ℕ) (places : Places) where
       ];
     }
 
-    pub node_places : (names : List (List EntTerm)) → ArePlaces m rows places (leaf_terms S P names) S P → ArePlaces m rows places (node_terms S P names) S P
-    node_places names h = places_more (leaf_terms S P names) (flat_map side_terms (given_sides S P names)) (sides_made (given_sides S P names)) h
+    node_places : (names : List (List EntTerm)) (made : List TypeTerm) → Thins IsConstantTerm (flat_map side_terms (given_sides S P names)) made → ArePlaces m rows places (leaf_terms S P names) S P
+        → ArePlaces m rows places (leaf_terms S P names ++ made) S P
+    node_places names made thinned h =
+        places_more (leaf_terms S P names) made (made_thinned IsConstantTerm (flat_map side_terms (given_sides S P names)) made thinned (sides_made (given_sides S P names))) h
 
 module _ (S : Schema) (P : Presentation) (m : Content) (entries : List ℕ) where
   -- rows and names in step
@@ -131,16 +82,19 @@ module _ (S : Schema) (P : Presentation) (m : Content) (entries : List ℕ) wher
       let L : List TypeTerm = leaf_terms S P names in
       let first : List (TypeTerm × TypeTerm) = flat_map equation_sides P.equations in
       let second : List (TypeTerm × TypeTerm) = flat_map (entity_sides S P names) (below (length S.entities)) in
-      let one : AreEquationsOf S m places P entries (L ++ flat_map side_terms first) first given = adds L [] placed.listed in
-      let added : AreEquationsOf S m places P entries ((L ++ flat_map side_terms first) ++ flat_map side_terms second) (first ++ second) list =
-      subst (λ n. AreEquationsOf S m places P entries ((L ++ flat_map side_terms first) ++ flat_map side_terms (flat_map (entity_sides S P names) (below n))) (first ++ flat_map (entity_sides S P names) (below n)) list)
-      numbered.entities (observed P entries names (λ e _. numbered_names places order names numbers numbered e) (L ++ flat_map side_terms first) first one) in
-      let whole : (L ++ flat_map side_terms first) ++ flat_map side_terms second ≡ node_terms S P names =
-      append_assoc L (flat_map side_terms first) (flat_map side_terms second) ∙ ap (λ (l : List TypeTerm). L ++ l) (sym (flat_map-append side_terms first second)) in
-      let all : AreEquationsOf S m places P entries (node_terms S P names) (given_sides S P names) list = subst (λ (l : List TypeTerm). AreEquationsOf S m places P entries l (first ++ second) list) whole added in
+      let one : HasMore S m places P entries L (flat_map side_terms first) first given = adds L [] placed.listed in
+      let two : HasMore S m places P entries (L ++ one.more) (flat_map side_terms second) (first ++ second) list =
+      subst (λ n. HasMore S m places P entries (L ++ one.more) (flat_map side_terms (flat_map (entity_sides S P names) (below n))) (first ++ flat_map (entity_sides S P names) (below n)) list)
+      numbered.entities (observed P entries names (λ e _. numbered_names places order names numbers numbered e) (L ++ one.more) first one.are) in
+      let made : List TypeTerm = one.more ++ two.more in
+      let thinned : Thins IsConstantTerm (flat_map side_terms (given_sides S P names)) made =
+      subst (λ (l : List TypeTerm). Thins IsConstantTerm l made) (sym (flat_map-append side_terms first second)) (Thins-append IsConstantTerm one.thinned two.thinned) in
+      let all : AreEquationsOf S m places P entries (L ++ made) (given_sides S P names) list = subst (λ (l : List TypeTerm). AreEquationsOf S m places P entries l (first ++ second) list) (append_assoc L one.more two.more) two.are in
       record {
         numbered = numbered;
-        places_are = node_places m entries places S P names placed.places_are;
+        made = made;
+        thinned = thinned;
+        places_are = node_places m entries places S P names made thinned placed.places_are;
         nodes_are = all.listed.nodes;
         sides = all.equations;
         types_are = all.listed.types;

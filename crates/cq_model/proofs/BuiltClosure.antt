@@ -1,5 +1,5 @@
 -- What the values of nodes say: equal values are those of congruent nodes, and entries give the values of applications.
-use Rattle.std.proofs.Common.{ℕ, true, List, [], ◌∷◌, Option, Some, ◌≡◌, ◌<◌, ◌⊎◌, map, length, refl, sym, ap, subst, ◌∙◌, arith, inl, inr, eqb-true}
+use Rattle.std.proofs.Common.{ℕ, true, List, [], ◌∷◌, ◌++◌, Option, Some, ◌≡◌, ◌<◌, ◌⊎◌, map, length, refl, sym, ap, subst, ◌∙◌, arith, inl, inr, eqb-true}
 use Rattle.std.specs.Prelude.{slice_get, slice_index, nat_eq, find, All}
 use Rattle.std.specs.List.{filter_map}
 use Rattle.std.proofs.lemmas.Option.{slice_get_within, slice_get-get_or, get_or_from_slice_get}
@@ -12,7 +12,7 @@ use Rattle.cq_flat.specs.Congruence.{Congruent, AllCongruent}
 use Rattle.cq_flat.specs.Values.{Closure, value_at}
 use Rattle.cq_model.specs.declared.places.Places.{Places}
 use Rattle.cq_model.specs.Closed.{AreClosed}
-use Rattle.cq_model.specs.NodeTerms.{node_terms}
+use Rattle.cq_model.specs.NodeTerms.{leaf_terms}
 use Rattle.cq_model.specs.Built.{IsClosureOf, IsBuilt, tables_of}
 use Rattle.cq_theory.specs.declared.constant.Con.{Con}
 use Rattle.cq_theory.specs.declared.constant.Con.TheVariants.{Named}
@@ -36,6 +36,7 @@ use Rattle.cq_theory.proofs.TypeTerms.{fold-Const}
 use Rattle.cq_model.proofs.Lists.{IsIn, get-map, in_range}
 use Rattle.cq_model.proofs.BuiltEntries.{in_filter_map, stays, found_node, find_entry}
 use Rattle.cq_model.proofs.BuiltNodes as nodes_say
+use Rattle.cq_theory.proofs.Derivations.{Derives-transitive}
 use Rattle.cq_model.proofs.BuiltNodes.{at_place, one_type}
 
 -- a plain value is a constant or a null
@@ -61,7 +62,7 @@ module _ (S : Schema) (P : Presentation) (m : Content) (rows : List ℕ) (schema
   M = tables_of S P m rows order numbers places types flat
 
   abbrev T : List TypeTerm
-  T = node_terms S P names
+  T = leaf_terms S P names ++ built.made
 
   abbrev value_here : ℕ → Value
   value_here = value_at flat.values
@@ -98,21 +99,19 @@ module _ (S : Schema) (P : Presentation) (m : Content) (rows : List ℕ) (schema
     pub at : ℕ
     pub within : at < length nodes
     pub is : slice_get nodes at ≡ Some (node.Const c)
-    pub term_is : slice_get T at ≡ Some (term.Const c)
     pub equal : Congruent nodes equations p at
+
+  -- a term whose node has the value of a constant is derivably equal to it
+  pub constant_equal : (p : ℕ) (c : Con) (t : TypeTerm) → IsConstantOf p c → slice_get T p ≡ Some t → Derives S P (Typ t) (Typ (term.Const c))
+  constant_equal p c t of found =
+      let u = term_at of.at of.within in
+      Derives-transitive S P (Typ t) (Typ u.0) (Typ (term.Const c)) (derives of.equal t u.0 found u.1)
+      (nodes_say.constant_derives S P m rows schema presentation closed order names numbers places nodes equations types built flat closure of.at c u.0 u.1 of.is)
 
   pub constant_of : (p : ℕ) (c : Con) → p < length nodes → value_here p ≡ value.Const c → IsConstantOf p c
   constant_of p c l e =
       let has = ((closure.values.constant p c l).0 (valued p l ∙ ap (λ v. Some v) e)).has in
-      let within : has.at < length nodes = slice_get_within nodes has.at (node.Const c) has.is in
-      let t = term_at has.at within in
-      record {
-        at = has.at;
-        within = within;
-        is = has.is;
-        term_is = t.1 ∙ ap (λ (u : TypeTerm). Some u) (nodes_say.constant_at S P m rows schema presentation closed order names numbers places nodes equations types built flat closure has.at c t.0 t.1 has.is);
-        equal = has.equal;
-      }
+      record { at = has.at; within = slice_get_within nodes has.at (node.Const c) has.is; is = has.is; equal = has.equal }
 
   -- the first node of a null
   pub record IsNullOf (p label : ℕ) : Type 0 where
@@ -159,7 +158,7 @@ module _ (S : Schema) (P : Presentation) (m : Content) (rows : List ℕ) (schema
       elim (plain_cases (value_here p) (value_plain p l)) [
         | inl constant ↦
             let at = constant_of p constant.0 l constant.1 in
-            let typed : type_of S P.generators (term.Const constant.0) ≡ Some type = one_type S P schema presentation t (term.Const constant.0) type (derives at.equal t (term.Const constant.0) found at.term_is) sort in
+            let typed : type_of S P.generators (term.Const constant.0) ≡ Some type = one_type S P schema presentation t (term.Const constant.0) type (constant_equal p constant.0 t at found) sort in
             ap (value_type S M.algebra.nulls) constant.1 ∙ values_say.fold-Const (Option ℕ) (value_type_step S M.algebra.nulls) constant.0
             ∙ sym (fold-Const (Option ℕ) (type_step S P.generators) constant.0) ∙ typed
         | inr null ↦

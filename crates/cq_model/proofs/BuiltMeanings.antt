@@ -1,5 +1,5 @@
 -- Derivably equal terms have one value, where the constants of nodes mean the nodes' values.
-use Rattle.std.proofs.Common.{ℕ, true, List, [], ◌∷◌, Some, None, ◌≡◌, ◌<◌, ◌+◌, ◌==◌, map, filter, length, refl, sym, ap, subst, ◌∙◌, arith, slice_index_or, eq-eqb}
+use Rattle.std.proofs.Common.{ℕ, true, List, [], ◌∷◌, ◌++◌, Some, None, ◌≡◌, ◌<◌, ◌+◌, ◌==◌, map, filter, length, refl, sym, ap, subst, ◌∙◌, arith, inl, inr, slice_index_or, eq-eqb}
 use Rattle.std.specs.Prelude.{slice_get, slice_index}
 use Rattle.std.specs.List.{flat_map, enumerate_from}
 use Rattle.std.proofs.lemmas.Option.{slice_get_within, get_or_from_slice_get}
@@ -15,7 +15,7 @@ use Rattle.cq_flat.specs.Values.{Closure, value_at}
 use Rattle.cq_model.specs.declared.places.Places.{Places}
 use Rattle.cq_model.specs.Closed.{AreClosed}
 use Rattle.cq_model.specs.LeastNames.{rows_at, terms_at}
-use Rattle.cq_model.specs.NodeTerms.{equation_sides, row_sides, entity_sides, given_sides, node_terms, cell_place, StandsAt, StandsFor, EachStands}
+use Rattle.cq_model.specs.NodeTerms.{equation_sides, row_sides, entity_sides, given_sides, leaf_terms, cell_place, StandsAt, StandsFor, EachStands}
 use Rattle.cq_model.specs.Built.{IsClosureOf, IsBuilt, cell_column, standing, tables_of, assignment_of}
 use Rattle.cq_theory.specs.declared.constant.Con.{Con}
 use Rattle.cq_theory.specs.declared.constant.Con.TheVariants.{Named}
@@ -68,7 +68,7 @@ module _ (S : Schema) (P : Presentation) (m : Content) (rows : List ℕ) (schema
   A = assignment_of S P m rows order numbers places flat.values
 
   abbrev T : List TypeTerm
-  T = node_terms S P names
+  T = leaf_terms S P names ++ built.made
 
   abbrev Stands : TypeTerm → ℕ → Type 0
   Stands = StandsFor m rows places T
@@ -203,14 +203,18 @@ module _ (S : Schema) (P : Presentation) (m : Content) (rows : List ℕ) (schema
     -- the sides of a given equation have one value
     pub given_values : (i : ℕ) (t u : TypeTerm) → slice_get (given_sides S P names) i ≡ Some (t, u) → value_with t ≡ value_with u
     given_values i t u found =
-        let e = at_place equations i (omega (arith, slice_get_within (given_sides S P names) i (t, u) found, built.sides.count)) in
-        let each = built.sides.each i e.0.0 e.0.1 t u found e.1 in
         let sorts = derived_typed S P schema presentation t u (nodes_say.given_derives S P m rows schema presentation closed order names numbers places nodes equations types built flat closure i t u found) in
-        let inside : e.0.0 < length nodes = omega (arith, each.2, built.nodes_are.count) in
-        let inside' : e.0.1 < length nodes = omega (arith, each.3, built.nodes_are.count) in
-        stands_value t e.0.0 sorts.0.0 sorts.0.1 each.0
-        ∙ congruent_equal e.0.0 e.0.1 inside inside' (congruent.given i e.1)
-        ∙ sym (stands_value u e.0.1 sorts.1.0 sorts.1.1 each.1)
+        elim (built.sides.met i t u found) [
+          | inl j ↦
+              let inside : j.nodes.0 < length nodes = omega (arith, j.stand.left_within, built.nodes_are.count) in
+              let inside' : j.nodes.1 < length nodes = omega (arith, j.stand.right_within, built.nodes_are.count) in
+              stands_value t j.nodes.0 sorts.0.0 sorts.0.1 j.stand.left
+              ∙ congruent_equal j.nodes.0 j.nodes.1 inside inside' (congruent.given j.number j.is)
+              ∙ sym (stands_value u j.nodes.1 sorts.1.0 sorts.1.1 j.stand.right)
+          | inr k ↦
+              stands_value t k.place sorts.0.0 sorts.0.1 k.stands
+              ∙ sym (ap value_with k.is ∙ fold-Const Value with_step k.constant ∙ agree k.place k.constant k.node_is)
+        ]
 
     -- an observation equation has one value at the name of a row
     pub observation_values : (n : ℕ) (e : ObsEq) (name : EntTerm) → slice_get S.obs_eqs n ≡ Some e → IsIn name (names_of S P names e.entity)

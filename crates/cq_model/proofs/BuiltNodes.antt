@@ -1,5 +1,5 @@
 -- What nodes stand for: congruent nodes have derivably equal terms.
-use Rattle.std.proofs.Common.{ℕ, zero, suc, true, List, [], ◌∷◌, Option, Some, None, ◌≡◌, ◌<◌, ◌==◌, filter, length, refl, sym, ap, subst, ◌∙◌, arith, eqb-true}
+use Rattle.std.proofs.Common.{ℕ, zero, suc, true, List, [], ◌∷◌, ◌++◌, Option, Some, None, ◌≡◌, ◌<◌, ◌==◌, filter, length, refl, sym, ap, subst, ◌∙◌, arith, inl, inr, eqb-true}
 use Rattle.std.specs.Prelude.{slice_get, slice_index, option_map, All}
 use Rattle.std.specs.List.{flat_map}
 use Rattle.std.proofs.lemmas.Option.{slice_get_within}
@@ -14,7 +14,7 @@ use Rattle.cq_flat.specs.Values.{Closure}
 use Rattle.cq_model.specs.declared.places.Places.{Places}
 use Rattle.cq_model.specs.Closed.{AreClosed}
 use Rattle.cq_model.specs.LeastNames.{rows_at, terms_at}
-use Rattle.cq_model.specs.NodeTerms.{equation_sides, row_sides, entity_sides, given_sides, node_terms, cell_place, StandsAt, StandsFor, EachStands, IsNodeAt}
+use Rattle.cq_model.specs.NodeTerms.{equation_sides, row_sides, entity_sides, given_sides, leaf_terms, cell_place, StandsAt, StandsFor, EachStands, IsNodeAt}
 use Rattle.cq_model.specs.Built.{IsClosureOf, IsBuilt}
 use Rattle.cq_theory.specs.declared.constant.Con.{Con}
 use Rattle.cq_theory.specs.declared.presentation.Equation.{Equation}
@@ -66,17 +66,8 @@ from_layer t l h = closed t ∙ ap roll-TypeTerm h
         (λ a t. sym (term.rolls-Att a t) ∙ ap roll-TypeTerm (sym (out-Att a t)))
         (λ f ts each. sym (term.rolls-Fun f ts) ∙ ap roll-TypeTerm (sym (out-Fun f ts)))
 
--- Which term has a node of a kind.
+-- Which term has the node of an application.
 module _ (m : Content) (rows : List ℕ) (places : Places) (T : List TypeTerm) where
-  pub constant_node : (p : ℕ) (c : Con) (t : TypeTerm) → IsNodeAt m rows places T p (out-TypeTerm t) (node.Const c) → t ≡ term.Const c
-  constant_node p c t h = from_layer t (layer.Const c) (go (out-TypeTerm t) h) ∙ term.rolls-Const c
-    where
-      go : (l : layer.TypeTerm-F TypeTerm) → IsNodeAt m rows places T p l (node.Const c) → l ≡ layer.Const c
-      go (layer.Gen n) is = cc
-      go (layer.Const d) is = let same : d ≡ c = cc in ap layer.Const same
-      go (layer.Att a u) is = cc
-      go (layer.Fun f args) is = let wrong : node.Const c ≡ node.Fun f is.0 = is.1 in cc
-
   pub function_node : (p f : ℕ) (ps : List ℕ) (t : TypeTerm) → IsNodeAt m rows places T p (out-TypeTerm t) (node.Fun f ps)
       → (args : List TypeTerm) × (t ≡ term.Fun f args) × EachStands m rows places T args ps × All (λ arg. arg < p) ps
   function_node p f ps t h =
@@ -85,9 +76,9 @@ module _ (m : Content) (rows : List ℕ) (places : Places) (T : List TypeTerm) w
     where
       go : (l : layer.TypeTerm-F TypeTerm) → IsNodeAt m rows places T p l (node.Fun f ps)
           → (args : List TypeTerm) × (l ≡ layer.Fun f args) × EachStands m rows places T args ps × All (λ arg. arg < p) ps
-      go (layer.Gen n) is = cc
+      go (layer.Gen n) is = absurd is
       go (layer.Const d) is = cc
-      go (layer.Att a u) is = cc
+      go (layer.Att a u) is = absurd is
       go (layer.Fun g args) is =
           let one : node.Fun f ps ≡ node.Fun g is.0 = is.1 in
           let function : g ≡ f = cc in
@@ -126,7 +117,7 @@ module _ (S : Schema) (P : Presentation) (m : Content) (rows : List ℕ) (schema
 
   -- the term of each node
   abbrev T : List TypeTerm
-  T = node_terms S P names
+  T = leaf_terms S P names ++ built.made
 
   abbrev Stands : TypeTerm → ℕ → Type 0
   Stands = StandsFor m rows places T
@@ -145,9 +136,6 @@ module _ (S : Schema) (P : Presentation) (m : Content) (rows : List ℕ) (schema
   node_ground p t h =
       let type = at_place types p (omega (arith, slice_get_within T p t h, built.types_are.count)) in
       (type.0, built.types_are.each p type.0 t h type.1)
-
-  pub constant_at : (p : ℕ) (c : Con) (t : TypeTerm) → slice_get T p ≡ Some t → slice_get nodes p ≡ Some (node.Const c) → t ≡ term.Const c
-  constant_at p c t h h' = constant_node m rows places T p c t (built.nodes_are.each p t (node.Const c) h h')
 
   pub function_at : (p f : ℕ) (ps : List ℕ) (t : TypeTerm) → slice_get T p ≡ Some t → slice_get nodes p ≡ Some (node.Fun f ps)
       → (args : List TypeTerm) × (t ≡ term.Fun f args) × EachStands m rows places T args ps × All (λ arg. arg < p) ps
@@ -261,28 +249,42 @@ module _ (S : Schema) (P : Presentation) (m : Content) (rows : List ℕ) (schema
   given_derives i t u found = in_append (Given (t, u)) (flat_map equation_sides P.equations) (flat_map (entity_sides S P names) (below (length S.entities))) i (t, u) found
       (from_presentation (t, u)) (from_observations (t, u))
 
+  -- the node of a constant has a term that is derivably equal to it
+  pub constant_derives : (p : ℕ) (c : Con) (t : TypeTerm) → slice_get T p ≡ Some t → slice_get nodes p ≡ Some (node.Const c) → Derives S P (Typ t) (Typ (term.Const c))
+  constant_derives p c t h h' = elim (built.sides.taken p t c h h') [
+    | inl is ↦
+        let ground = node_ground p t h in
+        subst (λ (v : TypeTerm). Derives S P (Typ t) (Typ v)) is (Derives-reflexive S P (Typ t) (typed_ground S P schema presentation t ground.0 ground.1))
+    | inr for ↦
+        let equal : Derives S P (Typ for.left) (Typ (term.Const c)) = given_derives for.number for.left (term.Const c) for.is in
+        let sorts = derived_typed S P schema presentation for.left (term.Const c) equal in
+        Derives-transitive S P (Typ t) (Typ for.left) (Typ (term.Const c))
+        (Derives-symmetric S P (Typ for.left) (Typ t) (stands_derives for.left t p sorts.0.0 sorts.0.1 for.stands h)) equal
+  ]
+
   -- the given equation of an equation between nodes
-  pub record IsGivenAt (i a b : ℕ) : Type 0 where
+  pub record IsGivenAt (a b : ℕ) : Type 0 where
+    pub number : ℕ
     pub left : TypeTerm
     pub right : TypeTerm
-    pub is : slice_get (given_sides S P names) i ≡ Some (left, right)
+    pub is : slice_get (given_sides S P names) number ≡ Some (left, right)
     pub stands : Stands left a
     pub stands' : Stands right b
     pub within : a < length nodes
     pub within' : b < length nodes
 
-  pub given_at : (i a b : ℕ) → slice_get equations i ≡ Some (a, b) → IsGivenAt i a b
+  pub given_at : (i a b : ℕ) → slice_get equations i ≡ Some (a, b) → IsGivenAt a b
   given_at i a b h =
-      let sides = at_place (given_sides S P names) i (omega (arith, slice_get_within equations i (a, b) h, built.sides.count)) in
-      let each = built.sides.each i a b sides.0.0 sides.0.1 sides.1 h in
+      let g = built.sides.given i a b h in
       record {
-        left = sides.0.0;
-        right = sides.0.1;
-        is = sides.1;
-        stands = each.0;
-        stands' = each.1;
-        within = omega (arith, each.2, built.nodes_are.count);
-        within' = omega (arith, each.3, built.nodes_are.count);
+        number = g.number;
+        left = g.sides_are.0;
+        right = g.sides_are.1;
+        is = g.is;
+        stands = g.stand.left;
+        stands' = g.stand.right;
+        within = omega (arith, g.stand.left_within, built.nodes_are.count);
+        within' = omega (arith, g.stand.right_within, built.nodes_are.count);
       }
 
   pub congruent_within : {a b : ℕ} → Congruent nodes equations a b → (a < length nodes) × (b < length nodes)
@@ -296,7 +298,7 @@ module _ (S : Schema) (P : Presentation) (m : Content) (rows : List ℕ) (schema
   from_given : (i a b : ℕ) (t u : TypeTerm) → slice_get equations i ≡ Some (a, b) → slice_get T a ≡ Some t → slice_get T b ≡ Some u → Derives S P (Typ t) (Typ u)
   from_given i a b t u h left right =
       let g = given_at i a b h in
-      let equal : Derives S P (Typ g.left) (Typ g.right) = given_derives i g.left g.right g.is in
+      let equal : Derives S P (Typ g.left) (Typ g.right) = given_derives g.number g.left g.right g.is in
       let sorts = derived_typed S P schema presentation g.left g.right equal in
       Derives-transitive S P (Typ t) (Typ g.left) (Typ u)
       (Derives-symmetric S P (Typ g.left) (Typ t) (stands_derives g.left t a sorts.0.0 sorts.0.1 g.stands left))
@@ -304,9 +306,7 @@ module _ (S : Schema) (P : Presentation) (m : Content) (rows : List ℕ) (schema
 
   from_constants : (a b : ℕ) (c : Con) (t u : TypeTerm) → slice_get nodes a ≡ Some (node.Const c) → slice_get nodes b ≡ Some (node.Const c) → slice_get T a ≡ Some t → slice_get T b ≡ Some u → Derives S P (Typ t) (Typ u)
   from_constants a b c t u e f left right =
-      let same : t ≡ u = constant_at a c t left e ∙ sym (constant_at b c u right f) in
-      let ground = node_ground a t left in
-      subst (λ (v : TypeTerm). Derives S P (Typ t) (Typ v)) same (Derives-reflexive S P (Typ t) (typed_ground S P schema presentation t ground.0 ground.1))
+      Derives-transitive S P (Typ t) (Typ (term.Const c)) (Typ u) (constant_derives a c t left e) (Derives-symmetric S P (Typ u) (Typ (term.Const c)) (constant_derives b c u right f))
 
   -- applications of one function to arguments that are equal
   from_functions : (a b f : ℕ) (xs ys : List ℕ) (t u : TypeTerm) → slice_get nodes a ≡ Some (node.Fun f xs) → slice_get nodes b ≡ Some (node.Fun f ys)

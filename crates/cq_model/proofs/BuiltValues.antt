@@ -1,5 +1,5 @@
 -- Without a clash: what type terms mean in the tables.
-use Rattle.std.proofs.Common.{ℕ, suc, true, false, List, [], ◌∷◌, Option, Some, None, ◌≡◌, ◌<◌, map, length, refl, sym, ap, subst, ◌∙◌, arith, inl, inr, slice_index_or}
+use Rattle.std.proofs.Common.{ℕ, suc, true, false, List, [], ◌∷◌, ◌++◌, Option, Some, None, ◌≡◌, ◌<◌, map, length, refl, sym, ap, subst, ◌∙◌, arith, inl, inr, slice_index_or}
 use Rattle.std.specs.Prelude.{slice_get, slice_index, find, All, AllPairs}
 use Rattle.std.proofs.lemmas.List.{length-map}
 use Rattle.std.proofs.lemmas.Option.{slice_get_within, slice_get-get_or, get_or_from_slice_get, MatchOption-at_none}
@@ -11,7 +11,7 @@ use Rattle.cq_flat.specs.Values.{Closure, value_at, AreEqualConstants, IsLeastCo
 use Rattle.cq_model.specs.declared.places.Places.{Places}
 use Rattle.cq_model.specs.Closed.{AreClosed}
 use Rattle.cq_model.specs.LeastNames.{rows_at}
-use Rattle.cq_model.specs.NodeTerms.{node_terms, cell_place, StandsAt, StandsFor, EachStands}
+use Rattle.cq_model.specs.NodeTerms.{leaf_terms, cell_place, StandsAt, StandsFor, EachStands}
 use Rattle.cq_model.specs.Built.{IsClosureOf, IsBuilt, tables_of, assignment_of}
 use Rattle.cq_theory.specs.Constant.{IsAtMost}
 use Rattle.cq_theory.proofs.Constants.{at_most-itself}
@@ -82,7 +82,7 @@ module _ (S : Schema) (P : Presentation) (m : Content) (rows : List ℕ) (schema
   A = assignment_of S P m rows order numbers places flat.values
 
   abbrev T : List TypeTerm
-  T = node_terms S P names
+  T = leaf_terms S P names ++ built.made
 
   abbrev Stands : TypeTerm → ℕ → Type 0
   Stands = StandsFor m rows places T
@@ -300,7 +300,7 @@ module _ (S : Schema) (P : Presentation) (m : Content) (rows : List ℕ) (schema
           | inl constant ↦
               let at = closure_says.constant_of S P m rows schema presentation closed order names numbers places nodes equations types built flat closure p constant.0 l constant.1 in
               let is : term_in (value_here p) ≡ term.Const constant.0 = ap term_in constant.1 ∙ values_say.fold-Const TypeTerm term_step constant.0 in
-              subst (Equal t) (sym is) (congruent_equal_terms at.equal t (term.Const constant.0) h at.term_is)
+              subst (Equal t) (sym is) (closure_says.constant_equal S P m rows schema presentation closed order names numbers places nodes equations types built flat closure p constant.0 t at h)
           | inr null ↦
               let at = closure_says.null_of S P m rows schema presentation closed order names numbers places nodes equations types built flat closure p null.0 l null.1 in
               let u = term_at at.at at.within in

@@ -15,6 +15,8 @@ pub mod LeafGenerators
 pub mod LeafCells
 pub mod PlacedLeaves
 pub mod PushedTerms
+pub mod MadeTerms
+pub mod TakenLeaves
 pub mod LeadingPaths
 pub mod ReadableTerms
 pub mod Enumerated

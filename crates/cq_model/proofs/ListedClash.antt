@@ -9,7 +9,6 @@ use Rattle.cq_flat.specs.Congruence.{constants as equal_constants}
 use Rattle.cq_flat.specs.Values.{Closure, AreEqualConstants, IsLeastClash, value_at}
 use Rattle.cq_model.specs.declared.places.Places.{Places}
 use Rattle.cq_model.specs.Closed.{AreClosed}
-use Rattle.cq_model.specs.NodeTerms.{node_terms}
 use Rattle.cq_model.specs.Built.{IsClosureOf, IsBuilt}
 use Rattle.cq_theory.specs.declared.constant.Con.{Con}
 use Rattle.cq_theory.specs.declared.presentation.Presentation.{Presentation}
@@ -21,11 +20,14 @@ use Rattle.cq_theory.specs.declared.term.TypeTerm.{TypeTerm}
 use Rattle.cq_theory.specs.declared.term.TypeTerm.TheVariants as term
 use Rattle.cq_theory.specs.declared.value.Value.{Value}
 use Rattle.cq_theory.specs.declared.value.Value.TheVariants as value
+use Rattle.cq_theory.specs.declared.term.Term.TheVariants.{Typ}
 use Rattle.cq_theory.specs.Closing.{AreEqual, IsInconsistentAt}
+use Rattle.cq_theory.specs.Derivation.{Derives}
+use Rattle.cq_theory.proofs.Derivations.{Derives-symmetric, Derives-transitive}
 use Rattle.cq_theory.specs.Constant.{IsLesser}
 use Rattle.cq_theory.proofs.Constants.{con_decided, lesser-irreflexive}
 use Rattle.cq_theory.proofs.TypeTerms.{fold-Const}
-use Rattle.cq_model.proofs.BuiltNodes.{term_at, constant_at}
+use Rattle.cq_model.proofs.BuiltNodes.{term_at, constant_derives}
 use Rattle.cq_model.proofs.BuiltClosure.{equal_congruent, congruent_equal, constant_of}
 use Rattle.cq_model.proofs.BuiltValues.{with_step, congruent_derives, derived_values}
 
@@ -102,11 +104,16 @@ module _ (S : Schema) (P : Presentation) (m : Content) (rows : List ℕ) (schema
       go (inr none) (inl y) is = absurd (none (constant_node y.0 b (slice_get_within nodes y.0 (node.Const e) y.1) (sym is)))
       go (inr none) (inr none') is = let one : b ≡ e = cc in absurd (lesser-irreflexive e (subst (λ z. IsLesser z e) one less))
 
-  -- the term of a constant's node is the constant
-  constant_term : (p : ℕ) (c : Con) → slice_get nodes p ≡ Some (node.Const c) → slice_get (node_terms S P names) p ≡ Some (term.Const c)
-  constant_term p c found =
-      let t = term_at S P m rows schema presentation closed order names numbers places nodes equations types built flat closure p (slice_get_within nodes p (node.Const c) found) in
-      t.1 ∙ ap (λ (u : TypeTerm). Some u) (constant_at S P m rows schema presentation closed order names numbers places nodes equations types built flat closure p c t.0 t.1 found)
+  -- constants of congruent nodes are derivably equal
+  constants_derive : (c d : Con) → AreEqualConstants nodes equations c d → Derives S P (Typ (term.Const c)) (Typ (term.Const d))
+  constants_derive c d h =
+      let t = term_at S P m rows schema presentation closed order names numbers places nodes equations types built flat closure h.left (slice_get_within nodes h.left (node.Const c) h.left_is) in
+      let u = term_at S P m rows schema presentation closed order names numbers places nodes equations types built flat closure h.right (slice_get_within nodes h.right (node.Const d) h.right_is) in
+      let left : Derives S P (Typ t.0) (Typ (term.Const c)) = constant_derives S P m rows schema presentation closed order names numbers places nodes equations types built flat closure h.left c t.0 t.1 h.left_is in
+      let right : Derives S P (Typ u.0) (Typ (term.Const d)) = constant_derives S P m rows schema presentation closed order names numbers places nodes equations types built flat closure h.right d u.0 u.1 h.right_is in
+      let equal : Derives S P (Typ t.0) (Typ u.0) = congruent_derives S P m rows schema presentation closed order names numbers places nodes equations types built flat closure h.equal t.0 u.0 t.1 u.1 in
+      Derives-transitive S P (Typ (term.Const c)) (Typ t.0) (Typ (term.Const d)) (Derives-symmetric S P (Typ t.0) (Typ (term.Const c)) left)
+      (Derives-transitive S P (Typ t.0) (Typ u.0) (Typ (term.Const d)) equal right)
 
   pub inconsistent_at : (c d : Con) → flat.clash ≡ Some (c, d) → IsInconsistentAt S P c d
   inconsistent_at c d clash =
@@ -114,9 +121,7 @@ module _ (S : Schema) (P : Presentation) (m : Content) (rows : List ℕ) (schema
       let equal : AreEqualConstants nodes equations c d = least.equal in
       record {
         greater = least.greater;
-        equal =
-            congruent_derives S P m rows schema presentation closed order names numbers places nodes equations types built flat closure equal.equal (term.Const c) (term.Const d)
-            (constant_term equal.left c equal.left_is) (constant_term equal.right d equal.right_is);
+        equal = constants_derive c d equal;
         least = λ b e less derived. least.least b e less (derived_constants b e less derived);
         least_greater = λ e less derived. least.next e less (derived_constants c e less derived);
       }

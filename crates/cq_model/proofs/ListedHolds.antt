@@ -1,5 +1,5 @@
 -- What is built without a clash is a model of the presentation, and its initial one.
-use Rattle.std.proofs.Common.{ℕ, List, Some, None, ◌≡◌, ◌<◌, map, length, get_or, refl, sym, ap, ◌∙◌, arith, slice_index_or}
+use Rattle.std.proofs.Common.{ℕ, List, ◌++◌, Some, None, ◌≡◌, ◌<◌, map, length, get_or, refl, sym, ap, ◌∙◌, arith, slice_index_or}
 use Rattle.std.specs.Prelude.{slice_get, slice_index, option_map}
 use Rattle.std.proofs.lemmas.List.{length-map}
 use Rattle.std.proofs.lemmas.List.FromFn.{length-enumerate_from}
@@ -12,7 +12,7 @@ use Rattle.cq_flat.specs.declared.node.Node.{Node}
 use Rattle.cq_flat.specs.Values.{Closure}
 use Rattle.cq_model.specs.declared.places.Places.{Places}
 use Rattle.cq_model.specs.Closed.{AreClosed}
-use Rattle.cq_model.specs.NodeTerms.{node_terms}
+use Rattle.cq_model.specs.NodeTerms.{leaf_terms}
 use Rattle.cq_model.specs.Built.{IsClosureOf, IsBuilt, tables_of, assignment_of, key_column, cell_column, standing}
 use Rattle.cq_theory.specs.declared.presentation.Presentation.{Presentation}
 use Rattle.cq_theory.specs.declared.presentation.Sort.{Sort}
@@ -46,7 +46,7 @@ module _ (S : Schema) (P : Presentation) (m : Content) (rows : List ℕ) (schema
   A = assignment_of S P m rows order numbers places flat.values
 
   abbrev T : List TypeTerm
-  T = node_terms S P names
+  T = leaf_terms S P names ++ built.made
 
   -- The model.
 

@@ -12,7 +12,7 @@ use Rattle.cq_flat.specs.Values.{Closure, value_at, entry_of}
 use Rattle.cq_model.specs.declared.places.Places.{Places}
 use Rattle.cq_model.specs.Closed.{AreClosed}
 use Rattle.cq_model.specs.LeastNames.{terms_at}
-use Rattle.cq_model.specs.NodeTerms.{side_terms, given_sides, leaf_terms, node_terms, EachStands, IsNodeAt}
+use Rattle.cq_model.specs.NodeTerms.{side_terms, given_sides, leaf_terms, IsConstantTerm, IsLeafOrConstant, EachStands, IsNodeAt}
 use Rattle.cq_model.specs.Built.{IsClosureOf, IsBuilt, tables_of, assignment_of}
 use Rattle.cq_theory.specs.declared.constant.Con.{Con}
 use Rattle.cq_theory.specs.declared.presentation.Presentation.{Presentation}
@@ -29,13 +29,14 @@ use Rattle.cq_theory.specs.declared.term.TypeTerm.TheOpen as layer
 use Rattle.cq_theory.specs.declared.term.TypeTerm.TheViews.{out-TypeTerm}
 use Rattle.cq_theory.specs.declared.term.Term.TheVariants.{Typ}
 use Rattle.cq_theory.specs.declared.value.Value.{Value}
+use Rattle.cq_theory.specs.declared.value.Value.TheVariants as value
 use Rattle.cq_theory.specs.Sorts.{followed, entity_of, type_at, is_type, have_types, type_of, type_step}
 use Rattle.cq_theory.specs.Derivation.{Derives}
 use Rattle.cq_theory.specs.Canonical.{below, edges_from}
 use Rattle.cq_theory.specs.Tables.{Tables, Assignment, count_of, cell_at, row_of, value_of, value_step, is_for, IsPlain}
 use Rattle.cq_theory.specs.Listed.{firsts, null_label, node_entry, names_of, cell_nodes, generator_node}
 use Rattle.cq_theory.specs.Listed.{nodes as listed_nodes}
-use Rattle.cq_theory.proofs.TypeTerms.{fold-Att, fold-Fun, on_terms}
+use Rattle.cq_theory.proofs.TypeTerms.{fold-Const, fold-Att, fold-Fun, on_terms}
 use Rattle.cq_theory.proofs.Sorted.{sort_of-derived}
 use Rattle.cq_theory.proofs.Sound.{followed_some, both, is_type_some, applied_type_some}
 use Rattle.cq_rows.proofs.Bridge.{map_some}
@@ -44,7 +45,8 @@ use Rattle.cq_model.proofs.Variants.{out-Att}
 use Rattle.cq_model.proofs.BuiltTerms.{out-Gen, out-Const, out-Fun, type_at_some}
 use Rattle.cq_model.proofs.BuiltEntries.{in_filter, in_filter_map}
 use Rattle.cq_model.proofs.Enumerated.{get-enumerate}
-use Rattle.cq_model.proofs.Thinning.{Thins, from_Thins, filter_map-Thins, firsts-Thins}
+use Rattle.cq_model.specs.Thins.{Thins}
+use Rattle.cq_model.proofs.Thinning.{from_Thins, filter_map-Thins, firsts-Thins}
 use Rattle.cq_model.proofs.NodeList.{pair_subterms, nodes_are, IsTyped, sides_thinned}
 use Rattle.cq_model.proofs.BuiltRows.{least_name, row_within}
 use Rattle.cq_model.proofs.BuiltValues.{given_derives, stands_value_of, node_value, node_values}
@@ -91,7 +93,7 @@ module _ (S : Schema) (P : Presentation) (m : Content) (rows : List ℕ) (schema
   A = assignment_of S P m rows order numbers places flat.values
 
   abbrev T : List TypeTerm
-  T = node_terms S P names
+  T = leaf_terms S P names ++ built.made
 
   abbrev leaves : List TypeTerm
   leaves = leaf_terms S P names
@@ -168,13 +170,17 @@ module _ (S : Schema) (P : Presentation) (m : Content) (rows : List ℕ) (schema
       let right = map_some Plain (type_of S P.generators u) sort.0 sort.2 in
       ((left.0, left.1), (right.0, right.1))
 
-  abbrev made : List TypeTerm
-  made = flat_map side_terms (given_sides S P names)
-
+  -- what is made of the equations, what of it has a node of its own, and all subterms
   abbrev all_made : List TypeTerm
-  all_made = flat_map pair_subterms (given_sides S P names)
+  all_made = flat_map side_terms (given_sides S P names)
 
-  thinned : Thins IsEarlier all_made made
+  abbrev made : List TypeTerm
+  made = built.made
+
+  abbrev all_parts : List TypeTerm
+  all_parts = flat_map pair_subterms (given_sides S P names)
+
+  thinned : Thins IsEarlier all_parts all_made
   thinned = sides_thinned S P IsEarlier generator_earlier cell_earlier (given_sides S P names) typed_side
 
   -- Each node means a constant or a null.
@@ -187,13 +193,23 @@ module _ (S : Schema) (P : Presentation) (m : Content) (rows : List ℕ) (schema
   earlier_plain : (t : TypeTerm) → IsEarlier t → IsPlain (value_of M A t)
   earlier_plain t e = subst IsPlain (sym e.same) (node_plain e.leaf (in_left e.leaf leaves made e.among))
 
-  member_plain : (n : ℕ) (t : TypeTerm) → slice_get (leaves ++ all_made) n ≡ Some t → IsPlain (value_of M A t)
-  member_plain n t found = in_append (IsPlain (value_of M A t)) leaves all_made n t found
+  -- a constant is its own value
+  constant_value : (c : Con) → value_of M A (term.Const c) ≡ value.Const c
+  constant_value c = fold-Const Value (value_step M A) c
+
+  constant_plain : (t : TypeTerm) → IsConstantTerm t → IsPlain (value_of M A t)
+  constant_plain t h = subst IsPlain (sym (ap (value_of M A) h.1 ∙ constant_value h.0)) tt
+
+  made_plain : (t : TypeTerm) → IsIn t all_made → IsPlain (value_of M A t)
+  made_plain t i = from_Thins IsConstantTerm (λ t. IsPlain (value_of M A t)) constant_plain built.thinned (λ u j. node_plain u (in_right u leaves made j)) i.place t i.is
+
+  member_plain : (n : ℕ) (t : TypeTerm) → slice_get (leaves ++ all_parts) n ≡ Some t → IsPlain (value_of M A t)
+  member_plain n t found = in_append (IsPlain (value_of M A t)) leaves all_parts n t found
       (λ (i : IsIn t leaves). node_plain t (in_left t leaves made i))
-      (λ (i : IsIn t all_made). from_Thins IsEarlier (λ t. IsPlain (value_of M A t)) earlier_plain thinned (λ u j. node_plain u (in_right u leaves made j)) i.place t i.is)
+      (λ (i : IsIn t all_parts). from_Thins IsEarlier (λ t. IsPlain (value_of M A t)) earlier_plain thinned made_plain i.place t i.is)
 
   pub all_plain : All (λ t. IsPlain (value_of M A t)) (listed_nodes S P names)
-  all_plain = subst (λ (l : List TypeTerm). All (λ t. IsPlain (value_of M A t)) l) (sym (nodes_are S P names)) (All_from (λ t. IsPlain (value_of M A t)) (leaves ++ all_made) member_plain)
+  all_plain = subst (λ (l : List TypeTerm). All (λ t. IsPlain (value_of M A t)) l) (sym (nodes_are S P names)) (All_from (λ t. IsPlain (value_of M A t)) (leaves ++ all_parts) member_plain)
 
   -- The nulls.
 
@@ -203,10 +219,19 @@ module _ (S : Schema) (P : Presentation) (m : Content) (rows : List ℕ) (schema
   earlier_label : (t : TypeTerm) → IsEarlier t → (z : TypeTerm) × IsIn z leaves × (label t ≡ label z)
   earlier_label t e = (e.leaf, e.among, ap null_label e.same)
 
+  no_constant_label : (t : TypeTerm) → IsConstantTerm t → label t ≡ None
+  no_constant_label t h = ap label h.1 ∙ ap null_label (constant_value h.0)
+
+  -- what a function tells of the leaves and of all that is made, where it tells nothing of constants
+  without_constants : {Y : Type 0} (f : TypeTerm → Option Y) → ((t : TypeTerm) → IsConstantTerm t → f t ≡ None) → filter_map f (leaves ++ all_made) ≡ filter_map f T
+  without_constants f none =
+      filter_map-append f leaves all_made ∙ ap (λ (l : List _). filter_map f leaves ++ l) (filter_map-Thins IsConstantTerm f none built.thinned) ∙ sym (filter_map-append f leaves made)
+
   pub nulls_listed : firsts nat_eq (filter_map label (listed_nodes S P names)) ≡ below (length M.algebra.nulls)
   nulls_listed =
       ap (λ (l : List TypeTerm). firsts nat_eq (filter_map label l)) (nodes_are S P names)
-      ∙ firsts-Thins IsEarlier label leaves earlier_label all_made made thinned
+      ∙ firsts-Thins IsEarlier label leaves earlier_label all_parts all_made thinned
+      ∙ ap (firsts nat_eq) (without_constants label no_constant_label)
       ∙ ap (firsts nat_eq) (filter_map-map null_label (value_of M A) T)
       ∙ ap (λ vs. firsts nat_eq (filter_map null_label vs)) values_are
       ∙ closure.labels.labels
@@ -231,17 +256,23 @@ module _ (S : Schema) (P : Presentation) (m : Content) (rows : List ℕ) (schema
   HasEntry t = (p type : ℕ) (content : Node) → type_of S P.generators t ≡ Some type → value_of M A t ≡ value_at flat.values p
       → IsNodeAt m rows places T p (out-TypeTerm t) content → node_entry S P M A t ≡ entry_of flat.values (p, content)
 
+  leaf_entry : (p : ℕ) (content : Node) → IsLeafOrConstant content → entry_of flat.values (p, content) ≡ None
+  leaf_entry p node.Leaf h = refl
+  leaf_entry p (node.Const c) h = refl
+  leaf_entry p (node.Fun f args) h = absurd h
+
+  no_constant_term_entry : (t : TypeTerm) → IsConstantTerm t → node_entry S P M A t ≡ None
+  no_constant_term_entry t h = ap (node_entry S P M A) h.1 ∙ no_constant_entry h.0
+
   has_entry : (t : TypeTerm) → HasEntry t
   has_entry = on_terms HasEntry
       (λ n p type content sort same is.
-      let leaf : content ≡ node.Leaf = subst (λ l. IsNodeAt m rows places T p l content) (out-Gen n) is in
-      no_generator_entry n ∙ ap (λ c. entry_of flat.values (p, c)) (sym leaf))
+      no_generator_entry n ∙ sym (leaf_entry p content (subst (λ l. IsNodeAt m rows places T p l content) (out-Gen n) is)))
       (λ c p type content sort same is.
       let constant : content ≡ node.Const c = subst (λ l. IsNodeAt m rows places T p l content) (out-Const c) is in
       no_constant_entry c ∙ ap (λ c. entry_of flat.values (p, c)) (sym constant))
       (λ a t p type content sort same is.
-      let leaf : content ≡ node.Leaf = subst (λ l. IsNodeAt m rows places T p l content) (out-Att a t) is in
-      no_cell_entry a t ∙ ap (λ c. entry_of flat.values (p, c)) (sym leaf))
+      no_cell_entry a t ∙ sym (leaf_entry p content (subst (λ l. IsNodeAt m rows places T p l content) (out-Att a t) is)))
       (λ f ts each p type content sort same is.
       let parts : IsNodeAt m rows places T p (layer.Fun f ts) content = subst (λ l. IsNodeAt m rows places T p l content) (out-Fun f ts) is in
       let f' = applied_type_some (slice_get S.typeside.functions f) (map (type_of S P.generators) ts) type (sym (fold-Fun (Option ℕ) (type_step S P.generators) f ts) ∙ sort) in
@@ -259,10 +290,11 @@ module _ (S : Schema) (P : Presentation) (m : Content) (rows : List ℕ) (schema
 
   pub entries_listed : firsts (λ e. is_for e.function e.args) (filter_map (node_entry S P M A) (listed_nodes S P names)) ≡ M.algebra.entries
   entries_listed =
-      let same_entries : filter_map (node_entry S P M A) (leaves ++ all_made) ≡ filter_map (node_entry S P M A) (leaves ++ made) =
-      filter_map-append (node_entry S P M A) leaves all_made
+      let same_entries : filter_map (node_entry S P M A) (leaves ++ all_parts) ≡ filter_map (node_entry S P M A) T =
+      filter_map-append (node_entry S P M A) leaves all_parts
       ∙ ap (λ l. filter_map (node_entry S P M A) leaves ++ l) (filter_map-Thins IsEarlier (node_entry S P M A) (λ t e. e.entry) thinned)
-      ∙ sym (filter_map-append (node_entry S P M A) leaves made) in
+      ∙ sym (filter_map-append (node_entry S P M A) leaves all_made)
+      ∙ without_constants (node_entry S P M A) no_constant_term_entry in
       ap (λ (l : List TypeTerm). firsts (λ e. is_for e.function e.args) (filter_map (node_entry S P M A) l)) (nodes_are S P names)
       ∙ ap (firsts (λ e. is_for e.function e.args)) (same_entries ∙ filter_map_beside (node_entry S P M A) (entry_of flat.values) 0 T nodes built.nodes_are.count node_entries)
       ∙ sym closure.entries

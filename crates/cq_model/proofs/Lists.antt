@@ -1,6 +1,6 @@
 -- Members of lists by their places, lists of consecutive numbers, and lists without repetition.
-use Rattle.std.proofs.Common.{ℕ, zero, suc, false, not, List, [], ◌∷◌, ◌++◌, Option, Some, None, ◌≡◌, ◌<◌, ◌+◌, ◌*◌, cond, map, filter, length, get_or, refl, sym, ap, subst, ◌∙◌, arith}
-use Rattle.std.specs.Prelude.{slice_get, nat_eq, All}
+use Rattle.std.proofs.Common.{ℕ, zero, suc, false, not, List, [], ◌∷◌, ◌++◌, Option, Some, None, ◌≡◌, ◌<◌, ◌+◌, ◌*◌, ◌⊎◌, inl, inr, cond, map, filter, length, get_or, refl, sym, ap, subst, ◌∙◌, arith}
+use Rattle.std.specs.Prelude.{slice_get, slice_set, nat_eq, All}
 use Rattle.std.specs.List.{range_with_len, flat_map, filter_map, cons_option}
 use Rattle.std.proofs.lemmas.Bool.{ne_eqb}
 use Rattle.std.proofs.lemmas.Option.{get_or_from_slice_get, slice_get-get_or, slice_get_within}
@@ -180,3 +180,33 @@ pub get-map_from : {X Y : Type 0} (f : X → Y) (xs : List X) (n : ℕ) (y : Y) 
 get-map_from f [] n y h = cc
 get-map_from f (x ∷ xs) zero y h = (x, refl, cc)
 get-map_from f (x ∷ xs) (suc n) y h = get-map_from f xs n y h
+
+-- a list in which one member is another one
+pub get-set : {X : Type 0} (xs : List X) (n : ℕ) (x y : X) → slice_get xs n ≡ Some x → slice_get (slice_set xs n y) n ≡ Some y
+get-set [] n x y h = cc
+get-set (z ∷ zs) zero x y h = refl
+get-set (z ∷ zs) (suc n) x y h = get-set zs n x y h
+
+pub size-set : {X : Type 0} (xs : List X) (n : ℕ) (y : X) → length (slice_set xs n y) ≡ length xs
+size-set [] n y = refl
+size-set (z ∷ zs) zero y = refl
+size-set (z ∷ zs) (suc n) y = ap suc (size-set zs n y)
+
+-- what stands in the changed list is the new member, or it stood there before
+pub from-set : {X : Type 0} (xs : List X) (n m : ℕ) (y z : X) → slice_get (slice_set xs n y) m ≡ Some z → ((n ≡ m) × (y ≡ z)) ⊎ (slice_get xs m ≡ Some z)
+from-set [] n m y z h = inr h
+from-set (x ∷ xs) zero zero y z h = let same : y ≡ z = cc in inl (refl, same)
+from-set (x ∷ xs) zero (suc m) y z h = inr h
+from-set (x ∷ xs) (suc n) zero y z h = inr h
+from-set (x ∷ xs) (suc n) (suc m) y z h = elim (from-set xs n m y z h) [
+  | inl e ↦ inl (ap suc e.0, e.1)
+  | inr e ↦ inr e
+]
+
+-- what differs from the member that was changed stays
+pub kept-set : {X : Type 0} (xs : List X) (n m : ℕ) (x y z : X) → slice_get xs n ≡ Some x → slice_get xs m ≡ Some z → (x ≡ z → ⊥) → slice_get (slice_set xs n y) m ≡ Some z
+kept-set [] n m x y z at h differ = cc
+kept-set (w ∷ ws) zero zero x y z at h differ = let same : x ≡ z = cc in absurd (differ same)
+kept-set (w ∷ ws) zero (suc m) x y z at h differ = h
+kept-set (w ∷ ws) (suc n) zero x y z at h differ = h
+kept-set (w ∷ ws) (suc n) (suc m) x y z at h differ = kept-set ws n m x y z at h differ

@@ -1,5 +1,5 @@
 -- What closing the nodes asks for, and what the parts that are read make.
-use Rattle.std.proofs.Common.{ℕ, List, None, ◌≡◌, ◌<◌, map, length, sym, subst, ◌∙◌, arith}
+use Rattle.std.proofs.Common.{ℕ, List, ◌++◌, None, ◌≡◌, ◌<◌, map, length, sym, subst, ◌∙◌, arith}
 use Rattle.std.proofs.lemmas.Option.{slice_get_within}
 use Rattle.cq_tables.specs.Content.{Content}
 use Rattle.cq_flat.specs.declared.node.Node.{Node}
@@ -13,7 +13,7 @@ use Rattle.cq_model.specs.BuiltParts.{instance_of}
 use Rattle.cq_model.specs.Closed.{AreClosed}
 use Rattle.cq_model.specs.InstanceData.{InstanceData, IsInstance}
 use Rattle.cq_model.specs.Listed.{IsListed}
-use Rattle.cq_model.specs.NodeTerms.{node_terms, given_sides}
+use Rattle.cq_model.specs.NodeTerms.{leaf_terms}
 use Rattle.cq_model.specs.Standing.{meaning}
 use Rattle.cq_model.proofs.BuiltListed as built_says
 use Rattle.cq_model.proofs.BuiltNodes.{at_place, function_node}
@@ -28,6 +28,7 @@ use Rattle.cq_theory.specs.Presentation.{IsPresentation}
 use Rattle.cq_theory.specs.Closing.{IsInconsistent}
 use Rattle.cq_theory.specs.declared.term.EntTerm.{EntTerm}
 use Rattle.cq_theory.specs.declared.term.Term.TheVariants.{Typ}
+use Rattle.cq_theory.specs.declared.term.TypeTerm.{TypeTerm}
 use Rattle.cq_theory.specs.declared.term.TypeTerm.TheVariants as term
 use Rattle.cq_theory.specs.declared.value.Value.{Value}
 use Rattle.cq_theory.specs.declared.value.Value.TheVariants as value
@@ -41,18 +42,16 @@ module _ (S : Schema) (P : Presentation) (m : Content) (rows : List ℕ)
   -- the arguments of a node are earlier nodes
   pub earlier_arguments : HasEarlierArguments nodes
   earlier_arguments p f args h =
-      let count : length nodes ≡ length (node_terms S P names) = built.nodes_are.count in
-      let t = at_place (node_terms S P names) p (omega (arith, slice_get_within nodes p (node.Fun f args) h, count)) in
-      (function_node m rows places (node_terms S P names) p f args t.0 (built.nodes_are.each p t.0 (node.Fun f args) t.1 h)).3
+      let terms : List TypeTerm = leaf_terms S P names ++ built.made in
+      let count : length nodes ≡ length terms = built.nodes_are.count in
+      let t = at_place terms p (omega (arith, slice_get_within nodes p (node.Fun f args) h, count)) in
+      (function_node m rows places terms p f args t.0 (built.nodes_are.each p t.0 (node.Fun f args) t.1 h)).3
 
   -- the sides of equations are nodes
   pub sides_within : AreSides nodes equations
   sides_within = All_from (λ (e : ℕ × ℕ). (e.0 < length nodes) × (e.1 < length nodes)) equations (λ i e h.
-      let count : length equations ≡ length (given_sides S P names) = built.sides.count in
-      let size : length nodes ≡ length (node_terms S P names) = built.nodes_are.count in
-      let side = at_place (given_sides S P names) i (omega (arith, slice_get_within equations i e h, count)) in
-      let each = built.sides.each i e.0 e.1 side.0.0 side.0.1 side.1 h in
-      (omega (arith, each.2, size), omega (arith, each.3, size)))
+      let g = built.sides.given i e.0 e.1 h in
+      (omega (arith, g.stand.left_within, built.nodes_are.count), omega (arith, g.stand.right_within, built.nodes_are.count)))
 
   module _ (schema : IsSchema S) (presentation : IsPresentation S P) (closed : AreClosed S P m rows) (flat : Closure) (closure : IsClosureOf nodes equations flat) (consistent : flat.clash ≡ None)
       (parts : ModelParts) (tables : record { sheet = parts.sheet; algebra = parts.algebra } ≡ tables_of S P m rows order numbers places types flat)

@@ -6,6 +6,7 @@ use Rattle.std.proofs.lemmas.List.{length-map}
 use Rattle.std.proofs.lemmas.List.FromFn.{get_or-map-range_with_len, length-map-range_with_len}
 use Rattle.std.proofs.lemmas.Option.{slice_get_within}
 use Rattle.cq_tables.specs.Content.{Content, made_of}
+use Rattle.cq_flat.specs.declared.node.Node.{Node}
 use Rattle.cq_flat.specs.declared.node.Node.TheVariants as node
 use Rattle.cq_theory.specs.declared.presentation.Presentation.{Presentation}
 use Rattle.cq_theory.specs.declared.presentation.Sort.TheVariants.{Plain, Entity}
@@ -34,7 +35,7 @@ use Rattle.cq_model.proofs.BuiltTerms.{type_at_some}
 use Rattle.cq_model.proofs.Counted.{members_within, starts_fit}
 use Rattle.cq_model.proofs.Lists.{All_at, All_from, get-map_from}
 use Rattle.cq_model.proofs.NumberedRows.{walk_live, walk_once}
-use Rattle.cq_model.proofs.PlacedLeaves.{leaf_places, leaves_listed, have_places}
+use Rattle.cq_model.proofs.PlacedLeaves.{leaf_places, node_is_leaf, leaves_listed, have_places}
 use Rattle.cq_model.proofs.RowMembers.{members_in}
 
 -- the attributes of each entity
@@ -145,16 +146,21 @@ module _ (S : Schema) (P : Presentation) (m : Content) (entries : List ℕ) (sch
       leaf = λ g type h. omega (arith, slice_get_within T (slice_index places.generators g) (Gen g) (placed.generator g type h), listed.nodes.count);
     }
 
-    no_sides : (terms : List TypeTerm) (equations : List (ℕ × ℕ)) → equations ≡ [] → AreSidesOf m entries places terms [] equations
-    no_sides terms equations none = record {
-      count = ap length none;
-      each = λ i a b t u h g. let no : slice_get [] i ≡ Some (t, u) = h in cc;
+    no_sides : (terms : List TypeTerm) (nodes : List Node) (equations : List (ℕ × ℕ)) → equations ≡ [] → ((p : ℕ) (content : Node) → slice_get nodes p ≡ Some content → content ≡ node.Leaf)
+        → AreSidesOf m entries places terms [] nodes equations
+    no_sides terms nodes equations none leaves = record {
+      met = λ i t u h. let no : slice_get [] i ≡ Some (t, u) = h in cc;
+      given = λ i a b h. let no : slice_get [] i ≡ Some (a, b) = ap (λ (l : List (ℕ × ℕ)). slice_get l i) (sym none) ∙ h in cc;
+      taken = λ p t c h node_at. let no : node.Const c ≡ node.Leaf = leaves p (node.Const c) node_at in cc;
     }
+
+    all_leaves : (p : ℕ) (content : Node) → slice_get list.nodes p ≡ Some content → content ≡ node.Leaf
+    all_leaves = node_is_leaf S P m entries schema closed numbered.rows named.names named.walk places list firsts firsts_count ranks generators_are nodes_are types_of
 
     pub leaves_made : AreLeaves S P m entries numbered.names places list
     leaves_made = subst (λ (names : List (List EntTerm)). AreLeaves S P m entries names places list) (sym named.numbers.names_are) (record {
       have = have;
       presented = presented;
       places_are = placed;
-      listed = record { listed = listed; equations = no_sides T list.equations no_equations };
+      listed = record { listed = listed; equations = no_sides T list.nodes list.equations no_equations all_leaves };
     })

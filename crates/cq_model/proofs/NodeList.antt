@@ -19,7 +19,8 @@ use Rattle.cq_theory.specs.Listed.{subterms, subterms_step, names_of, equation_n
 use Rattle.cq_theory.proofs.TypeTerms.{fold-Gen, fold-Fun, para-Gen, para-Const, para-Att, para-Fun, Each, on_terms}
 use Rattle.cq_theory.proofs.Sound.{both, is_type_some, applied_type_some}
 use Rattle.cq_model.specs.NodeTerms.{made_terms, made_step, side_terms, equation_sides, row_sides, entity_sides, given_sides, leaf_terms}
-use Rattle.cq_model.proofs.Thinning.{Thins, ended, kept, skipped, Thins-append, Thins-moved}
+use Rattle.cq_model.specs.Thins.{Thins, ended, kept, skipped}
+use Rattle.cq_model.proofs.Thinning.{Thins-append, Thins-moved}
 
 abbrev pub pair_subterms : TypeTerm × TypeTerm → List TypeTerm
 pair_subterms sides = subterms sides.0 ++ subterms sides.1

@@ -30,7 +30,7 @@ use Rattle.cq_model.specs.RowNumbers.{name_in, row_entities, names_by}
 use Rattle.cq_model.specs.LeafPlaces.{sources, targets, AreFirsts, plain_type, places_from}
 use Rattle.cq_model.specs.Walking.{IsWalkOf}
 use Rattle.cq_model.specs.NodeListData.{NodeListData}
-use Rattle.cq_model.specs.NodeTerms.{leaf_terms, cell_place, StandsAt, StandsFor, IsNodeAt, ArePlaces}
+use Rattle.cq_model.specs.NodeTerms.{leaf_terms, cell_place, StandsAt, StandsFor, IsLeafOrConstant, IsNodeAt, ArePlaces}
 use Rattle.cq_model.specs.Pushing.{HavePlaces, AreTermsOf}
 use Rattle.cq_model.proofs.Lists.{get-map, get-append, get-append_front, get-map_from}
 use Rattle.cq_model.proofs.Variants.{out-Att}
@@ -201,7 +201,7 @@ module _ (S : Schema) (P : Presentation) (m : Content) (entries : List ℕ) (sch
       own = λ p t h. elim (at_place p t h) [ inl c ↦ stands_cell p t c | inr g ↦ stands_generator p g.0 t g.1 g.2 ];
     }
 
-    node_is_leaf : (p : ℕ) (content : Node) → slice_get list.nodes p ≡ Some content → content ≡ node.Leaf
+    pub node_is_leaf : (p : ℕ) (content : Node) → slice_get list.nodes p ≡ Some content → content ≡ node.Leaf
     node_is_leaf p content h = elim (split_at (map (λ (_ : ℕ). node.Leaf) leaf_types) (map (λ (_ : ℕ). node.Leaf) (filter_map plain_type P.generators)) p content (ap (λ (l : List Node). slice_get l p) (sym nodes_are) ∙ h)) [
       | inl a ↦ same_leaf leaf_types p content a
       | inr b ↦ same_leaf (filter_map plain_type P.generators) b.0 content b.2
@@ -209,8 +209,8 @@ module _ (S : Schema) (P : Presentation) (m : Content) (entries : List ℕ) (sch
 
     leaf_node : (p : ℕ) (t : TypeTerm) (content : Node) → slice_get T p ≡ Some t → content ≡ node.Leaf → IsNodeAt m entries places T p (out-TypeTerm t) content
     leaf_node p t content h leaf = elim (at_place p t h) [
-      | inl c ↦ subst (λ (x : layer.TypeTerm-F TypeTerm). IsNodeAt m entries places T p x content) (sym (ap out-TypeTerm c.is ∙ out-Att c.attribute c.name)) leaf
-      | inr g ↦ subst (λ (x : layer.TypeTerm-F TypeTerm). IsNodeAt m entries places T p x content) (sym (ap out-TypeTerm g.2.is ∙ out-Gen (0 + g.2.number))) leaf
+      | inl c ↦ subst (λ (x : layer.TypeTerm-F TypeTerm). IsNodeAt m entries places T p x content) (sym (ap out-TypeTerm c.is ∙ out-Att c.attribute c.name)) (subst IsLeafOrConstant (sym leaf) tt)
+      | inr g ↦ subst (λ (x : layer.TypeTerm-F TypeTerm). IsNodeAt m entries places T p x content) (sym (ap out-TypeTerm g.2.is ∙ out-Gen (0 + g.2.number))) (subst IsLeafOrConstant (sym leaf) tt)
     ]
 
     type_at_place : (p type : ℕ) (t : TypeTerm) → slice_get T p ≡ Some t → slice_get list.types p ≡ Some type → type_of S P.generators t ≡ Some type

@@ -12,8 +12,8 @@ use Rattle.cq_flat.specs.declared.node.Node.{Node}
 use Rattle.cq_flat.specs.declared.node.Node.TheVariants as node
 use Rattle.cq_model.specs.declared.places.Places.{Places}
 use Rattle.cq_model.specs.NodeListData.{NodeListData}
-use Rattle.cq_model.specs.NodeTerms.{made_terms, made_step, side_terms, cell_place, StandsAt, StandsFor, EachStands, IsNodeAt, AreNodes, AreSidesOf, AreTypes}
-use Rattle.cq_model.specs.Pushing.{HavePlaces, AreReadable, IsReadable, IsPlacing, AreTermsOf, AreEquationsOf, IsPushed, IsEquated}
+use Rattle.cq_model.specs.NodeTerms.{made_terms, made_step, cell_place, StandsAt, StandsFor, EachStands, IsNodeAt, AreNodes, AreTypes}
+use Rattle.cq_model.specs.Pushing.{HavePlaces, AreReadable, IsReadable, IsPlacing, AreTermsOf, IsPushed}
 use Rattle.cq_theory.specs.declared.constant.Con.{Con}
 use Rattle.cq_theory.specs.declared.presentation.Presentation.{Presentation}
 use Rattle.cq_theory.specs.SchemaData.{SchemaData as Schema}
@@ -54,7 +54,7 @@ made-Fun f ts =
     ∙ (λ i. flat_map-map (λ (arg : TypeTerm × List TypeTerm). arg.1) (λ t. (t, made_terms t)) ts i ++ term.Fun f (same_terms ts i) ∷ [])
 
 -- one more at the end
-one_more : {X : Type 0} (xs : List X) (x : X) (i : ℕ) (y : X) → slice_get (xs ++ x ∷ []) i ≡ Some y → (slice_get xs i ≡ Some y) ⊎ ((i ≡ length xs) × (y ≡ x))
+pub one_more : {X : Type 0} (xs : List X) (x : X) (i : ℕ) (y : X) → slice_get (xs ++ x ∷ []) i ≡ Some y → (slice_get xs i ≡ Some y) ⊎ ((i ≡ length xs) × (y ≡ x))
 one_more [] x zero y h = inr (refl, sym (same_Some x y h))
 one_more [] x (suc i) y h = inl h
 one_more (z ∷ zs) x zero y h = inl h
@@ -160,6 +160,7 @@ module _ (S : Schema) (m : Content) (places : Places) where
   pushed_gen rows list n place is h = record {
     equations = refl;
     grows = omega arith;
+    kept = λ p content at. at;
     within =
         (let sort : type_at (slice_get h.generators n) ≡ Some h.type = sym (fold-Gen (Option ℕ) (type_step S h.generators) n) ∙ h.sort in
         let leaf = h.readable.leaf n h.type sort in
@@ -175,6 +176,7 @@ module _ (S : Schema) (m : Content) (places : Places) where
   pushed_cell rows list a r place t leads is within sorted = record {
     equations = refl;
     grows = omega arith;
+    kept = λ p content at. at;
     within = within;
     listed = λ P entries G placed named terms type placing sort terms_are.
         subst (λ (u : TypeTerm). AreTermsOf S m places P entries (terms ++ made_terms u) list × StandsFor m entries places (terms ++ made_terms u) u place) (sym (placing.attribute a t))
@@ -183,7 +185,7 @@ module _ (S : Schema) (m : Content) (places : Places) where
         (r, (let e = sorted G type sort in placing.row t e.0 e.1) ∙ leads, is)));
   }
 
-  last_term : (terms : List TypeTerm) (t : TypeTerm) → slice_get (terms ++ t ∷ []) (length terms) ≡ Some t
+  pub last_term : (terms : List TypeTerm) (t : TypeTerm) → slice_get (terms ++ t ∷ []) (length terms) ≡ Some t
   last_term [] t = refl
   last_term (u ∷ us) t = last_term us t
 
@@ -193,6 +195,7 @@ module _ (S : Schema) (m : Content) (places : Places) where
   pushed_const rows old new c kind place place_is added kinds = record {
     equations = ap (λ (l : NodeListData). l.equations) added;
     grows = omega (arith, ap (λ (l : NodeListData). length l.nodes) added, length-append old.nodes (node.Const c ∷ []));
+    kept = λ p content at. ap (λ (l : NodeListData). slice_get l.nodes p) added ∙ get-append_front old.nodes (node.Const c ∷ []) p content at;
     within = omega (arith, ap (λ (l : NodeListData). length l.nodes) added, length-append old.nodes (node.Const c ∷ []), place_is);
     listed = λ P entries G placed named terms type placing sort terms_are.
         subst (λ (u : TypeTerm). AreTermsOf S m places P entries (terms ++ made_terms u) new × StandsFor m entries places (terms ++ made_terms u) u place) (sym (placing.constant c))
@@ -209,6 +212,7 @@ module _ (S : Schema) (m : Content) (places : Places) where
   pub record ArePushed (rows : List ℕ) (old new : NodeListData) (ts : List TypeTerm) (found : List ℕ) : Type 0 where
     pub equations : new.equations ≡ old.equations
     pub grows : length old.nodes ≤ length new.nodes
+    pub kept : (p : ℕ) (content : Node) → slice_get old.nodes p ≡ Some content → slice_get new.nodes p ≡ Some content
     pub within : All (λ p. p < length new.nodes) found
     pub listed : (P : Presentation) (entries : List ℕ) (G : Generators) (placed : TypeTerm → TypeTerm) (named : EntTerm → EntTerm) (terms : List TypeTerm)
         → IsPlacing S m places P entries G rows placed named → ((i : ℕ) (t : TypeTerm) → slice_get ts i ≡ Some t → (type : ℕ) × (type_of S G t ≡ Some type)) → AreTermsOf S m places P entries terms old
@@ -218,6 +222,7 @@ module _ (S : Schema) (m : Content) (places : Places) where
   pushed_none rows list = record {
     equations = refl;
     grows = omega arith;
+    kept = λ p content at. at;
     within = λ i d h. absurd (omega arith);
     listed = λ P entries G placed named terms placing sorts terms_are.
         (subst (λ (l : List TypeTerm). AreTermsOf S m places P entries l list) (sym (append-nil terms)) terms_are, tt);
@@ -228,6 +233,7 @@ module _ (S : Schema) (m : Content) (places : Places) where
   pushed_more rows old mid new ts found t place before h = record {
     equations = h.equations ∙ before.equations;
     grows = omega (arith, h.grows, before.grows);
+    kept = λ p content at. h.kept p content (before.kept p content at);
     within = all_snoc found place (length new.nodes) (λ k d less. omega (arith, before.within k d less, h.grows)) h.within;
     listed = λ P entries G placed named terms placing sorts terms_are.
         let first = before.listed P entries G placed named terms placing (λ i u at. sorts i u (get-append_front ts (t ∷ []) i u at)) terms_are in
@@ -259,6 +265,7 @@ module _ (S : Schema) (m : Content) (places : Places) where
   pushed_fun rows old mid new f kind place ts found before place_is added kinds = record {
     equations = ap (λ (l : NodeListData). l.equations) added ∙ before.equations;
     grows = omega (arith, ap (λ (l : NodeListData). length l.nodes) added, length-append mid.nodes (node.Fun f found ∷ []), before.grows);
+    kept = λ p content at. ap (λ (l : NodeListData). slice_get l.nodes p) added ∙ get-append_front mid.nodes (node.Fun f found ∷ []) p content (before.kept p content at);
     within = omega (arith, ap (λ (l : NodeListData). length l.nodes) added, length-append mid.nodes (node.Fun f found ∷ []), place_is);
     listed = λ P entries G placed named terms type placing sort terms_are.
         let us : List TypeTerm = map placed ts in
@@ -278,51 +285,3 @@ module _ (S : Schema) (m : Content) (places : Places) where
         subst (λ (u : TypeTerm). AreTermsOf S m places P entries (terms ++ made_terms u) new × StandsFor m entries places (terms ++ made_terms u) u place) (sym (placing.function f ts))
         (subst (λ (l : List TypeTerm). AreTermsOf S m places P entries l new × StandsFor m entries places l t place) whole (made, stands));
   }
-
-  -- both sides of an equation
-  pub equated : (rows : List ℕ) (old mid far new : NodeListData) (t u : TypeTerm) (a b : ℕ) → IsPushed S m places rows old mid t a → IsPushed S m places rows mid far u b
-      → new ≡ record { nodes = far.nodes; types = far.types; equations = far.equations ++ (a, b) ∷ [] } → IsEquated S m places rows old new t u
-  equated rows old mid far new t u a b first second added = record {
-    grows = omega (arith, ap (λ (l : NodeListData). length l.nodes) added, first.grows, second.grows);
-    listed = λ P entries G placed named terms sides type placing left right before.
-        let one = first.listed P entries G placed named terms type placing left before.listed in
-        let two = second.listed P entries G placed named (terms ++ made_terms (placed t)) type placing right one.0 in
-        let all : List TypeTerm = (terms ++ made_terms (placed t)) ++ made_terms (placed u) in
-        let whole : all ≡ terms ++ side_terms (placed t, placed u) = append_assoc terms (made_terms (placed t)) (made_terms (placed u)) in
-        let listed : AreTermsOf S m places P entries all new = record {
-          nodes = subst (λ (l : List Node). AreNodes m entries places all l) (sym (ap (λ (l : NodeListData). l.nodes) added)) two.0.nodes;
-          types = subst (λ (l : List ℕ). AreTypes m entries places all S P l) (sym (ap (λ (l : NodeListData). l.types) added)) two.0.types;
-        } in
-        let stand_left : StandsFor m entries places all (placed t) a = StandsFor-more m entries places (terms ++ made_terms (placed t)) (made_terms (placed u)) (placed t) a one.1 in
-        let count : length far.nodes ≡ length all = two.0.nodes.count in
-        let equations : AreSidesOf m entries places all (sides ++ (placed t, placed u) ∷ []) new.equations =
-        sides_more P entries terms sides placed all (far.equations) new.equations
-        (λ x p h. StandsFor-more m entries places (terms ++ made_terms (placed t)) (made_terms (placed u)) x p (StandsFor-more m entries places terms (made_terms (placed t)) x p h))
-        (omega (arith, length-append terms (made_terms (placed t)), length-append (terms ++ made_terms (placed t)) (made_terms (placed u))))
-        (ap (λ (l : NodeListData). l.equations) added) (second.equations ∙ first.equations) before.equations stand_left two.1 (omega (arith, first.within, second.grows, count)) (omega (arith, second.within, count)) in
-        subst (λ (l : List TypeTerm). AreEquationsOf S m places P entries l (sides ++ (placed t, placed u) ∷ []) new) whole (record { listed = listed; equations = equations });
-  }
-    where
-      sides_more : (P : Presentation) (entries : List ℕ) (terms : List TypeTerm) (sides : List (TypeTerm × TypeTerm)) (placed : TypeTerm → TypeTerm) (all : List TypeTerm) (mid' new' : List (ℕ × ℕ))
-          → ((x : TypeTerm) (p : ℕ) → StandsFor m entries places terms x p → StandsFor m entries places all x p) → length terms ≤ length all
-          → new' ≡ mid' ++ (a, b) ∷ [] → mid' ≡ old.equations → AreSidesOf m entries places terms sides old.equations
-          → StandsFor m entries places all (placed t) a → StandsFor m entries places all (placed u) b → a < length all → b < length all
-          → AreSidesOf m entries places all (sides ++ (placed t, placed u) ∷ []) new'
-      sides_more P entries terms sides placed all mid' new' wider long is same before left right a_within b_within = record {
-        count = ap length is ∙ length-append mid' ((a, b) ∷ []) ∙ ap (λ n. n + 1) size ∙ sym (length-append sides ((placed t, placed u) ∷ []));
-        each = λ i a' b' t' u' h g. go i a' b' t' u' (one_more sides (placed t, placed u) i (t', u') h) (one_more mid' (a, b) i (a', b') (ap (λ (l : List (ℕ × ℕ)). slice_get l i) (sym is) ∙ g));
-      }
-        where
-          size : length mid' ≡ length sides
-          size = ap length same ∙ before.count
-
-          go : (i a' b' : ℕ) (t' u' : TypeTerm) → (slice_get sides i ≡ Some (t', u')) ⊎ ((i ≡ length sides) × (◌≡◌ {A = TypeTerm × TypeTerm} (t', u') (placed t, placed u))) → (slice_get mid' i ≡ Some (a', b')) ⊎ ((i ≡ length mid') × (◌≡◌ {A = ℕ × ℕ} (a', b') (a, b)))
-              → StandsFor m entries places all t' a' × StandsFor m entries places all u' b' × (a' < length all) × (b' < length all)
-          go i a' b' t' u' (inl x) (inl y) =
-              let each = before.each i a' b' t' u' x (ap (λ (l : List (ℕ × ℕ)). slice_get l i) (sym same) ∙ y) in
-              (wider t' a' each.0, wider u' b' each.1, omega (arith, each.2, long), omega (arith, each.3, long))
-          go i a' b' t' u' (inl x) (inr y) = absurd (omega (arith, slice_get_within sides i (t', u') x, y.0, size))
-          go i a' b' t' u' (inr x) (inl y) = absurd (omega (arith, slice_get_within mid' i (a', b') y, x.0, size))
-          go i a' b' t' u' (inr x) (inr y) =
-              subst (λ (z : (TypeTerm × TypeTerm) × (ℕ × ℕ)). StandsFor m entries places all z.0.0 z.1.0 × StandsFor m entries places all z.0.1 z.1.1 × (z.1.0 < length all) × (z.1.1 < length all))
-              (λ j. (sym x.1 j, sym y.1 j)) (left, right, a_within, b_within)

@@ -6,16 +6,23 @@ use borrow.Author.Tests.{eqb-true}
 use Rattle.std.proofs.lemmas.Bool.{cases_Bool}
 use Rattle.std.proofs.lemmas.List.Elements.{filter_map-append}
 use Rattle.cq_theory.specs.Listed.{firsts}
+use Rattle.cq_model.specs.Thins.{Thins, ended, kept, skipped}
 use Rattle.cq_model.proofs.Lists.{IsIn}
 use Rattle.cq_model.proofs.BuiltEntries.{in_filter_map}
 
--- ys has the members of xs in order, but for some that may be left out
-pub data Thins {X : Type 0} (Skips : X → Type 0) : List X → List X → Type 0 where
-  ended : Thins Skips [] []
-  kept : {xs ys : List X} (x : X) → Thins Skips xs ys → Thins Skips (x ∷ xs) (x ∷ ys)
-  skipped : {xs ys : List X} (x : X) → Skips x → Thins Skips xs ys → Thins Skips (x ∷ xs) ys
-
 module _ {X : Type 0} (Skips : X → Type 0) where
+  -- none is left out
+  pub Thins-all : (xs : List X) → Thins Skips xs xs
+  Thins-all [] = ended
+  Thins-all (x ∷ xs) = kept x (Thins-all xs)
+
+  -- what is kept is a member
+  pub in_thinned : {xs ys : List X} → Thins Skips xs ys → (n : ℕ) (y : X) → slice_get ys n ≡ Some y → IsIn y xs
+  in_thinned ended n y h = let none : slice_get [] n ≡ Some y = h in cc
+  in_thinned (kept x s) zero y h = record { place = 0; is = h }
+  in_thinned (kept x s) (suc n) y h = let i = in_thinned s n y h in record { place = suc i.place; is = i.is }
+  in_thinned (skipped x d s) n y h = let i = in_thinned s n y h in record { place = suc i.place; is = i.is }
+
   pub Thins-append : {xs ys zs ws : List X} → Thins Skips xs ys → Thins Skips zs ws → Thins Skips (xs ++ zs) (ys ++ ws)
   Thins-append ended t = t
   Thins-append (kept x s) t = kept x (Thins-append s t)

@@ -1,19 +1,21 @@
 -- What is built of closed rows and closed nodes.
-use Rattle.std.specs.Prelude.{ℕ, List, Option, Some, None, ◌≡◌, map, length, slice_index}
-use Rattle.std.specs.List.{enumerate_from}
+use Rattle.std.specs.Prelude.{ℕ, List, Option, Some, None, ◌≡◌, ◌++◌, map, length, slice_index}
+use Rattle.std.specs.List.{enumerate_from, flat_map}
 use Rattle.cq_base.specs.declared.name.Name.{Name}
 use Rattle.cq_tables.specs.Content.{Content, cell_of}
 use Rattle.cq_flat.specs.declared.node.Node.{Node}
 use Rattle.cq_flat.specs.Values.{Closure, AreValues, AreLabels, entries_of, IsClash, value_at}
 use Rattle.cq_model.specs.declared.places.Places.{Places}
 use Rattle.cq_model.specs.LeastNames.{rows_at, AreNumbered}
-use Rattle.cq_model.specs.NodeTerms.{given_sides, node_terms, cell_place, AreNodes, AreSidesOf, ArePlaces, AreTypes}
+use Rattle.cq_model.specs.NodeTerms.{given_sides, leaf_terms, side_terms, cell_place, IsConstantTerm, AreNodes, AreSidesOf, ArePlaces, AreTypes}
+use Rattle.cq_model.specs.Thins.{Thins}
 use Rattle.cq_theory.specs.declared.presentation.Presentation.{Presentation}
 use Rattle.cq_theory.specs.declared.presentation.Sort.{Sort}
 use Rattle.cq_theory.specs.declared.presentation.Sort.TheVariants.{Plain, Entity}
 use Rattle.cq_theory.specs.declared.schema.Edge.{Edge}
 use Rattle.cq_theory.specs.SchemaData.{SchemaData as Schema}
 use Rattle.cq_theory.specs.declared.term.EntTerm.{EntTerm}
+use Rattle.cq_theory.specs.declared.term.TypeTerm.{TypeTerm}
 use Rattle.cq_theory.specs.declared.value.Value.{Value}
 use Rattle.cq_theory.specs.declared.value.Sheet.{Sheet}
 use Rattle.cq_theory.specs.Tables.{Tables, Meaning, AtRow, AtValue, Assignment}
@@ -31,14 +33,17 @@ number_in numbers None = 0
 number_in numbers (Some r) = slice_index numbers r
 
 module _ (S : Schema) (P : Presentation) (m : Content) (rows : List ℕ) where
-  -- the rows in order with their names, and the nodes with their equations, types and places
+  -- the rows in order with their names, and the nodes with their equations, types and places: the leaves, and then what the given
+  -- equations are made of, but for constants that have taken the nodes of leaves
   pub record IsBuilt (order : List (List ℕ)) (names : List (List EntTerm)) (numbers : List ℕ) (places : Places) (nodes : List Node)
       (equations : List (ℕ × ℕ)) (types : List ℕ) : Type 0 where
     pub numbered : AreNumbered S P m rows order names numbers
-    pub places_are : ArePlaces m rows places (node_terms S P names) S P
-    pub nodes_are : AreNodes m rows places (node_terms S P names) nodes
-    pub sides : AreSidesOf m rows places (node_terms S P names) (given_sides S P names) equations
-    pub types_are : AreTypes m rows places (node_terms S P names) S P types
+    pub made : List TypeTerm
+    pub thinned : Thins IsConstantTerm (flat_map side_terms (given_sides S P names)) made
+    pub places_are : ArePlaces m rows places (leaf_terms S P names ++ made) S P
+    pub nodes_are : AreNodes m rows places (leaf_terms S P names ++ made) nodes
+    pub sides : AreSidesOf m rows places (leaf_terms S P names ++ made) (given_sides S P names) nodes equations
+    pub types_are : AreTypes m rows places (leaf_terms S P names ++ made) S P types
 
   module _ (order : List (List ℕ)) (numbers : List ℕ) where
     -- a foreign key's column: the numbers of the rows that its cells hold

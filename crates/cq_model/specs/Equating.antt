@@ -6,7 +6,7 @@ use Rattle.cq_rows.specs.Rows.{row_of_term}
 use Rattle.cq_model.specs.declared.places.Places.{Places}
 use Rattle.cq_model.specs.NodeListData.{NodeListData}
 use Rattle.cq_model.specs.NodeTerms.{side_terms}
-use Rattle.cq_model.specs.Pushing.{AreReadable, AreEquationsOf}
+use Rattle.cq_model.specs.Pushing.{AreReadable, AreEquationsOf, HasMore}
 use Rattle.cq_theory.specs.declared.presentation.Presentation.{Presentation}
 use Rattle.cq_theory.specs.declared.schema.ObsEq.{ObsEq}
 use Rattle.cq_theory.specs.SchemaData.{SchemaData as Schema}
@@ -27,8 +27,7 @@ module _ (S : Schema) (m : Content) (places : Places) where
   -- these sides are added, whatever there was before
   abbrev pub AddsSides : Presentation → List ℕ → List (TypeTerm × TypeTerm) → NodeListData → NodeListData → Type 0
   AddsSides P entries more old new = (terms : List TypeTerm) (sides : List (TypeTerm × TypeTerm))
-      → AreEquationsOf S m places P entries terms sides old → AreEquationsOf S m places P entries (terms ++ flat_map side_terms more)
-      (sides ++ more) new
+      → AreEquationsOf S m places P entries terms sides old → HasMore S m places P entries terms (flat_map side_terms more) (sides ++ more) new
 
   -- a term over the presentation that leads to the row
   pub record IsNameOf (P : Presentation) (entries : List ℕ) (entity row : ℕ) (t : EntTerm) : Type 0 where

@@ -3,6 +3,7 @@ pub mod Listed
 pub mod Numbering
 pub mod Closed
 pub mod LeastNames
+pub mod Thins
 pub mod NodeTerms
 pub mod Built
 pub mod Walking

@@ -1,5 +1,6 @@
 -- The terms whose equality is decided, and the nodes that stand for them.
-use Rattle.std.specs.Prelude.{ℕ, List, [], ◌∷◌, ◌++◌, ◌+◌, ◌<◌, ◌==◌, ◌≡◌, map, filter, length, Some, true, slice_get, slice_index, All}
+use Rattle.std.specs.Prelude.{ℕ, List, [], ◌∷◌, ◌++◌, ◌+◌, ◌<◌, ◌==◌, ◌≡◌, ◌⊎◌, map, filter, length, Some, true, slice_get, slice_index}
+use Rattle.std.specs.Prelude.{All}
 use Rattle.std.specs.List.{flat_map, enumerate_from, filter_map}
 use Rattle.cq_tables.specs.Content.{Content, live_of}
 use Rattle.cq_tables.specs.Content.{entity_of as row_entity}
@@ -7,6 +8,7 @@ use Rattle.cq_rows.specs.Rows.{row_of_term}
 use Rattle.cq_flat.specs.declared.node.Node.{Node}
 use Rattle.cq_flat.specs.declared.node.Node.TheVariants as node
 use Rattle.cq_model.specs.declared.places.Places.{Places}
+use Rattle.cq_theory.specs.declared.constant.Con.{Con}
 use Rattle.cq_theory.specs.declared.presentation.Equation.{Equation}
 use Rattle.cq_theory.specs.declared.presentation.Equation.TheVariants.{Ent, Typ}
 use Rattle.cq_theory.specs.declared.presentation.Presentation.{Presentation}
@@ -58,9 +60,15 @@ module _ (S : Schema) (P : Presentation) (names : List (List EntTerm)) where
   leaf_terms = flat_map (cell_nodes S P names) (below (length S.entities))
       ++ filter_map (generator_node S P names) (enumerate_from 0 P.generators)
 
-  -- a term for each node: the leaves, and then what the equations are made of
-  abbrev pub node_terms : List TypeTerm
-  node_terms = leaf_terms ++ flat_map side_terms given_sides
+-- a term that is a constant
+abbrev pub IsConstantTerm : TypeTerm → Type 0
+IsConstantTerm t = (c : Con) × (t ≡ term.Const c)
+
+-- the node of a leaf, which a constant may have taken
+abbrev pub IsLeafOrConstant : Node → Type 0
+IsLeafOrConstant node.Leaf = Unit {0}
+IsLeafOrConstant (node.Const c) = Unit {0}
+IsLeafOrConstant (node.Fun f args) = ⊥
 
 -- the place of a row's cell at an attribute
 abbrev pub cell_place : Places → ℕ → ℕ → ℕ
@@ -84,9 +92,9 @@ module _ (m : Content) (rows : List ℕ) (places : Places) (terms : List TypeTer
   EachStands _ _ = ⊥
 
   abbrev pub IsNodeAt : ℕ → TypeTerm-F TypeTerm → Node → Type 0
-  IsNodeAt p (Gen n) content = content ≡ node.Leaf
+  IsNodeAt p (Gen n) content = IsLeafOrConstant content
   IsNodeAt p (Const c) content = content ≡ node.Const c
-  IsNodeAt p (Att a t) content = content ≡ node.Leaf
+  IsNodeAt p (Att a t) content = IsLeafOrConstant content
   IsNodeAt p (Fun f args) content = (ps : List ℕ) × (content ≡ node.Fun f ps) × EachStands args ps × All (λ arg. arg < p) ps
 
   -- each node is that of its term: its arguments are earlier nodes, which stand for the term's arguments
@@ -95,11 +103,48 @@ module _ (m : Content) (rows : List ℕ) (places : Places) (terms : List TypeTer
     pub each : (p : ℕ) (t : TypeTerm) (content : Node) → slice_get terms p ≡ Some t → slice_get nodes p ≡ Some content
         → IsNodeAt p (out-TypeTerm t) content
 
-  -- the sides of each equation stand for the sides of the given one
-  pub record AreSidesOf (sides : List (TypeTerm × TypeTerm)) (equations : List (ℕ × ℕ)) : Type 0 where
-    pub count : length equations ≡ length sides
-    pub each : (i a b : ℕ) (t u : TypeTerm) → slice_get sides i ≡ Some (t, u) → slice_get equations i ≡ Some (a, b)
-        → StandsFor t a × StandsFor u b × (a < length terms) × (b < length terms)
+  -- two nodes stand for the sides of a given equation
+  pub record StandForSides (t u : TypeTerm) (a b : ℕ) : Type 0 where
+    pub left : StandsFor t a
+    pub right : StandsFor u b
+    pub left_within : a < length terms
+    pub right_within : b < length terms
+
+  -- an equation joins two nodes that stand for the sides
+  pub record IsJoined (equations : List (ℕ × ℕ)) (t u : TypeTerm) : Type 0 where
+    pub number : ℕ
+    pub nodes : ℕ × ℕ
+    pub is : slice_get equations number ≡ Some nodes
+    pub stand : StandForSides t u nodes.0 nodes.1
+
+  -- the right side is the constant that is the node of the left one
+  pub record IsTaken (nodes : List Node) (t u : TypeTerm) : Type 0 where
+    pub constant : Con
+    pub is : u ≡ term.Const constant
+    pub place : ℕ
+    pub stands : StandsFor t place
+    pub node_is : slice_get nodes place ≡ Some (node.Const constant)
+
+  -- two nodes are joined for a given equation
+  pub record IsGiven (sides : List (TypeTerm × TypeTerm)) (a b : ℕ) : Type 0 where
+    pub number : ℕ
+    pub sides_are : TypeTerm × TypeTerm
+    pub is : slice_get sides number ≡ Some sides_are
+    pub stand : StandForSides sides_are.0 sides_are.1 a b
+
+  -- a constant has taken a node for a given equation
+  pub record IsTakenFor (sides : List (TypeTerm × TypeTerm)) (place : ℕ) (c : Con) : Type 0 where
+    pub number : ℕ
+    pub left : TypeTerm
+    pub is : slice_get sides number ≡ Some (left, term.Const c)
+    pub stands : StandsFor left place
+
+  -- the given equations are those between nodes and the constants that have taken the nodes of leaves
+  pub record AreSidesOf (sides : List (TypeTerm × TypeTerm)) (nodes : List Node) (equations : List (ℕ × ℕ)) : Type 0 where
+    pub met : (i : ℕ) (t u : TypeTerm) → slice_get sides i ≡ Some (t, u) → IsJoined equations t u ⊎ IsTaken nodes t u
+    pub given : (i a b : ℕ) → slice_get equations i ≡ Some (a, b) → IsGiven sides a b
+    pub taken : (p : ℕ) (t : TypeTerm) (c : Con) → slice_get terms p ≡ Some t → slice_get nodes p ≡ Some (node.Const c)
+        → (t ≡ term.Const c) ⊎ IsTakenFor sides p c
 
   -- each cell has a place, at which stands the attribute of a term that leads to the row; each generator of a type has one;
   -- and what stands there stands for itself

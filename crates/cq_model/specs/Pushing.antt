@@ -1,12 +1,15 @@
 -- Terms that become nodes.
-use Rattle.std.specs.Prelude.{ℕ, true, List, [], ◌∷◌, ◌++◌, Some, ◌≡◌, ◌<◌, ◌≤◌, map, length, slice_get, slice_index}
+use Rattle.std.specs.Prelude.{ℕ, true, List, [], ◌∷◌, ◌++◌, Some, ◌≡◌, ◌<◌, ◌≤◌, map, length, slice_get, slice_index, slice_set}
 use Rattle.cq_tables.specs.Content.{Content, live_of, keys_of, made_of, IsWhole}
 use Rattle.cq_tables.specs.Content.{entity_of as row_entity}
 use Rattle.cq_rows.specs.Plain.{ends_of}
 use Rattle.cq_rows.specs.Rows.{AllFilled, row_of_term}
+use Rattle.cq_flat.specs.declared.node.Node.{Node}
+use Rattle.cq_flat.specs.declared.node.Node.TheVariants as node
 use Rattle.cq_model.specs.declared.places.Places.{Places}
 use Rattle.cq_model.specs.NodeListData.{NodeListData}
-use Rattle.cq_model.specs.NodeTerms.{made_terms, side_terms, cell_place, StandsFor, AreNodes, AreSidesOf, AreTypes}
+use Rattle.cq_model.specs.NodeTerms.{made_terms, side_terms, cell_place, StandsFor, AreNodes, AreSidesOf, AreTypes, IsConstantTerm}
+use Rattle.cq_model.specs.Thins.{Thins}
 use Rattle.cq_theory.specs.declared.constant.Con.{Con}
 use Rattle.cq_theory.specs.declared.presentation.Presentation.{Presentation}
 use Rattle.cq_theory.specs.declared.schema.Edge.{Edge}
@@ -15,6 +18,11 @@ use Rattle.cq_theory.specs.declared.term.EntTerm.{EntTerm}
 use Rattle.cq_theory.specs.declared.term.TypeTerm.{TypeTerm}
 use Rattle.cq_theory.specs.declared.term.TypeTerm.TheVariants as term
 use Rattle.cq_theory.specs.Sorts.{Generators, entity_at, type_at, entity_of, type_of}
+
+-- a term that is a constant takes the node of a leaf
+abbrev pub TakesLeaf : NodeListData → NodeListData → ℕ → TypeTerm → Type 0
+TakesLeaf old new place t = (c : Con) × (t ≡ term.Const c) × (slice_get old.nodes place ≡ Some node.Leaf)
+    × (new ≡ record { nodes = slice_set old.nodes place (node.Const c); types = old.types; equations = old.equations })
 
 module _ (S : Schema) (m : Content) (places : Places) where
   -- each path leads from each row, and each cell has a place below the count
@@ -61,12 +69,19 @@ module _ (S : Schema) (m : Content) (places : Places) where
     -- and the equations are those between the sides
     pub record AreEquationsOf (terms : List TypeTerm) (sides : List (TypeTerm × TypeTerm)) (list : NodeListData) : Type 0 where
       pub listed : AreTermsOf terms list
-      pub equations : AreSidesOf m entries places terms sides list.equations
+      pub equations : AreSidesOf m entries places terms sides list.nodes list.equations
+
+    -- terms stand behind these that are made of a list, but for constants that have taken the nodes of leaves
+    pub record HasMore (terms made : List TypeTerm) (sides : List (TypeTerm × TypeTerm)) (list : NodeListData) : Type 0 where
+      pub more : List TypeTerm
+      pub thinned : Thins IsConstantTerm made more
+      pub are : AreEquationsOf (terms ++ more) sides list
 
   -- the term's nodes are added behind the others, and its own stands at the place
   pub record IsPushed (rows : List ℕ) (old new : NodeListData) (t : TypeTerm) (place : ℕ) : Type 0 where
     pub equations : new.equations ≡ old.equations
     pub grows : length old.nodes ≤ length new.nodes
+    pub kept : (p : ℕ) (content : Node) → slice_get old.nodes p ≡ Some content → slice_get new.nodes p ≡ Some content
     pub within : place < length new.nodes
     pub listed : (P : Presentation) (entries : List ℕ) (G : Generators) (placed : TypeTerm → TypeTerm) (named : EntTerm → EntTerm)
         (terms : List TypeTerm) (type : ℕ)
@@ -74,11 +89,11 @@ module _ (S : Schema) (m : Content) (places : Places) where
         → AreTermsOf P entries (terms ++ made_terms (placed t)) new
         × StandsFor m entries places (terms ++ made_terms (placed t)) (placed t) place
 
-  -- an equation is added with the nodes of its sides
+  -- an equation is added with the nodes of its sides, or a constant on the right takes the node of the left side
   pub record IsEquated (rows : List ℕ) (old new : NodeListData) (t u : TypeTerm) : Type 0 where
     pub grows : length old.nodes ≤ length new.nodes
     pub listed : (P : Presentation) (entries : List ℕ) (G : Generators) (placed : TypeTerm → TypeTerm) (named : EntTerm → EntTerm)
         (terms : List TypeTerm) (sides : List (TypeTerm × TypeTerm)) (type : ℕ)
         → IsPlacing P entries G rows placed named → type_of S G t ≡ Some type → type_of S G u ≡ Some type
         → AreEquationsOf P entries terms sides old
-        → AreEquationsOf P entries (terms ++ side_terms (placed t, placed u)) (sides ++ (placed t, placed u) ∷ []) new
+        → HasMore P entries terms (side_terms (placed t, placed u)) (sides ++ (placed t, placed u) ∷ []) new

@@ -1,5 +1,5 @@
 //! The nodes of type terms, with their types and with equations between them.
-ghost use Rattle.std.specs.Prelude.{ℕ, ◌≡◌, ◌<◌, ◌^◌, ◌∷◌, ◌++◌, [], Some, IsSome, length, IfOk, OnOk};
+ghost use Rattle.std.specs.Prelude.{ℕ, ◌≡◌, ◌<◌, ◌^◌, ◌∷◌, ◌++◌, [], Ok, Some, IsSome, length, IfOk, OnOk, true, false};
 ghost use Rattle.cq_rows.specs.Rows.{row_of_term};
 ghost use Rattle.cq_theory.specs.SchemaData.{SchemaData as Over};
 ghost use Rattle.cq_theory.specs.Typeside.{constant_type};
@@ -7,6 +7,7 @@ ghost use Rattle.cq_theory.specs.declared.term.TypeTerm.TheVariants.{Att};
 ghost use Rattle.cq_model.specs.NodeTerms.{cell_place};
 ghost use Rattle.cq_model.specs.Grounds.{HavePlaces, IsReadable, IsPushed, IsEquated};
 ghost use Rattle.cq_model.specs.Pushing as pushing;
+ghost use Rattle.cq_model.specs.Pushing.{TakesLeaf};
 
 use crate::places::{Ground, Places};
 use cq_base::Seq;
@@ -81,6 +82,23 @@ impl NodeList {
     {
         self.equations.push((left, right))?;
         Ok(())
+    }
+
+    /// Puts a term that is a constant in the place of a leaf. Where it is none, or no leaf stands there, nothing
+    /// changes, and the answer is no.
+    fn take_leaf(&mut self, place: u64, term: &TypeTerm) -> Result<bool, AllocError>
+        requires { place < length self.old.nodes }
+        ensures taken { result ≡ Ok true → TakesLeaf self.old self.new place term.now }
+        ensures other { result ≡ Ok false → self.new ≡ self.old }
+    {
+        let TypeTerm::Const(constant) = term else {
+            return Ok(false);
+        };
+        let Node::Leaf = &self.nodes[place as usize] else {
+            return Ok(false);
+        };
+        self.nodes[place as usize] = Node::Const(constant.clone()?);
+        Ok(true)
     }
 }
 
@@ -160,7 +178,8 @@ fn push_term(
     }
 }
 
-/// Adds an equation with the nodes of its sides.
+/// Adds an equation with the nodes of its sides. A constant on the right takes the node of a cell or a generator on the
+/// left, where that node is still a leaf: it needs no node of its own then, and no equation.
 pub fn push_equation(
     alloc: Global,
     ground: &Ground,
@@ -175,6 +194,9 @@ pub fn push_equation(
     ensures { OnOk result (IsEquated ground.now rows.now list.old list.new left.now right.now) }
 {
     let first = push_term(alloc, ground, rows, list, left)?;
+    if list.take_leaf(first, right)? {
+        return Ok(());
+    }
     let second = push_term(alloc, ground, rows, list, right)?;
     list.equate(first, second)?;
     Ok(())

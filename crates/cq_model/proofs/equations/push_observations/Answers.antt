@@ -3,8 +3,11 @@ use Rattle.std.specs.Prelude.{slice_get}
 use Rattle.std.proofs.lemmas.List.{get_or_default}
 use Rattle.std.proofs.lemmas.Option.{slice_get-get_or}
 use Rattle.cq_model.specs.Equating.{AddsAtRows}
-use Rattle.cq_model.proofs.AddedSides.{AreObserved, observed_more}
+use Rattle.cq_model.proofs.AddedSides.{AreObserved, observed_none, observed_more}
 use Rattle.cq_model.proofs.equations.push_observations.Goals as goal
+
+pub loop-entity-init : goal.loop-entity-init
+loop-entity-init c = observed_none c.args.ground.now.schema.now c.args.ground.now.tables.now c.args.ground.now.places.now c.args.order.now c.args.list.now
 
 pub push_entity-requires-clause-rows : goal.push_entity-requires-clause-rows
 push_entity-requires-clause-rows c = λ k d inside.
