@@ -21,3 +21,4 @@ pub mod Numbered
 pub mod Labelled
 pub mod Listing
 pub mod Readings
+pub mod Keyed
