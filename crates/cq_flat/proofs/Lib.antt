@@ -8,9 +8,10 @@ pub mod Arguments
 pub mod Waiting
 pub mod Entered
 pub mod Using
+pub mod Functions
 pub mod Skipping
-pub mod Starting
 pub mod Merged
+pub mod Starting
 pub mod Refreshed
 pub mod Steps
 pub mod Placed
