@@ -20,6 +20,7 @@ pub mod Firsts
 pub mod Labelling
 pub mod Numbered
 pub mod Labelled
+pub mod Valuing
 pub mod Listing
 pub mod Readings
 pub mod Keyed
