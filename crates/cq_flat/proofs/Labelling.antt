@@ -1,5 +1,5 @@
 -- One more node gets its value.
-use Rattle.std.proofs.Common.{◌≡◌, ◌≢◌, ℕ, ◌+◌, ◌<◌, false, eqb, ltb, List, [], ◌∷◌, ◌++◌, length, get_or, replicate, Option, Some, None, sym, ◌∙◌, ap, refl, arith, inl, inr, ⊎_elim, ◌||◌}
+use Rattle.std.proofs.Common.{◌≡◌, ◌≢◌, ℕ, ◌+◌, ◌<◌, false, eqb, ltb, List, [], ◌∷◌, ◌++◌, length, get_or, replicate, Option, Some, None, sym, ◌∙◌, ap, refl, arith, inl, inr, ◌||◌}
 use Rattle.std.proofs.Math.ListN.{set}
 use Rattle.std.proofs.lemmas.Bool.{cases_eq, cases_lt, eq-eqb, ne_eqb, lt-ltb, le-ltb}
 use Rattle.std.proofs.lemmas.List.{length-set, get_or-set_same, get_or-set_other, get_or-replicate, length-replicate, length_push, get_or_append_left, get_or_push, get_or_past}
@@ -11,7 +11,7 @@ use Rattle.cq_theory.specs.declared.constant.Con.{Con}
 use Rattle.cq_theory.specs.declared.value.Value.{Value}
 use Rattle.cq_theory.specs.declared.value.Value.TheVariants.{Const, Null}
 use Rattle.cq_theory.specs.Listed.{firsts, null_label}
-use Rattle.cq_flat.specs.Labels.{AreLabelled, GivesLabel}
+use Rattle.cq_flat.specs.Labels.{AreLabelled}
 use Rattle.cq_flat.proofs.Firsts.{firsts_push, slice_get-left, slice_get-last}
 use Rattle.cq_flat.proofs.Rings.{range_more}
 
@@ -186,9 +186,3 @@ module _ (classes : List ℕ) (least : List (Option Con)) where
         known = λ k. ap (list_any (λ x. nat_eq x k)) (labels_of (Null next)) ∙ list_any-append (λ x. nat_eq x k) (filter_map null_label values) (next ∷ []) ∙ ap (λ b. b || (nat_eq next k || false)) (s.known k) ∙ known_next k;
         order = ap (firsts nat_eq) (labels_of (Null next)) ∙ firsts_push nat_eq (filter_map null_label values) next ∙ rw (s.known next, le-ltb next next (omega arith)) (ap (λ z. z ++ next ∷ []) s.order ∙ sym (range_more next)) ∙ ap (range_with_len 0) (sym (length_push nulls n));
       }
-
-    pub labelled_null : (labels' : List (Option ℕ)) (nulls' : List ℕ) (own : ℕ) → class n < length labels → least_of (class n) ≡ None → GivesLabel labels labels' nulls nulls' (class n) n own → AreLabelled classes least (n + 1) labels' nulls' (values ++ Null own ∷ [])
-    labelled_null labels' nulls' own within e g = ⊎_elim
-        (λ o. rw (o.1, o.2) (labelled_again own e o.0))
-        (λ o. rw (o.2, o.3, o.1) (labelled_next within e o.0))
-        g

@@ -8,9 +8,10 @@ pub mod Arguments
 pub mod Waiting
 pub mod Entered
 pub mod Using
+pub mod Functions
 pub mod Skipping
-pub mod Starting
 pub mod Merged
+pub mod Starting
 pub mod Refreshed
 pub mod Steps
 pub mod Placed
@@ -19,5 +20,7 @@ pub mod Firsts
 pub mod Labelling
 pub mod Numbered
 pub mod Labelled
+pub mod Valuing
 pub mod Listing
 pub mod Readings
+pub mod Keyed

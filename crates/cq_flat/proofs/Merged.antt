@@ -15,7 +15,7 @@ use Rattle.cq_flat.specs.Partition.{Has, joined}
 use Rattle.cq_flat.specs.Congruence as congruent
 use Rattle.cq_flat.specs.Congruence.{Congruent, AllCongruent}
 use Rattle.cq_flat.specs.Closing.{AreExact, Joined, same, waiting, IsSound, IsTabled, AreSound, Skips, roots_below}
-use Rattle.cq_flat.specs.State.{class_in, IsShaped, IsClosing, Merges}
+use Rattle.cq_flat.specs.State.{class_in, AnyNode, IsShaped, IsClosing, Merges}
 use Rattle.cq_flat.proofs.Arguments.{args_within, argument_within}
 use Rattle.cq_flat.proofs.Waiting.{Joined-map, Joined-done}
 use Rattle.cq_flat.proofs.Members.{has_none, has_head, has_tail}
@@ -34,7 +34,8 @@ congruent_within nodes equations sides (congruent.given {a} {b} i e) =
 congruent_within nodes equations sides (congruent.constants {a} {b} c e f) = (slice_get_within nodes a (Const c) e, slice_get_within nodes b (Const c) f)
 congruent_within nodes equations sides (congruent.functions {a} {b} {xs} {ys} f d e h) = (slice_get_within nodes a (Fun f xs) d, slice_get_within nodes b (Fun f ys) e)
 
-module _ (nodes : List Node) (early : HasEarlierArguments nodes) (equations : List (ℕ × ℕ)) (sides : AreSides nodes equations) (old : Closing) (c : IsClosing nodes equations old) (v : Pairs)
+module _ (nodes : List Node) (early : HasEarlierArguments nodes) (equations : List (ℕ × ℕ)) (sides : AreSides nodes equations) (known : ℕ → Type 0) (old : Closing)
+    (c : IsClosing nodes equations known old) (v : Pairs)
     (x y : ℕ) (k : Skips (class_in old) old.pending.items v.items (Some (x, y))) where
   -- what holds of the pair that is taken out
   pub taken_differ : x ≢ y
@@ -142,25 +143,25 @@ module _ (nodes : List Node) (early : HasEarlierArguments nodes) (equations : Li
         let o = was other key ia (ap (key_of (class_in old)) j ∙ sym e ∙ sym (ap (key_of (class_in new)) j) ∙ ka) in
         (o.0, ap (λ z. found z key) m.table ∙ o.1, after o.2)
 
-    tabled_node : (a : ℕ) (node : Node) → slice_get nodes a ≡ Some node → WasTabled a → Has new.stale.items a ⊎ Tabled a
-    tabled_node a Leaf is was = inr (tabled_same a Leaf is refl was)
-    tabled_node a (Const d) is was = inr (tabled_same a (Const d) is refl was)
-    tabled_node a (Fun f args) is was = ⊎_elim
-        (λ o. inl (m.stale.added o.0 a (omega (arith, argument_within nodes early a f o.0 args is o.1, c.shape.count), o.2) (c.shape.uses.listed a f o.0 args is o.1)))
+    tabled_node : (a : ℕ) (node : Node) → known a → slice_get nodes a ≡ Some node → WasTabled a → Has new.stale.items a ⊎ Tabled a
+    tabled_node a Leaf h is was = inr (tabled_same a Leaf is refl was)
+    tabled_node a (Const d) h is was = inr (tabled_same a (Const d) is refl was)
+    tabled_node a (Fun f args) h is was = ⊎_elim
+        (λ o. inl (m.stale.added o.0 a (omega (arith, argument_within nodes early a f o.0 args is o.1, c.shape.count), o.2) (c.shape.uses a f o.0 args h is o.1)))
         (λ o. inr (tabled_same a (Fun f args) is (ap (λ zs. Some (0 ∷ 1 ∷ f ∷ zs)) o) was))
         (arguments args (args_within nodes early a f args is))
 
-    tabled_between : (a : ℕ) → WasTabled a → Has new.stale.items a ⊎ Tabled a
-    tabled_between a was = by (slice_get nodes a) refl where
+    tabled_between : (a : ℕ) → known a → WasTabled a → Has new.stale.items a ⊎ Tabled a
+    tabled_between a h was = by (slice_get nodes a) refl where
       by : (o : Option Node) → slice_get nodes a ≡ o → Has new.stale.items a ⊎ Tabled a
       by None e = inr (λ node key is keyed. let i : None ≡ Some node = sym e ∙ is in absurd (cc))
-      by (Some node) e = tabled_node a node e was
+      by (Some node) e = tabled_node a node h e was
 
-    tabled_new : (a : ℕ) → Has new.stale.items a ⊎ Tabled a
-    tabled_new a = ⊎_elim (λ o. inl (m.stale.kept a o)) (tabled_between a) (c.tabled a)
+    tabled_new : (a : ℕ) → known a → Has new.stale.items a ⊎ Tabled a
+    tabled_new a h = ⊎_elim (λ o. inl (m.stale.kept a o)) (tabled_between a h) (c.tabled a h)
 
     stale_within : (a : ℕ) → Has new.stale.items a → a < length nodes
-    stale_within a h = ⊎_elim (c.within a) (λ o. c.shape.uses.within o.0 a o.1) (m.stale.fewer a h)
+    stale_within a h = ⊎_elim (c.within a) (λ o. c.shape.users o.0 a o.1) (m.stale.fewer a h)
 
     root_new : (a : ℕ) → a < length nodes → class_in new (class_in new a) ≡ class_in new a
     root_new a l = elim (cases_eq (class_in old a) from) as (λ _. class_in new (class_in new a) ≡ class_in new a) [
@@ -174,16 +175,17 @@ module _ (nodes : List Node) (early : HasEarlierArguments nodes) (equations : Li
       | inr n ↦ rw (at_other a l n) (c.shape.within a l)
     ]
 
-    shape_new : IsShaped nodes new
+    shape_new : IsShaped nodes known new
     shape_new = record {
       count = ap length m.classes ∙ length-map old.classes.items (joined from to) ∙ c.shape.count;
       within = within_joined;
       root = root_new;
       rings = m.rings;
       uses = rw m.uses c.shape.uses;
+      users = rw m.uses c.shape.users;
     }
 
-    pub closing_merged : IsClosing nodes equations new
+    pub closing_merged : IsClosing nodes equations known new
     closing_merged = record {
       shape = shape_new;
       sound = sound_between;
@@ -224,12 +226,12 @@ module _ (nodes : List Node) (early : HasEarlierArguments nodes) (equations : Li
     roots_fall = (roots_fewer (length nodes) (omega arith)).1 from_within
 
 -- when no pair waits and no function is stale, one class is what equal nodes have
-module _ (nodes : List Node) (equations : List (ℕ × ℕ)) (s : Closing) (c : IsClosing nodes equations s) (p : s.pending.items ≡ []) (fresh : s.stale.items ≡ []) where
+module _ (nodes : List Node) (equations : List (ℕ × ℕ)) (s : Closing) (c : IsClosing nodes equations AnyNode s) (p : s.pending.items ≡ []) (fresh : s.stale.items ≡ []) where
   done : (a b : ℕ) → Contains {X = ℕ × ℕ} s.pending.items (a, b) → class_in s a ≡ class_in s b
   done a b h = absurd (omega (arith, (rw p at h).1))
 
   tabled : (a : ℕ) → IsTabled nodes (class_in s) s.table s.pending.items a
-  tabled a = ⊎_elim (λ o. absurd (has_none a (rw fresh at o))) (λ t. t) (c.tabled a)
+  tabled a = ⊎_elim (λ o. absurd (has_none a (rw fresh at o))) (λ t. t) (c.tabled a tt)
 
   now : {a b : ℕ} → Joined (length nodes) (class_in s) s.pending.items a b → class_in s a ≡ class_in s b
   now j = Joined-done (length nodes) (class_in s) s.pending.items done j

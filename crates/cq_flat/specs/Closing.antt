@@ -76,6 +76,12 @@ pub record AddsUses (old new : List (List ℕ)) (node : ℕ) (args : List ℕ) :
   pub added : (x : ℕ) → Has args x → Has (slice_index_or new x []) node
   pub fewer : (k a : ℕ) → Has (slice_index_or new k []) a → Has (slice_index_or old k []) a ⊎ (a ≡ node)
 
+-- the functions among the first n nodes are put behind some numbers
+pub record AddsFunctions (nodes : List Node) (n : ℕ) (old new : List ℕ) : Type 0 where
+  pub kept : (a : ℕ) → Has old a → Has new a
+  pub added : (a f : ℕ) (args : List ℕ) → a < n → slice_get nodes a ≡ Some (Fun f args) → Has new a
+  pub fewer : (a : ℕ) → Has new a → Has old a ⊎ (a < n)
+
 -- what has a member of a class as an argument becomes stale
 pub record Stales (classes : List ℕ) (uses : List (List ℕ)) (class : ℕ) (old new : List ℕ) : Type 0 where
   pub kept : (a : ℕ) → Has old a → Has new a

@@ -24,14 +24,16 @@ key_of class (Fun f args) = Some (0 ∷ 1 ∷ f ∷ map class args)
 abbrev pub same_key : List ℕ → List ℕ → Bool
 same_key = pointwise nat_eq
 
--- what a hasher is fed of a key: its numbers, or its text
-abbrev pub fed_key : List ℕ → HashWrites
-fed_key [] = []
-fed_key (zero ∷ numbers) = fed.slice fed.u64 numbers
-fed_key (suc n ∷ text) = fed.str text
+-- what a hasher is fed of a list of numbers
+abbrev pub fed_numbers : List ℕ → HashWrites
+fed_numbers numbers = fed.slice fed.u64 numbers
 
-pub fed_alike : (k q : List ℕ) → IsTrue (pointwise nat_eq k q) → fed_key k ≡ fed_key q
-fed_alike k q h = ap fed_key (same_text k q (sym h))
+pub fed_alike : (k q : List ℕ) → IsTrue (pointwise nat_eq k q) → fed_numbers k ≡ fed_numbers q
+fed_alike k q h = ap fed_numbers (same_text k q (sym h))
+
+-- the entries of a table, with a number before each key
+abbrev pub tagged : ℕ → List (List ℕ × ℕ) → List (List ℕ × ℕ)
+tagged tag entries = map (λ (e : List ℕ × ℕ). (tag ∷ e.0, e.1)) entries
 
 -- the node of a table at a key
 abbrev pub found : List (List ℕ × ℕ) → List ℕ → Option ℕ

@@ -1,6 +1,6 @@
 -- Values of nodes by their classes, and the labels of nulls.
-use Rattle.std.specs.Prelude.{◌≡◌, ◌≢◌, ℕ, ◌<◌, ◌⊎◌, ◌↔◌, List, [], ◌∷◌, ◌++◌, length, map, Option, Some, None, nat_eq, nat_lt, slice_get}
-use Rattle.std.specs.Prelude.{slice_index, slice_index_or, slice_set, if◌then◌else◌}
+use Rattle.std.specs.Prelude.{◌≡◌, ◌≢◌, ℕ, ◌<◌, ◌↔◌, List, [], ◌∷◌, ◌++◌, length, map, Option, Some, None, nat_eq, nat_lt, slice_get}
+use Rattle.std.specs.Prelude.{slice_index, slice_index_or}
 use Rattle.std.specs.List.{filter_map, range_with_len, list_any}
 use Rattle.cq_theory.specs.declared.constant.Con.{Con}
 use Rattle.cq_theory.specs.declared.value.Value.{Value}
@@ -38,17 +38,3 @@ pub record AreLabelled (classes : List ℕ) (least : List (Option Con)) (n : ℕ
       → slice_index classes a ≢ slice_index classes (slice_index nulls label)
   pub known : (label : ℕ) → list_any (λ x. nat_eq x label) (filter_map null_label values) ≡ nat_lt label (length nulls)
   pub order : firsts nat_eq (filter_map null_label values) ≡ range_with_len 0 (length nulls)
-
--- the labels of n classes, where n is written for none, and none at all behind the last class that has one
-abbrev pub label_in : ℕ → List ℕ → ℕ → Option ℕ
-label_in n labels class = if nat_lt (slice_index_or labels class n) n then Some (slice_index_or labels class n) else None
-
-abbrev pub labels_in : ℕ → List ℕ → List (Option ℕ)
-labels_in n labels = map (label_in n labels) (range_with_len 0 n)
-
--- the label of a class: the one that it has, or the next one, with the node as its first
-abbrev pub GivesLabel : List (Option ℕ) → List (Option ℕ) → List ℕ → List ℕ → ℕ → ℕ → ℕ → Type 0
-GivesLabel labels labels' nulls nulls' class node label =
-    ((slice_index_or labels class None ≡ Some label) × (labels' ≡ labels) × (nulls' ≡ nulls))
-    ⊎ ((slice_index_or labels class None ≡ None) × (label ≡ length nulls) × (labels' ≡ slice_set labels class (Some label))
-    × (nulls' ≡ nulls ++ node ∷ []))

@@ -1,6 +1,7 @@
 pub mod Nodes
 pub mod Congruence
 pub mod Values
+pub mod Places
 pub mod Keys
 pub mod Partition
 pub mod Closing

@@ -5,11 +5,11 @@ ghost use Rattle.cq_flat.specs.Closing.{AreExact, Skips};
 ghost use Rattle.cq_flat.specs.Partition.{Has};
 
 use crate::classes::{is_shorter, relabel, singletons};
-use crate::entering::enter_all;
+use crate::entering::{enter, enter_all};
 use crate::key::Table;
 use crate::lists::Lists;
 use crate::node::Node;
-use crate::uses::uses_of;
+use crate::uses::{add_functions, uses_of};
 use std::alloc::{AllocError, Global};
 use std::mem;
 
@@ -28,9 +28,10 @@ pub struct Closing {
 
 impl Closing {
     ghost use Rattle.cq_flat.specs.Partition.{AreRings};
-    ghost use Rattle.cq_flat.specs.State.{IsClosing, Merges, Refreshes};
+    ghost use Rattle.cq_flat.specs.State.{AnyNode, IsEarlyConstant, IsAlone, IsClosing, EntersOne, Merges, Refreshes};
     ghost use Rattle.std.specs.Prelude.{◌⊎◌, []};
 
+    // All constants were looked up, and all functions are stale.
     fn start(
         alloc: Global,
         nodes: &[Node],
@@ -38,28 +39,73 @@ impl Closing {
     ) -> Result<Closing, AllocError>
         requires arguments { HasEarlierArguments nodes.now }
         requires sides { AreSides nodes.now equations.items }
-        ensures { IfOk result (λ closing. IsClosing nodes.now equations.items closing) }
+        ensures { IfOk result (λ closing. IsClosing nodes.now equations.items AnyNode closing) }
     {
-        let (classes, following) = singletons(alloc, nodes.len())?;
-        let uses = uses_of(alloc, nodes)?;
-        let mut table = Table::new(alloc);
-        let mut pending = equations;
-        enter_all(
-            alloc,
-            nodes,
-            classes.as_slice(),
-            &mut table,
-            &mut pending,
-            classes.as_slice(),
-        )?;
+        let mut closing = Closing::of_constants(alloc, nodes, equations)?;
+        closing.uses = uses_of(alloc, nodes)?;
+        add_functions(&mut closing.stale, nodes)?;
+        Ok(closing)
+    }
+
+    // Looks up the constants. After each of them a pair is joined, so that hardly more pairs ever
+    // wait than there are equations, however often constants are repeated. Functions are not yet
+    // known: they are looked up once most classes are joined.
+    fn of_constants(
+        alloc: Global,
+        nodes: &[Node],
+        equations: Vec<(u64, u64)>,
+    ) -> Result<Closing, AllocError>
+        requires arguments { HasEarlierArguments nodes.now }
+        requires sides { AreSides nodes.now equations.items }
+        ensures { IfOk result (λ closing. IsClosing nodes.now equations.items
+            (IsEarlyConstant nodes.now (length nodes.now)) closing) }
+    {
+        let mut closing = Closing::alone(alloc, nodes.len(), equations)?;
+        for (node, content) in nodes.iter().enumerate() {
+            if let Node::Const(_) = content {
+                closing.enter_one(alloc, nodes, node as u64)?;
+                if let Some((left, right)) = next(
+                    closing.classes.as_slice(),
+                    &mut closing.pending,
+                ) {
+                    closing.merge(left, right)?;
+                }
+            }
+        }
+        Ok(closing)
+    }
+
+    // Each of some nodes is alone in its class.
+    fn alone(alloc: Global, count: usize, equations: Vec<(u64, u64)>) -> Result<Closing, AllocError>
+        ensures { IfOk result (λ closing. IsAlone count equations.items closing) }
+    {
+        let (classes, following) = singletons(alloc, count)?;
         Ok(Closing {
             classes,
             following,
-            uses,
-            table,
-            pending,
+            uses: Lists::new(alloc),
+            table: Table::new(alloc),
+            pending: equations,
             stale: Vec::new(alloc),
         })
+    }
+
+    // Looks up a node.
+    fn enter_one(&mut self, alloc: Global, nodes: &[Node], node: u64) -> Result<(), AllocError>
+        requires arguments { HasEarlierArguments nodes.now }
+        requires count { length self.old.classes.items ≡ length nodes.now }
+        requires node { node < length nodes.now }
+        ensures { OnOk result (EntersOne nodes.now node self.old self.new) }
+    {
+        enter(
+            alloc,
+            nodes,
+            self.classes.as_slice(),
+            &mut self.table,
+            &mut self.pending,
+            node,
+        )?;
+        Ok(())
     }
 
     // Whether pairs are to be joined, or functions to be looked up.

@@ -3,11 +3,13 @@ ghost use Rattle.std.specs.Prelude.{◌≡◌, ◌<◌, length, map, All, IfOk};
 ghost use Rattle.cq_flat.specs.Nodes.{HasEarlierArguments};
 ghost use Rattle.cq_flat.specs.Values.{entries_of, value_at};
 ghost use Rattle.cq_flat.specs.Entries.{AreValuesOf};
+ghost use Rattle.cq_flat.specs.Places.{values_in, ArePlaced};
 ghost use Rattle.cq_theory.specs.Tables.{IsPlain};
 
 use crate::entering::function_key;
 use crate::key::Table;
 use crate::node::Node;
+use crate::values::NodeValues;
 use cq_base::Seq;
 use cq_theory::{Entry, Value};
 use std::alloc::{AllocError, Global};
@@ -17,11 +19,12 @@ pub fn entries_of(
     alloc: Global,
     nodes: &[Node],
     classes: &[u64],
-    values: &[Value],
+    values: &NodeValues,
 ) -> Result<Vec<Entry>, AllocError>
     requires arguments { HasEarlierArguments nodes.now }
-    requires values { AreValuesOf (length nodes.now) classes.now values.now }
-    ensures { IfOk result (λ entries. entries.items ≡ entries_of nodes.now values.now) }
+    requires placed { ArePlaced values.now }
+    requires values { AreValuesOf (length nodes.now) classes.now (values_in values.now) }
+    ensures { IfOk result (λ entries. entries.items ≡ entries_of nodes.now (values_in values.now)) }
 {
     let mut table = Table::new(alloc);
     let mut entries = Vec::new(alloc);
@@ -33,32 +36,33 @@ pub fn entries_of(
         if table.put(key, node as u64)?.is_some() {
             continue;
         }
-        entries.push(entry(alloc, values, node, *function, args.as_slice())?)?;
+        entries.push(entry(alloc, values, node as u64, *function, args.as_slice())?)?;
     }
     Ok(entries)
 }
 
 fn entry(
     alloc: Global,
-    values: &[Value],
-    node: usize,
+    values: &NodeValues,
+    node: u64,
     function: u32,
     args: &[u64],
 ) -> Result<Entry, AllocError>
-    requires plain { All IsPlain values.now }
-    requires node { node < length values.now }
-    requires args { All (λ arg. arg < length values.now) args.now }
+    requires placed { ArePlaced values.now }
+    requires plain { All IsPlain (values_in values.now) }
+    requires node { node < length values.now.places.items }
+    requires args { All (λ arg. arg < length values.now.places.items) args.now }
     ensures { IfOk result (λ entry. entry ≡ record {
       function = function;
-      args = map (value_at values.now) args.now;
-      value = value_at values.now node;
+      args = map (value_at (values_in values.now)) args.now;
+      value = value_at (values_in values.now) node;
     }) }
 {
     let mut list = Vec::with_capacity(alloc, args.len())?;
     for arg in args {
-        list.push(copy_plain(&values[*arg as usize])?)?;
+        list.push(copy_plain(values.get(*arg))?)?;
     }
-    let value = copy_plain(&values[node])?;
+    let value = copy_plain(values.get(node))?;
     Ok(Entry {
         function,
         args: Seq::from_vec(list),

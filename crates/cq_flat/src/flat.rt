@@ -7,6 +7,7 @@ use crate::entries::entries_of;
 use crate::labels::values_of;
 use crate::node::Node;
 use crate::numbers::{are_sides, has_earlier_arguments};
+use crate::values::NodeValues;
 use cq_base::Seq;
 use cq_theory::{Con, Entry, Value};
 use std::alloc::{AllocError, Global};
@@ -15,13 +16,14 @@ use std::marker::Model;
 /// Which nodes are equal: the values of all nodes, and what follows of them.
 #[derive(Drop)]
 pub struct Flat {
-    values: Seq<Value>,
+    values: NodeValues,
     nulls: Seq<u64>,
     entries: Seq<Entry>,
     clash: Option<(Con, Con)>,
 }
 
 impl Model for Flat {
+    ghost use Rattle.cq_flat.specs.Places.{values_in, ArePlaced};
     ghost use Rattle.cq_flat.specs.Values.{Closure};
     ghost use Rattle.std.specs.Coded.{codes};
     ghost use Rattle.cq_theory.specs.contracts.value.Value as value;
@@ -31,11 +33,13 @@ impl Model for Flat {
     ghost coded = { Prim.hlevel (codes, value.the_row.coded) };
 
     ghost view = { λ flat. record {
-      values = flat.values;
+      values = values_in flat.values;
       nulls = flat.nulls;
       entries = flat.entries;
       clash = flat.clash;
     } };
+
+    ghost invariant = { λ flat. ArePlaced flat.values };
 }
 
 impl Flat {
@@ -58,6 +62,9 @@ impl Flat {
         ensures entries { IfOk result (λ flat. flat.entries ≡ entries_of nodes.items flat.values) }
         ensures clash { IfOk result (λ flat. IsClash nodes.items equations.items flat.clash) }
     {
+        if nodes.len() > u32::MAX as usize {
+            return Err(AllocError);
+        }
         let classes = close_classes(alloc, nodes.as_slice(), equations)?;
         let least = least_constants(alloc, nodes.as_slice(), classes.as_slice())?;
         let clash = clash_of(nodes.as_slice(), classes.as_slice(), least.as_slice())?;
@@ -68,14 +75,9 @@ impl Flat {
             least.as_slice(),
         )?;
         drop(least);
-        let entries = entries_of(
-            alloc,
-            nodes.as_slice(),
-            classes.as_slice(),
-            values.as_slice(),
-        )?;
+        let entries = entries_of(alloc, nodes.as_slice(), classes.as_slice(), &values)?;
         Ok(Flat {
-            values: Seq::from_vec(values),
+            values,
             nulls: Seq::from_vec(nulls),
             entries: Seq::from_vec(entries),
             clash,
@@ -94,7 +96,7 @@ impl Flat {
         requires { node < length self.now.values }
         ensures { slice_get self.now.values node ≡ Some result.now }
     {
-        &self.values.as_slice()[node as usize]
+        self.values.get(node)
     }
 
     /// The first node of each null, by its label.

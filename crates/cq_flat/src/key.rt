@@ -19,7 +19,7 @@ pub struct Key {
 
 #[derive(Drop)]
 enum Content {
-    Numbers(SmallVec<u64, 3>),
+    Numbers(Numbers),
     Text(Name),
 }
 
@@ -29,7 +29,7 @@ impl Model for Key {
 
     ghost Value = { List ℕ };
 
-    ghost view = { λ key. elim key.content [ Numbers numbers ↦ 0 ∷ numbers.items | Text text ↦ 1 ∷ text ] };
+    ghost view = { λ key. elim key.content [ Numbers numbers ↦ 0 ∷ numbers | Text text ↦ 1 ∷ text ] };
 }
 
 impl Key {
@@ -38,7 +38,7 @@ impl Key {
         ensures { result ≡ 0 ∷ numbers.items }
     {
         Key {
-            content: Content::Numbers(numbers),
+            content: Content::Numbers(Numbers { numbers }),
         }
     }
 
@@ -52,56 +52,61 @@ impl Key {
     }
 }
 
-impl PartialEq for Key {
+/// A list of numbers.
+#[derive(Drop)]
+struct Numbers {
+    numbers: SmallVec<u64, 3>,
+}
+
+impl Model for Numbers {
+    ghost use Rattle.std.specs.Prelude.{ℕ, List};
+
+    ghost Value = { List ℕ };
+
+    ghost view = { λ list. list.numbers.items };
+}
+
+impl PartialEq for Numbers {
     ghost eq = { pointwise nat_eq };
 
     ghost laws = { partial_equiv_from_equiv nat_list_eq_equiv };
 
-    fn eq(&self, other: &Key) -> bool {
-        match &self.content {
-            Content::Numbers(numbers) => match &other.content {
-                Content::Numbers(others) => numbers.as_slice() == others.as_slice(),
-                Content::Text(_) => false,
-            },
-            Content::Text(text) => match &other.content {
-                Content::Numbers(_) => false,
-                Content::Text(second) => text == second,
-            },
-        }
+    fn eq(&self, other: &Numbers) -> bool {
+        self.numbers.as_slice() == other.numbers.as_slice()
     }
 }
 
-impl Eq for Key {
+impl Eq for Numbers {
     ghost laws = { nat_list_eq_equiv };
 }
 
-impl Hash for Key {
-    ghost use Rattle.cq_flat.specs.Keys.{fed_key, fed_alike};
+impl Hash for Numbers {
+    ghost use Rattle.cq_flat.specs.Keys.{fed_numbers, fed_alike};
 
-    ghost hash_input = { fed_key };
+    ghost hash_input = { fed_numbers };
 
     ghost respects_eq = { fed_alike };
 
     fn hash<H: Hasher>(&self, state: &mut H) {
-        match &self.content {
-            Content::Numbers(numbers) => numbers.as_slice().hash(state),
-            Content::Text(text) => text.hash(state),
-        }
+        self.numbers.as_slice().hash(state);
     }
 }
 
-/// A node for each key. Contracts see the pairs.
+/// A node for each key. Contracts see the pairs. Texts, of which there may be as many as nodes, have a table of their
+/// own, where a key takes no more room than a text.
 #[derive(Drop)]
 pub struct Table {
-    nodes: HashMap<Key, u64, Hashing>,
+    numbers: HashMap<Numbers, u64, Hashing>,
+    texts: HashMap<Name, u64, Hashing>,
 }
 
 impl Model for Table {
-    ghost use Rattle.std.specs.Prelude.{ℕ, List};
+    ghost use Rattle.std.specs.Prelude.{ℕ, List, ◌++◌};
+    ghost use Rattle.cq_flat.specs.Keys.{tagged};
 
     ghost Value = { List (List ℕ × ℕ) };
 
-    ghost view = { λ table. table.nodes.entries };
+    ghost view = { λ table. tagged 0 table.numbers.entries ++ tagged 1 table.texts.entries };
 }
 
 impl Table {
@@ -112,7 +117,8 @@ impl Table {
         ensures { result ≡ [] }
     {
         Table {
-            nodes: HashMap::with_hasher(alloc, Hashing::new()),
+            numbers: HashMap::with_hasher(alloc, Hashing::new()),
+            texts: HashMap::with_hasher(alloc, Hashing::new()),
         }
     }
 
@@ -122,6 +128,9 @@ impl Table {
         ensures put { OnOk result ((q : List ℕ) → found self.new q
             ≡ (if same_key key q then Some node else found self.old q)) }
     {
-        Ok(self.nodes.insert(key, node)?)
+        match key.content {
+            Content::Numbers(numbers) => Ok(self.numbers.insert(numbers, node)?),
+            Content::Text(text) => Ok(self.texts.insert(text, node)?),
+        }
     }
 }

@@ -1,11 +1,13 @@
 //! The values of nodes, and the labels of nulls.
-ghost use Rattle.std.specs.Prelude.{◌≡◌, ◌<◌, ℕ, length, All, IfOk, OnOk, slice_index_or, if◌then◌else◌, ◌==◌};
-ghost use Rattle.cq_flat.specs.Constants.{constants_at};
-ghost use Rattle.cq_flat.specs.Labels.{AreApart, AreClassValues, GivesLabel, labels_in};
+ghost use Rattle.std.specs.Prelude.{◌≡◌, ◌<◌, ◌^◌, ℕ, length, All, IfOk, OnOk, slice_index_or, if◌then◌else◌, ◌==◌};
+ghost use Rattle.cq_flat.specs.Constants.{constant_at, constants_at};
+ghost use Rattle.cq_flat.specs.Labels.{AreApart, AreClassValues};
+ghost use Rattle.cq_flat.specs.Places.{values_in, ArePlaced, IsNewValue};
 ghost use Rattle.cq_flat.specs.Values.{AreLabels};
 
 use crate::constants::constant_at;
 use crate::node::Node;
+use crate::values::NodeValues;
 use cq_theory::Value;
 use std::alloc::{AllocError, Global};
 
@@ -16,72 +18,71 @@ pub fn values_of(
     nodes: &[Node],
     classes: &[u64],
     least: &[u64],
-) -> Result<(Vec<Value>, Vec<u64>), AllocError>
+) -> Result<(NodeValues, Vec<u64>), AllocError>
+    requires few { length classes.now < 2 ^ 32 }
     requires count { length least.now ≡ length classes.now }
     requires within { All (λ class. class < length classes.now) classes.now }
     requires apart { AreApart (constants_at nodes.now least.now) }
-    ensures values { IfOk result (λ made. AreClassValues classes.now (constants_at nodes.now least.now) made.0.items) }
-    ensures labels { IfOk result (λ made. AreLabels made.0.items made.1.items) }
+    ensures values { IfOk result (λ made. AreClassValues classes.now (constants_at nodes.now least.now) (values_in made.0)) }
+    ensures placed { IfOk result (λ made. ArePlaced made.0) }
+    ensures labels { IfOk result (λ made. AreLabels (values_in made.0) made.1.items) }
 {
-    let mut labels = Vec::with_capacity(alloc, classes.len())?;
+    let count = classes.len() as u32;
+    let mut placed = Vec::with_capacity(alloc, classes.len())?;
     let mut nulls = Vec::new(alloc);
-    let mut values = Vec::with_capacity(alloc, classes.len())?;
+    let mut values = NodeValues::with_room(alloc, classes.len())?;
     for (node, class) in classes.iter().enumerate() {
-        if let Some(constant) = constant_at(nodes, least[*class as usize]) {
-            values.push(Value::Const(constant.clone()?))?;
+        let place = place_at(placed.as_slice(), count, *class);
+        if place < count {
+            values.places.push(place)?;
             continue;
         }
-        let label = label_of(&mut labels, &mut nulls, classes.len(), *class, node as u64)?;
-        values.push(Value::Null(label))?;
+        let value = new_value(nodes, least[*class as usize], &mut nulls, node as u64)?;
+        let place = values.different.len() as u32;
+        write_place(&mut placed, count, *class, place)?;
+        values.places.push(place)?;
+        values.different.push(value)?;
     }
     Ok((values, nulls))
 }
 
-// The label of a class, which gets the next one where it has none.
-fn label_of(
-    labels: &mut Vec<u64>,
+// The value of a class, of whose constants the least one stands at this place, if it has any. Else
+// this is the first node of a null.
+fn new_value(
+    nodes: &[Node],
+    place: u64,
     nulls: &mut Vec<u64>,
-    count: usize,
-    class: u64,
     node: u64,
-) -> Result<u64, AllocError>
-    requires class { class < count }
-    requires fewer { length nulls.old.items < count }
-    ensures { IfOk result (λ label. GivesLabel (labels_in count labels.old.items) (labels_in count labels.new.items)
-        nulls.old.items nulls.new.items class node label) }
+) -> Result<Value, AllocError>
+    ensures { IfOk result (λ value.
+        IsNewValue (constant_at nodes.now place) nulls.old.items nulls.new.items node value) }
 {
-    let label = label_at(labels.as_slice(), count, class);
-    if label < count as u64 {
-        return Ok(label);
+    if let Some(constant) = constant_at(nodes, place) {
+        return Ok(Value::Const(constant.clone()?));
     }
     let label = nulls.len() as u64;
     nulls.push(node)?;
-    write_label(labels, count, class, label)?;
-    Ok(label)
+    Ok(Value::Null(label))
 }
 
-fn label_at(labels: &[u64], count: usize, class: u64) -> u64
-    ensures { result ≡ slice_index_or labels.now class count }
+// The place of the value of a class, or else the number of classes.
+fn place_at(placed: &[u32], count: u32, class: u64) -> u32
+    ensures { result ≡ slice_index_or placed.now class count }
 {
-    match labels.get(class as usize) {
-        Some(label) => *label,
-        None => count as u64,
+    match placed.get(class as usize) {
+        Some(place) => *place,
+        None => count,
     }
 }
 
-// Writes the label of a class. Memory that no label is written to is not touched.
-fn write_label(
-    labels: &mut Vec<u64>,
-    count: usize,
-    class: u64,
-    label: u64,
-) -> Result<(), AllocError>
-    ensures { OnOk result ((k : ℕ) → slice_index_or labels.new.items k count
-        ≡ (if k == class then label else slice_index_or labels.old.items k count)) }
+// Writes the place of the value of a class. Memory that no place is written to is not touched.
+fn write_place(placed: &mut Vec<u32>, count: u32, class: u64, place: u32) -> Result<(), AllocError>
+    ensures { OnOk result ((k : ℕ) → slice_index_or placed.new.items k count
+        ≡ (if k == class then place else slice_index_or placed.old.items k count)) }
 {
-    while labels.len() as u64 <= class {
-        labels.push(count as u64)?;
+    while placed.len() as u64 <= class {
+        placed.push(count)?;
     }
-    labels[class as usize] = label;
+    placed[class as usize] = place;
     Ok(())
 }

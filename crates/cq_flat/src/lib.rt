@@ -13,6 +13,7 @@ mod lists;
 pub mod node;
 mod numbers;
 mod uses;
+mod values;
 
 pub use flat::Flat;
 pub use node::Node;

@@ -1,7 +1,7 @@
 //! The functions that have a node as an argument.
-ghost use Rattle.std.specs.Prelude.{IfOk, OnOk};
+ghost use Rattle.std.specs.Prelude.{IfOk, OnOk, length};
 ghost use Rattle.cq_flat.specs.Nodes.{HasEarlierArguments};
-ghost use Rattle.cq_flat.specs.Closing.{AreUses, AddsUses};
+ghost use Rattle.cq_flat.specs.Closing.{AreUses, AddsUses, AddsFunctions};
 
 use crate::lists::Lists;
 use crate::node::Node;
@@ -26,6 +26,18 @@ fn add_uses(uses: &mut Lists, node: u64, args: &[u64]) -> Result<(), AllocError>
 {
     for arg in args {
         uses.push(*arg, node)?;
+    }
+    Ok(())
+}
+
+/// Puts the numbers of the functions among these nodes behind others.
+pub fn add_functions(numbers: &mut Vec<u64>, nodes: &[Node]) -> Result<(), AllocError>
+    ensures { OnOk result (AddsFunctions nodes.now (length nodes.now) numbers.old.items numbers.new.items) }
+{
+    for (node, content) in nodes.iter().enumerate() {
+        if let Node::Fun(_, _) = content {
+            numbers.push(node as u64)?;
+        }
     }
     Ok(())
 }

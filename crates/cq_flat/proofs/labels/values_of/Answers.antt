@@ -1,57 +1,48 @@
-use Rattle.std.proofs.Common.{ℕ, ◌<◌, length, get_or, sym, ◌∙◌, arith}
+use Rattle.std.proofs.Common.{◌≡◌, ℕ, ◌<◌, ◌≤◌, length, get_or, sym, ap, ◌∙◌, arith}
 use Rattle.cq_flat.specs.Constants.{constants_at}
-use Rattle.cq_flat.proofs.Labelling.{labelled_none, labelled_constant, labelled_null}
 use Rattle.cq_flat.proofs.Placed.{placed_at}
-use Rattle.cq_flat.specs.Labels.{labels_in}
-use Rattle.cq_flat.proofs.Numbered.{labels_none, labels_few}
-use Rattle.cq_flat.proofs.Labelled.{labels_are, values_are}
+use Rattle.cq_flat.proofs.Valuing.{IsValuing, valuing_none, valuing_again, valuing_new, valued_values, valued_placed, valued_labels}
 use Rattle.cq_flat.proofs.labels.values_of.Goals as goal
 
 pub loop-node-init : goal.loop-node-init
-loop-node-init c = record {
-  labelled = rw (c.in_ok-labels.ensures.items, labels_none (length c.args.classes.now), c.new-nulls.ensures.items, c.in_ok-values.ensures.items) (labelled_none c.args.classes.now (constants_at c.args.nodes.now c.args.least.now));
-  few = rw c.new-nulls.ensures.items (omega arith);
-}
+loop-node-init c =
+    rw (c.in_ok-placed.ensures.items, c.new-nulls.ensures.items, c.in_ok-values.ensures.places, c.in_ok-values.ensures.different)
+    (valuing_none c.args.classes.now (constants_at c.args.nodes.now c.args.least.now))
 
-pub loop-node-preserved-in-Some : goal.loop-node-preserved-in-Some
-loop-node-preserved-in-Some c =
-    let s = c.loop-node.invariant.labelled in
-    let k : ℕ = get_or c.args.classes.now c.loop-node.node 0 in
-    let w : k < length c.args.least.now = omega (arith, c.requires.within c.loop-node.node 0 (omega arith), c.requires.count) in
-    let at = placed_at c.args.nodes.now c.args.least.now k 0 w ∙ sym c.in-Some.ensures in
-    record {
-      labelled = rw (c.in_ok-push.ensures.items, c.in_ok-clone.ensures.cases)
-          (labelled_constant c.args.classes.now (constants_at c.args.nodes.now c.args.least.now) c.loop-node.node (labels_in (length c.args.classes.now) c.loop-node.labels.items) c.loop-node.nulls.items c.loop-node.values.items s
-          c.in-Some.constant.now at);
-      few = omega (arith, c.loop-node.invariant.few);
-    }
-
-pub label_of-requires-clause-class : goal.label_of-requires-clause-class
-label_of-requires-clause-class c = omega (arith, c.requires.within c.loop-node.node 0 (omega arith))
-
-pub label_of-requires-clause-fewer : goal.label_of-requires-clause-fewer
-label_of-requires-clause-fewer c = omega (arith, c.loop-node.invariant.few)
+pub loop-node-preserved-then-place-count : goal.loop-node-preserved-then-place-count
+loop-node-preserved-then-place-count c =
+    let e = rw c.as_slice.ensures.value at c.place_at-place.ensures in
+    rw c.in_ok-push.ensures.items
+    (valuing_again c.args.classes.now (constants_at c.args.nodes.now c.args.least.now) c.loop-node.node c.loop-node.placed.items c.loop-node.nulls.items c.loop-node.values.places.items
+    c.loop-node.values.different.items c.loop-node.invariant c.place_at-place.result e c.if-place-count.true)
 
 pub loop-node-preserved : goal.loop-node-preserved
 loop-node-preserved c =
-    let s = c.loop-node.invariant.labelled in
     let k : ℕ = get_or c.args.classes.now c.loop-node.node 0 in
-    let l : k < length c.args.least.now = omega (arith, c.requires.within c.loop-node.node 0 (omega arith), c.requires.count) in
-    let at = placed_at c.args.nodes.now c.args.least.now k 0 l ∙ sym c.in_default.ensures in
-    let given = c.in_ok-label.ensures in
-    record {
-      labelled = rw c.in_ok-push-2.ensures.items
-          (labelled_null c.args.classes.now (constants_at c.args.nodes.now c.args.least.now) c.loop-node.node (labels_in (length c.args.classes.now) c.loop-node.labels.items) c.loop-node.nulls.items c.loop-node.values.items s
-          (labels_in (length c.args.classes.now) c.label_of.new.labels.items) c.label_of.new.nulls.items c.in_ok-label.label (omega (arith, l, c.requires.count, s.count)) at given);
-      few = labels_few _ _ c.loop-node.nulls.items c.label_of.new.nulls.items _ _ c.in_ok-label.label c.loop-node.node given c.loop-node.invariant.few;
-    }
+    let here : k < length c.args.classes.now = c.requires.within c.loop-node.node 0 (omega arith) in
+    let l : k < length c.args.least.now = omega (arith, here, c.requires.count) in
+    let e = rw c.as_slice.ensures.value at c.place_at-place.ensures in
+    let none : length c.args.classes.now ≤ get_or c.loop-node.placed.items k (length c.args.classes.now) = omega (arith, e, c.if-place-count.false) in
+    let m : c.len-place.result ≡ length c.loop-node.values.different.items = omega (arith, c.len-place.ensures, c.loop-node.values.different.ok.0) in
+    let given = rw (← placed_at c.args.nodes.now c.args.least.now k 0 l) at c.in_ok-value.ensures in
+    rw (c.in_ok-push-2.ensures.items, c.in_ok-push-3.ensures.items, m)
+    (valuing_new c.args.classes.now (constants_at c.args.nodes.now c.args.least.now) c.loop-node.node c.loop-node.placed.items c.loop-node.nulls.items c.loop-node.values.places.items
+    c.loop-node.values.different.items c.loop-node.invariant here (omega arith) none c.in_ok-value.value c.write_place.new.placed.items (rw m at c.in_ok-write_place.ensures) c.new_value.new.nulls.items given)
 
 pub returns-clause-values : goal.returns-clause-values
 returns-clause-values c =
-    values_are c.args.classes.now (constants_at c.args.nodes.now c.args.least.now) c.loop-node.node (labels_in (length c.args.classes.now) c.loop-node.labels.items) c.loop-node.nulls.items c.loop-node.values.items
-    c.loop-node.invariant.labelled (omega arith) c.requires.apart
+    let n : c.loop-node.node ≡ length c.args.classes.now = omega arith in
+    let s : IsValuing c.args.classes.now (constants_at c.args.nodes.now c.args.least.now) (length c.args.classes.now) c.loop-node.placed.items c.loop-node.nulls.items c.loop-node.values.places.items c.loop-node.values.different.items = rw n at c.loop-node.invariant in
+    valued_values c.args.classes.now (constants_at c.args.nodes.now c.args.least.now) c.loop-node.placed.items c.loop-node.nulls.items c.loop-node.values.places.items c.loop-node.values.different.items s c.requires.apart
+
+pub returns-clause-placed : goal.returns-clause-placed
+returns-clause-placed c =
+    let n : c.loop-node.node ≡ length c.args.classes.now = omega arith in
+    let s : IsValuing c.args.classes.now (constants_at c.args.nodes.now c.args.least.now) (length c.args.classes.now) c.loop-node.placed.items c.loop-node.nulls.items c.loop-node.values.places.items c.loop-node.values.different.items = rw n at c.loop-node.invariant in
+    valued_placed c.args.classes.now (constants_at c.args.nodes.now c.args.least.now) c.loop-node.placed.items c.loop-node.nulls.items c.loop-node.values.places.items c.loop-node.values.different.items s
 
 pub returns-clause-labels : goal.returns-clause-labels
 returns-clause-labels c =
-    labels_are c.args.classes.now (constants_at c.args.nodes.now c.args.least.now) c.loop-node.node (labels_in (length c.args.classes.now) c.loop-node.labels.items) c.loop-node.nulls.items c.loop-node.values.items
-    c.loop-node.invariant.labelled
+    let n : c.loop-node.node ≡ length c.args.classes.now = omega arith in
+    let s : IsValuing c.args.classes.now (constants_at c.args.nodes.now c.args.least.now) (length c.args.classes.now) c.loop-node.placed.items c.loop-node.nulls.items c.loop-node.values.places.items c.loop-node.values.different.items = rw n at c.loop-node.invariant in
+    valued_labels c.args.classes.now (constants_at c.args.nodes.now c.args.least.now) c.loop-node.placed.items c.loop-node.nulls.items c.loop-node.values.places.items c.loop-node.values.different.items s

@@ -1,4 +1,5 @@
 use Rattle.cq_flat.specs.Constants.{constants_at}
+use Rattle.cq_flat.specs.Places.{values_in}
 use Rattle.cq_flat.proofs.Readings.{within_all, apart, values_hold, values_serve, clash_holds}
 use Rattle.cq_flat.proofs.flat.Flat.close.Goals as goal
 
@@ -19,15 +20,15 @@ entries_of-requires-clause-values c =
     let exact = rw c.as_slice.ensures.value at c.in_ok-classes.ensures in
     let least = rw (c.as_slice-2.ensures.value, c.as_slice-3.ensures.value) at c.in_ok-least.ensures in
     let values = rw (c.as_slice-7.ensures.value, c.as_slice-8.ensures.value, c.as_slice-9.ensures.value) at c.in_ok-values.ensures.values in
-    rw (c.as_slice-10.ensures.value, c.as_slice-11.ensures.value, c.as_slice-12.ensures.value)
-    (values_serve c.args.nodes.items c.args.equations.items c.in_ok-classes.classes.items exact (constants_at c.args.nodes.items c.in_ok-least.least.items) least c.in_ok-values.values.items values)
+    rw (c.as_slice-10.ensures.value, c.as_slice-11.ensures.value)
+    (values_serve c.args.nodes.items c.args.equations.items c.in_ok-classes.classes.items exact (constants_at c.args.nodes.items c.in_ok-least.least.items) least (values_in c.in_ok-values.values) values)
 
 pub returns-clause-values : goal.returns-clause-values
 returns-clause-values c =
     let exact = rw c.as_slice.ensures.value at c.in_ok-classes.ensures in
     let least = rw (c.as_slice-2.ensures.value, c.as_slice-3.ensures.value) at c.in_ok-least.ensures in
     let values = rw (c.as_slice-7.ensures.value, c.as_slice-8.ensures.value, c.as_slice-9.ensures.value) at c.in_ok-values.ensures.values in
-    rw c.from_vec.ensures (values_hold c.args.nodes.items c.args.equations.items c.in_ok-classes.classes.items exact (constants_at c.args.nodes.items c.in_ok-least.least.items) least c.in_ok-values.values.items values)
+    (values_hold c.args.nodes.items c.args.equations.items c.in_ok-classes.classes.items exact (constants_at c.args.nodes.items c.in_ok-least.least.items) least (values_in c.in_ok-values.values) values)
 
 pub returns-clause-clash : goal.returns-clause-clash
 returns-clause-clash c =
