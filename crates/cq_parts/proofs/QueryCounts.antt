@@ -5,14 +5,11 @@ use Rattle.std.specs.List.{flat_map, enumerate_from}
 use Rattle.std.proofs.lemmas.List.{append-nil, length-map, length-append, length-take-le, take_more}
 use Rattle.std.proofs.lemmas.Grind.{flat_map-append}
 use Rattle.std.proofs.lemmas.List.Concat.{length-flat_map}
-use Rattle.std.proofs.lemmas.List.Elements.{All-nil, All-cons, All-append, All-map}
+use Rattle.std.proofs.lemmas.List.Elements.{All-nil, All-cons, All-append}
 use Rattle.std.proofs.lemmas.List.Sums.{sum_by-cons}
 use Rattle.cq_base.specs.declared.name.Name.{Name}
-use Rattle.cq_base.specs.declared.raw.Raw.{Raw}
 use Rattle.cq_syntax.specs.declared.part.Spot.{Spot}
 use Rattle.cq_syntax.specs.declared.part.GroupSyn.{GroupSyn}
-use Rattle.cq_syntax.specs.declared.part.EqSyn.{EqSyn}
-use Rattle.cq_syntax.specs.declared.part.Bind.{Bind}
 use Rattle.cq_syntax.specs.declared.literal.QueryKey.{QueryKey}
 use Rattle.cq_syntax.specs.declared.literal.QueryBlock.{QueryBlock}
 use Rattle.cq_syntax.specs.declared.literal.QueryLit.{QueryLit}

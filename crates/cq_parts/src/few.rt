@@ -5,7 +5,7 @@ ghost use Rattle.cq_syntax.specs.declared.program.Body.TheVariants.{Mapping, Ins
 ghost use Rattle.cq_parts.specs.Few.{HasFewParts, part_count};
 ghost use Rattle.cq_theory.specs.TypesideParts.{literals_count};
 ghost use Rattle.cq_parts.specs.Parts.{name_of, clause_count, instance_count, key_count, mapping_count, query_count};
-ghost use Rattle.cq_parts.specs.Parts.{colimit_count, schema_count, transform_count, typeside_count, variable_count};
+ghost use Rattle.cq_parts.specs.Parts.{colimit_count, schema_count, typeside_count, variable_count};
 
 use cq_syntax::{
     Body, ColimitLit, Decl, EdgeSyn, FunSyn, GroupSyn, InstanceExp, InstanceLit, MapBlock,
