@@ -25,7 +25,7 @@ use Rattle.cq_program.specs.declared.reason.ProgramRefusal.{ProgramRefusal}
 use Rattle.cq_program.specs.Meanings.{ColimitMeant, Environment, PartMeant, SchemaMeant, colimit, colimit_used, meant_by, schema, schema_used, typeside}
 use Rattle.cq_program.specs.Checks.{a_colimit, a_schema, colimit_breach, colimit_given, colimit_of, first_apart, included, named_schemas, part_named, parts_used, posed_colimit}
 use Rattle.cq_program.specs.Environment.{AreSettled, IsPartPrinted, IsPartSettled, IsPrinted, IsSettled, Refuses, Tells, part_meant, used_meant, useds_meant}
-use Rattle.cq_program.specs.Parts.{colimit_parts, colimit_places, observation_part, path_eq_part}
+use Rattle.cq_parts.specs.Parts.{colimit_parts, colimit_places, observation_part, path_eq_part}
 use Rattle.cq_program.specs.Posing.{IsGrounded}
 use Rattle.cq_program.proofs.Given.{given, refused}
 use Rattle.cq_program.proofs.Settled.{colimit_settled, over_typeside, schema_printed, used_settled}

@@ -26,7 +26,7 @@ use Rattle.cq_program.specs.Meanings.{Checked, Ends, Environment, InstanceMeant,
 use Rattle.cq_program.specs.Checks.{Posed, a_transform, arrow_breach, ends_of, images_given, images_posed, transform_between, transform_posed}
 use Rattle.cq_program.specs.Environment.{Answers, AreEnds, IsTermModel, Refuses, Tells}
 use Rattle.cq_program.specs.Images.{broken_by_images, rule_on_images}
-use Rattle.cq_program.specs.Parts.{transform_count, transform_parts, transform_places}
+use Rattle.cq_parts.specs.Parts.{transform_count, transform_parts, transform_places}
 use Rattle.cq_program.specs.Posing.{IsGrounded, posed_as}
 use Rattle.cq_program.specs.Program.{IsTransformOf}
 use Rattle.cq_program.proofs.Given.{given_after, given_parts, refused, refused_then}

@@ -1,6 +1,4 @@
 pub mod Constants
-pub mod Counts
-pub mod QueryCounts
 pub mod Listings
 pub mod Entries
 pub mod Given

@@ -54,9 +54,9 @@ use Rattle.cq_program.specs.declared.reason.Reason.TheVariants.{Oversized, NameC
 use Rattle.cq_program.specs.Images.{broken_by_images}
 use Rattle.cq_program.specs.declared.stating.Format.{Format}
 use Rattle.cq_program.specs.declared.stating.Format.TheVariants.{First, Second}
-use Rattle.cq_program.specs.Parts.{typeside_parts, typeside_places, schema_parts, schema_places, instance_parts, instance_places}
-use Rattle.cq_program.specs.Parts.{colimit_parts, colimit_places}
-use Rattle.cq_program.specs.Parts.{mapping_parts, mapping_places, query_parts, query_places, transform_parts, transform_places}
+use Rattle.cq_parts.specs.Parts.{typeside_parts, typeside_places, schema_parts, schema_places, instance_parts, instance_places}
+use Rattle.cq_parts.specs.Parts.{colimit_parts, colimit_places}
+use Rattle.cq_parts.specs.Parts.{mapping_parts, mapping_places, query_parts, query_places, transform_parts, transform_places}
 use Rattle.cq_program.specs.Meanings.{Checked, ColimitMeant, Ends, Environment, InstanceMeant, MappingMeant, PartMeant, QueryMeant}
 use Rattle.cq_program.specs.Meanings.{SchemaMeant, TransformMeant, and_then, colimit, colimit_used, instance, instance_used, mapping}
 use Rattle.cq_program.specs.Meanings.{mapping_used, meant_by, query, query_used, schema, schema_used, transform, transform_used, typeside}

@@ -1,5 +1,4 @@
 pub mod Lines
-pub mod Parts
 pub mod Images
 pub mod Meanings
 pub mod Checks

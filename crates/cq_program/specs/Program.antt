@@ -1,15 +1,9 @@
 -- What a program means, and the first rule that it breaks.
-use Rattle.std.specs.Prelude.{◌≡◌, ◌⊎◌, true, false, ℕ, ◌<◌, ◌≤◌, ◌-◌, ◌^◌, List, [], ◌∷◌, ◌++◌, Option, Some, None, Ok, Err, All, length}
+use Rattle.std.specs.Prelude.{◌≡◌, ◌⊎◌, true, false, ℕ, ◌≤◌, List, [], ◌∷◌, ◌++◌, Option, Some, None, Ok, Err, All}
 use Rattle.std.specs.Prelude.{slice_get}
 use Rattle.std.specs.List.{filter_map}
 use Rattle.cq_base.specs.declared.name.Name.{Name}
 use Rattle.cq_base.specs.declared.place.Place.{Place}
-use Rattle.cq_syntax.specs.declared.program.Body.{Body}
-use Rattle.cq_syntax.specs.declared.program.Body.TheVariants.{Typeside, Schema, Colimit, Mapping, Query, Instance, Transform as Transformed}
-use Rattle.cq_syntax.specs.declared.program.SchemaExp.TheVariants as schema_exp
-use Rattle.cq_syntax.specs.declared.program.InstanceExp.TheVariants as instance_exp
-use Rattle.cq_syntax.specs.declared.program.MappingExp.TheVariants as mapping_exp
-use Rattle.cq_syntax.specs.declared.program.TransformExp.TheVariants as transform_exp
 use Rattle.cq_syntax.specs.declared.program.Decl.{Decl}
 use Rattle.cq_syntax.specs.declared.program.Program.{Program}
 use Rattle.cq_theory.specs.declared.presentation.Presentation.{Presentation}
@@ -42,7 +36,6 @@ use Rattle.cq_eval.specs.Refused.{NoneHasMany, IsFirstMany, IsTooLarge}
 use Rattle.cq_transform.specs.Refusals.{IsBrokenAt}
 use Rattle.cq_transform.specs.Transforms.{GoesFrom}
 use Rattle.cq_check.specs.Answers.{IsDerivedWithin, IsNotPreserved, IsTooDeepDuty, IsTooWideDuty, IsUnsoundAt, IsTooDeepAt, IsTooWideAt}
-use Rattle.cq_program.specs.Parts.{colimit_count, typeside_count, schema_count, mapping_count, query_count, instance_count, transform_count}
 use Rattle.cq_program.specs.Meanings.{Meant, typeside, schema, colimit, mapping, query, instance, transform, Ends, Environment}
 use Rattle.cq_program.specs.Checks.{Posed, a_typeside}
 use Rattle.cq_program.specs.Checks.{a_schema, a_mapping, an_identity, a_colimit, an_inclusion, a_query, a_presentation}
@@ -294,19 +287,3 @@ IsWithinLimits depth told program =
     (before : List Decl) (d : Decl) (after : List Decl) (env : Environment) (stated : Stated) (posed : Posed)
     → program.decls ≡ before ++ d ∷ after → Follow told [] before env → stated_by env d ≡ Ok stated → Reads told stated posed
     → KeepsLimits depth posed
-
--- how many parts a declaration has
-abbrev pub part_count : Body → ℕ
-part_count (Typeside lit) = typeside_count lit
-part_count (Schema (schema_exp.Literal lit)) = schema_count lit
-part_count (Colimit lit) = colimit_count lit
-part_count (Mapping (mapping_exp.Literal lit)) = mapping_count lit
-part_count (Query lit) = query_count lit
-part_count (Instance (instance_exp.Literal lit)) = instance_count lit
-part_count (Transformed (transform_exp.Literal lit)) = transform_count lit
-part_count _ = 0
-
--- declarations and parts can be counted by numbers of 32 bits
-pub record HasFewParts (program : Program) : Type 0 where
-  pub decls : length program.decls < 2 ^ 32 - 1
-  pub parts : All (λ d. part_count d.body < 2 ^ 32) program.decls

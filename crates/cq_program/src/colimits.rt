@@ -13,18 +13,17 @@ ghost use Rattle.cq_program.specs.Environment.{Answers, AreSettled, Refuses, Tel
 ghost use Rattle.cq_program.specs.Environment.{IsPartPrinted, part_meant, useds_meant};
 ghost use Rattle.cq_program.specs.Meanings.{Environment as Meanings, SchemaMeant, meant_by, schema_used};
 ghost use Rattle.cq_program.specs.Meanings.{typeside as typeside_meant};
-ghost use Rattle.cq_program.specs.Parts.{colimit_count, colimit_parts as literal_parts};
+ghost use Rattle.cq_parts.specs.Parts.{colimit_count, colimit_parts as literal_parts};
 ghost use Rattle.cq_program.specs.Posing.{IsGrounded, IsPosed, posed_as};
 
 use crate::environment::{Environment, NamedColimit, NamedPart, NamedSchema, copy_named};
-use crate::parts::colimit_parts;
-use crate::places::colimit_places;
 use crate::posing::{Statement, place_of};
 use crate::reason::{ProgramRefusal, Reason};
 use crate::used::colimit_of;
 use cq_base::{Name, Place, Seq};
 use cq_colimit::{Colimit, ColimitRefusal, colimit};
 use cq_mapping::Mapping;
+use cq_parts::{colimit_parts, colimit_places};
 use cq_syntax::{ColimitLit, Spot};
 use cq_theory::{Schema, Typeside};
 use std::alloc::{AllocError, Global};

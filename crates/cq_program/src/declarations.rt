@@ -2,7 +2,8 @@
 ghost use Rattle.std.specs.Prelude.{◌≡◌, ◌<◌, ◌≤◌, ◌-◌, ◌^◌, ◌++◌, [], IfOk, IfErr, OnOk, length, map};
 ghost use Rattle.std.specs.List.{filter_map, flat_map};
 ghost use Rattle.cq_import.specs.Folders.{Keeps};
-ghost use Rattle.cq_program.specs.Program.{Declares, Follow, HasFewParts, Means, listing_of, part_count};
+ghost use Rattle.cq_parts.specs.Few.{HasFewParts, part_count};
+ghost use Rattle.cq_program.specs.Program.{Declares, Follow, Means, listing_of};
 ghost use Rattle.cq_program.specs.Environment.{AreSettled, WillSettle, environment_of, meant};
 ghost use Rattle.cq_program.specs.Posing.{AddsDecl, RefusesDecl, RefusesProgram};
 ghost use Rattle.cq_program.specs.Named.{listed_as, listings_in};

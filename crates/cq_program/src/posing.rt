@@ -3,8 +3,8 @@ ghost use Rattle.std.specs.Prelude.{◌≡◌, ◌<◌, ◌^◌, IfOk, length};
 ghost use Rattle.cq_base.specs.declared.name.Name.{Name as TheName};
 ghost use Rattle.cq_syntax.specs.declared.program.Body.TheVariants.{Instance as Instanced};
 ghost use Rattle.cq_theory.specs.Presentation.{IsPresentation};
-ghost use Rattle.cq_program.specs.Program.{part_count};
-ghost use Rattle.cq_program.specs.Parts.{typeside_count, schema_count, mapping_count, instance_count};
+ghost use Rattle.cq_parts.specs.Few.{part_count};
+ghost use Rattle.cq_parts.specs.Parts.{typeside_count, schema_count, mapping_count, instance_count};
 ghost use Rattle.cq_program.specs.Checks.{arrow_breach, body_posed, folder_of, identity_posed, instance_posed};
 ghost use Rattle.cq_program.specs.Checks.{mapping_given, mapping_posed, part_breach, place_of, presentation_given};
 ghost use Rattle.cq_program.specs.Checks.{schema_given, schema_posed, typeside_given, typeside_posed};
@@ -15,14 +15,16 @@ use crate::colimits::{pose_colimit, pose_inclusion, pose_joined_schema};
 use crate::environment::{Environment, NamedColimit, NamedEnds, NamedSchema, NamedTransform};
 use crate::gluing::{pose_coproduct, pose_pushout};
 use crate::moves::{pose_delta, pose_sigma};
-use crate::parts::{instance_parts, mapping_parts, schema_parts, typeside_parts};
-use crate::places::{instance_places, mapping_places, schema_places, typeside_places};
 use crate::queries::{pose_coeval, pose_eval, pose_query};
 use crate::reason::{ProgramRefusal, Reason};
 use crate::transforms::{BrokenImages, pose_identical, pose_transform};
 use cq_base::{Name, Place, Seq};
 use cq_mapping::Mapping;
 use cq_model::{Instance, Transform};
+use cq_parts::{
+    instance_parts, instance_places, mapping_parts, mapping_places, schema_parts, schema_places,
+    typeside_parts, typeside_places,
+};
 use cq_query::Query;
 use cq_syntax::{
     Body, Decl, InstanceExp, InstanceLit, MappingExp, MappingLit, SchemaExp, SchemaLit, Spot,

@@ -5,7 +5,7 @@ ghost use Rattle.cq_import.specs.Faults.{told};
 ghost use Rattle.cq_import.specs.Folders.{Keeps, Raises};
 ghost use Rattle.cq_syntax.specs.declared.program.Body.TheVariants.{Instance as Instanced};
 ghost use Rattle.cq_theory.specs.Presentation.{IsPresentation};
-ghost use Rattle.cq_program.specs.Program.{part_count};
+ghost use Rattle.cq_parts.specs.Few.{part_count};
 ghost use Rattle.cq_program.specs.Checks.{a_folder, body_posed, body_stated, folder_of, folder_stated, stated_by};
 ghost use Rattle.cq_program.specs.Checks.{stated_from};
 ghost use Rattle.cq_program.specs.Environment.{Answers, AreSettled, environment_of};

@@ -2,9 +2,9 @@ use Rattle.std.proofs.Common.{ap, ◌∙◌, refl}
 use Rattle.cq_mapping.specs.MappingData.{MappingData}
 use Rattle.cq_theory.specs.declared.lookup.ArrowRefusal.TheVariants as refusals
 use Rattle.cq_mapping.specs.MappingParts.{mapping_fault, mapping_made}
-use Rattle.cq_program.specs.Parts.{mapping_parts, mapping_places}
+use Rattle.cq_parts.specs.Parts.{mapping_parts, mapping_places}
 use Rattle.cq_program.specs.Checks.{mapping_given, arrow_breach}
-use Rattle.cq_program.proofs.Counts.{mapping_fits}
+use Rattle.cq_parts.proofs.Counts.{mapping_fits}
 use Rattle.cq_program.proofs.Given.{given_parts, refused_parts}
 use Rattle.cq_program.proofs.posing.mapping_in.Goals as goal
 

@@ -2,9 +2,9 @@ use Rattle.std.proofs.Common.{◌∙◌, refl}
 use Rattle.cq_theory.specs.declared.lookup.TheoryRefusal.TheVariants as refusals
 use Rattle.cq_theory.specs.Parts.{presentation_fault, presented}
 use Rattle.cq_theory.specs.declared.parts.PresentationParts.{PresentationParts}
-use Rattle.cq_program.specs.Parts.{instance_parts, instance_places}
+use Rattle.cq_parts.specs.Parts.{instance_parts, instance_places}
 use Rattle.cq_program.specs.Checks.{presentation_given, part_breach}
-use Rattle.cq_program.proofs.Counts.{instance_fits}
+use Rattle.cq_parts.proofs.Counts.{instance_fits}
 use Rattle.cq_program.proofs.Given.{given_parts, refused_parts}
 use Rattle.cq_program.proofs.posing.presentation_in.Goals as goal
 

@@ -2,9 +2,9 @@ use Rattle.std.proofs.Common.{◌∙◌, refl, ap}
 use Rattle.cq_theory.specs.declared.lookup.TheoryRefusal.TheVariants as refusals
 use Rattle.cq_theory.specs.SchemaData.{SchemaData}
 use Rattle.cq_theory.specs.SchemaParts.{schema_fault, schema_made}
-use Rattle.cq_program.specs.Parts.{schema_parts, schema_places}
+use Rattle.cq_parts.specs.Parts.{schema_parts, schema_places}
 use Rattle.cq_program.specs.Checks.{schema_given, part_breach}
-use Rattle.cq_program.proofs.Counts.{schema_fits}
+use Rattle.cq_parts.proofs.Counts.{schema_fits}
 use Rattle.cq_program.proofs.Given.{given_parts, refused_parts}
 use Rattle.cq_program.proofs.posing.schema_in.Goals as goal
 

@@ -1,9 +1,9 @@
 use Rattle.std.proofs.Common.{◌∙◌, refl}
 use Rattle.cq_theory.specs.declared.lookup.TheoryRefusal.TheVariants as refusals
 use Rattle.cq_theory.specs.TypesideParts.{typeside_fault, typeside_made}
-use Rattle.cq_program.specs.Parts.{typeside_parts, typeside_places}
+use Rattle.cq_parts.specs.Parts.{typeside_parts, typeside_places}
 use Rattle.cq_program.specs.Checks.{typeside_given, part_breach}
-use Rattle.cq_program.proofs.Counts.{typeside_fits}
+use Rattle.cq_parts.proofs.Counts.{typeside_fits}
 use Rattle.cq_program.proofs.Given.{given_parts, refused_parts}
 use Rattle.cq_program.proofs.posing.typeside_in.Goals as goal
 

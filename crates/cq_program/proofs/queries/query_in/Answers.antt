@@ -2,9 +2,9 @@ use Rattle.std.proofs.Common.{ap, ◌∙◌, refl}
 use Rattle.cq_query.specs.QueryData.{QueryData}
 use Rattle.cq_theory.specs.declared.lookup.ArrowRefusal.TheVariants as refusals
 use Rattle.cq_query.specs.QueryParts.{query_fault, query_made}
-use Rattle.cq_program.specs.Parts.{query_parts, query_places}
+use Rattle.cq_parts.specs.Parts.{query_parts, query_places}
 use Rattle.cq_program.specs.Checks.{query_given, arrow_breach}
-use Rattle.cq_program.proofs.QueryCounts.{query_fits, variables_within, clauses_within}
+use Rattle.cq_parts.proofs.QueryCounts.{query_fits, variables_within, clauses_within}
 use Rattle.cq_program.proofs.Given.{given_parts, refused_parts}
 use Rattle.cq_program.proofs.queries.query_in.Goals as goal
 

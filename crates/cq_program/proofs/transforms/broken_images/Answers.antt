@@ -4,7 +4,7 @@ use Rattle.cq_base.specs.declared.raw.Raw.{Raw}
 use Rattle.cq_transform.specs.Images.{images_fault, images_made}
 use Rattle.cq_transform.specs.Refusals.{IsBrokenAt}
 use Rattle.cq_program.specs.Environment.{ends_meant}
-use Rattle.cq_program.specs.Parts.{transform_parts}
+use Rattle.cq_parts.specs.Parts.{transform_parts}
 use Rattle.cq_program.proofs.ImagesPosed.{images_accepted}
 use Rattle.cq_program.proofs.transforms.broken_images.Goals as goal
 

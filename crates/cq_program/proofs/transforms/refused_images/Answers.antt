@@ -2,7 +2,7 @@ use Rattle.std.proofs.Common.{subst}
 use Rattle.cq_transform.specs.declared.refusal.TransformRefusal.{TransformRefusal}
 use Rattle.cq_transform.specs.Transforming.{Tells}
 use Rattle.cq_program.specs.Environment.{ends_meant}
-use Rattle.cq_program.specs.Parts.{transform_parts}
+use Rattle.cq_parts.specs.Parts.{transform_parts}
 use Rattle.cq_program.proofs.ImagesPosed.{images_refused}
 use Rattle.cq_program.proofs.transforms.refused_images.Goals as goal
 

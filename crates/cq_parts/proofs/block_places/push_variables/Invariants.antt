@@ -1,0 +1,7 @@
+use Rattle.std.proofs.Common.{◌≡◌, ◌++◌, take}
+use Rattle.std.specs.List.{flat_map}
+use Rattle.cq_parts.specs.Parts.{variable_places}
+use Rattle.cq_parts.proofs.block_places.push_variables.Given as goal
+
+abbrev pub invariant-loop-block : goal.invariant-loop-block
+invariant-loop-block l = l.places.items ≡ l.initial.places.items ++ flat_map variable_places (take l.block-index l.blocks)

@@ -1,7 +1,0 @@
-use Rattle.std.proofs.Common.{◌≡◌, take}
-use Rattle.std.specs.List.{enumerate_from, flat_map}
-use Rattle.cq_program.specs.Parts.{block_clauses}
-use Rattle.cq_program.proofs.query_parts.clauses_in.Given as goal
-
-abbrev pub invariant-loop-number : goal.invariant-loop-number
-invariant-loop-number l = l.parts.items ≡ flat_map block_clauses (enumerate_from 0 (take l.number l.blocks))
