@@ -1,9 +1,8 @@
 -- The nodes of the equations stand for themselves, behind the leaves; and each row has the name at its place.
-use Rattle.std.proofs.Common.{ℕ, zero, suc, List, [], ◌∷◌, ◌++◌, Some, ◌≡◌, inl, inr, length, refl, sym, ap, subst, ◌∙◌, arith, append_assoc}
+use Rattle.std.proofs.Common.{ℕ, suc, List, [], ◌∷◌, ◌++◌, Some, ◌≡◌, inl, inr, length, refl, sym, ap, subst, ◌∙◌, arith, append_assoc}
 use Rattle.std.specs.Prelude.{slice_get}
 use Rattle.std.specs.List.{flat_map}
 use Rattle.std.proofs.lemmas.List.Concat.{flat_map-append}
-use Rattle.std.proofs.lemmas.Option.{same_Some}
 use Rattle.cq_tables.specs.Content.{Content}
 use Rattle.cq_model.specs.declared.places.Places.{Places}
 use Rattle.cq_model.specs.Built.{IsBuilt}
@@ -15,20 +14,18 @@ use Rattle.cq_model.specs.NodeTerms.{side_terms, equation_sides, entity_sides, g
 use Rattle.cq_model.specs.Pushing.{AreEquationsOf, HasMore}
 use Rattle.cq_model.specs.Thins.{Thins}
 use Rattle.cq_model.proofs.Thinning.{Thins-append}
-use Rattle.cq_model.proofs.Lists.{IsIn, in_append, from_flat_map, get-append_front}
-use Rattle.cq_model.proofs.PlacedLeaves.{split_at, out-Gen}
-use Rattle.cq_model.proofs.MadeTerms.{IsMadeLayer, IsMade, AllMade, sides_made, made_thinned, from_layer}
+use Rattle.cq_model.proofs.Lists.{get-append_front}
+use Rattle.cq_model.proofs.PlacedLeaves.{split_at}
+use Rattle.cq_model.proofs.MadeTerms.{IsMadeLayer, AllMade, sides_made, made_thinned, from_layer}
 use Rattle.cq_model.proofs.PushedTerms.{StandsFor-more}
-use Rattle.cq_model.proofs.Variants.{out-Att}
 use Rattle.cq_theory.specs.declared.presentation.Presentation.{Presentation}
 use Rattle.cq_theory.specs.SchemaData.{SchemaData as Schema}
 use Rattle.cq_theory.specs.declared.term.EntTerm.{EntTerm}
 use Rattle.cq_theory.specs.declared.term.TypeTerm.{TypeTerm}
 use Rattle.cq_theory.specs.declared.term.TypeTerm.TheVariants as term
 use Rattle.cq_theory.specs.declared.term.TypeTerm.TheOpen as layer
-use Rattle.cq_theory.specs.declared.term.TypeTerm.TheViews.{out-TypeTerm, roll-TypeTerm}
+use Rattle.cq_theory.specs.declared.term.TypeTerm.TheViews.{out-TypeTerm}
 use Rattle.cq_theory.specs.Canonical.{below}
-use Rattle.cq_theory.proofs.TypeTerms.{Each, on_terms}
 
 module _ (m : Content) (rows : List ℕ) (places : Places) where
   -- a constant or an application stands for itself

@@ -1,5 +1,5 @@
 -- Which refusals of `build` are these of moved instances.
-use Rattle.std.proofs.Common.{◌≡◌, refl, ap}
+use Rattle.std.proofs.Common.{◌≡◌, refl}
 use Rattle.cq_theory.specs.declared.constant.Con.{Con}
 use Rattle.cq_model.specs.declared.building.BuildRefusal.{BuildRefusal}
 use Rattle.cq_model.specs.declared.building.BuildRefusal.TheVariants as build

@@ -1,5 +1,5 @@
 -- What loops append, one step on: over the numbers below a count.
-use Rattle.std.proofs.Common.{ℕ, zero, suc, List, [], ◌∷◌, ◌++◌, ◌≡◌, ◌<◌, ◌≤◌, ◌+◌, map, take, length, get_or, slice_index, sym, ap, ◌∙◌, append_assoc, arith}
+use Rattle.std.proofs.Common.{ℕ, zero, suc, List, [], ◌∷◌, ◌++◌, ◌≡◌, ◌<◌, ◌≤◌, ◌+◌, map, length, slice_index, sym, ap, ◌∙◌, append_assoc, arith}
 use Rattle.std.specs.Prelude.{replicate, sum}
 use Rattle.std.specs.List.{range_with_len, flat_map}
 use Rattle.std.proofs.lemmas.List.{append-nil, map-append, replicate_more}

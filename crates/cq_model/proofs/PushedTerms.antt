@@ -12,7 +12,7 @@ use Rattle.cq_flat.specs.declared.node.Node.{Node}
 use Rattle.cq_flat.specs.declared.node.Node.TheVariants as node
 use Rattle.cq_model.specs.declared.places.Places.{Places}
 use Rattle.cq_model.specs.NodeListData.{NodeListData}
-use Rattle.cq_model.specs.NodeTerms.{made_terms, made_step, cell_place, StandsAt, StandsFor, EachStands, IsNodeAt, AreNodes, AreTypes}
+use Rattle.cq_model.specs.NodeTerms.{made_terms, made_step, cell_place, StandsAt, StandsFor, EachStands, IsNodeAt}
 use Rattle.cq_model.specs.Pushing.{HavePlaces, AreReadable, IsReadable, IsPlacing, AreTermsOf, IsPushed}
 use Rattle.cq_theory.specs.declared.constant.Con.{Con}
 use Rattle.cq_theory.specs.declared.presentation.Presentation.{Presentation}

@@ -1,5 +1,5 @@
 -- Equations that are added: their sides are joined, or a constant takes the node of a leaf.
-use Rattle.std.proofs.Common.{ℕ, zero, suc, List, [], ◌∷◌, ◌++◌, Option, Some, ◌≡◌, ◌<◌, ◌≤◌, ◌+◌, ◌⊎◌, inl, inr, length, get_or, refl, sym, ap, subst, ◌∙◌, arith, length-append, append_assoc}
+use Rattle.std.proofs.Common.{ℕ, List, [], ◌∷◌, ◌++◌, Some, ◌≡◌, ◌⊎◌, inl, inr, length, get_or, refl, sym, ap, subst, ◌∙◌, arith, length-append, append_assoc}
 use Rattle.std.specs.Prelude.{slice_get, slice_set}
 use Rattle.std.proofs.lemmas.List.{append-nil}
 use Rattle.std.proofs.lemmas.Option.{slice_get_within, slice_get-get_or, same_Some}
@@ -8,9 +8,9 @@ use Rattle.cq_flat.specs.declared.node.Node.{Node}
 use Rattle.cq_flat.specs.declared.node.Node.TheVariants as node
 use Rattle.cq_model.specs.declared.places.Places.{Places}
 use Rattle.cq_model.specs.NodeListData.{NodeListData}
-use Rattle.cq_model.specs.NodeTerms.{made_terms, side_terms, StandsFor, IsNodeAt, IsConstantTerm, IsLeafOrConstant, AreNodes, AreTypes, AreSidesOf, StandForSides, IsJoined, IsTaken, IsTakenFor, IsGiven}
-use Rattle.cq_model.specs.Pushing.{IsPlacing, AreTermsOf, AreEquationsOf, HasMore, IsPushed, IsEquated}
-use Rattle.cq_model.specs.Thins.{Thins, ended, skipped}
+use Rattle.cq_model.specs.NodeTerms.{made_terms, side_terms, StandsFor, IsNodeAt, IsConstantTerm, AreNodes, AreSidesOf, StandForSides, IsTakenFor}
+use Rattle.cq_model.specs.Pushing.{AreTermsOf, AreEquationsOf, IsPushed, IsEquated}
+use Rattle.cq_model.specs.Thins.{ended, skipped}
 use Rattle.cq_theory.specs.declared.constant.Con.{Con}
 use Rattle.cq_theory.specs.declared.presentation.Presentation.{Presentation}
 use Rattle.cq_theory.specs.SchemaData.{SchemaData as Schema}

@@ -111,14 +111,7 @@ pub fn run<F: Folder, K: Sink>(
                 Answer::Refused(line) => tell(out, line.as_slice(), Status::Refused),
                 Answer::Unread(line) => tell(out, line.as_slice(), Status::Read),
                 Answer::Accepted(instances) => {
-                    publish(
-                        alloc,
-                        request,
-                        instances.as_slice(),
-                        exporters,
-                        spoiled,
-                        out,
-                    )
+                    publish(alloc, request, instances, exporters, spoiled, out)
                 }
             }
         }
@@ -140,13 +133,13 @@ fn tell<K: Sink>(out: &mut K, line: &[u8], wanted: Status) -> Status
 fn publish<K: Sink>(
     alloc: Global,
     request: Request<'_>,
-    instances: &[Named],
+    instances: Vec<Named>,
     exporters: &mut Vec<Box<dyn Exporter>>,
     spoiled: &mut Vec<Box<dyn Exporter>>,
     out: &mut K,
 ) -> Status
-    requires { IsMeant (map listed_as instances.now) }
-    ensures { Publishes (ask_of request.entry) (map listed_as instances.now)
+    requires { IsMeant (map listed_as instances.items) }
+    ensures { Publishes (ask_of request.entry) (map listed_as instances.items)
         (record { held = K.held out.old; faults = K.faults out.old; spare = K.spare out.old })
         (record { held = K.held out.new; faults = K.faults out.new; spare = K.spare out.new })
         (record { exporters = map account exporters.old.items; spoiled = map account spoiled.old.items })
@@ -168,7 +161,7 @@ fn publish<K: Sink>(
             left,
             right,
             ..
-        } => answer_question(alloc, instances, instance, left, right, out),
+        } => answer_question(alloc, instances.as_slice(), instance, left, right, out),
     }
 }
 
@@ -197,19 +190,22 @@ fn answer_question<K: Sink>(
 fn export_all<K: Sink>(
     alloc: Global,
     view: View,
-    instances: &[Named],
+    instances: Vec<Named>,
     exporters: &mut Vec<Box<dyn Exporter>>,
     spoiled: &mut Vec<Box<dyn Exporter>>,
     out: &mut K,
 ) -> Status
-    ensures { Stage (files_of (map listed_as instances.now)) (shown_in view (map listed_as instances.now))
+    ensures { Stage (files_of (map listed_as instances.items)) (shown_in view (map listed_as instances.items))
         (record { held = K.held out.old; faults = K.faults out.old; spare = K.spare out.old })
         (record { held = K.held out.new; faults = K.faults out.new; spare = K.spare out.new })
         (record { exporters = map account exporters.old.items; spoiled = map account spoiled.old.items })
         (record { exporters = map account exporters.new.items; spoiled = map account spoiled.new.items })
         result }
 {
-    match output_of(alloc, view, instances) {
+    let output = output_of(alloc, view, instances.as_slice());
+    // Their texts are all that is left to write, and the instances take more memory than these.
+    drop(instances);
+    match output {
         Ok(output) => export(exporters, spoiled, out, &output),
         Err(_) => Status::Memory,
     }

@@ -1,5 +1,4 @@
-use Rattle.std.proofs.Common.{ap, map, refl}
-use Rattle.cq_program.specs.Named.{listed_as}
+use Rattle.std.proofs.Common.{refl}
 use Rattle.cq_run.proofs.Gives.{usage_gives, refusal_gives, unread_gives, instances_give}
 use Rattle.cq_run.proofs.Asking.{meant_slice}
 use Rattle.cq_run.proofs.Complete.{run_completes}
@@ -23,13 +22,13 @@ returns-in-Unread-clause-gives g c =
 pub publish-requires : goal.publish-requires
 publish-requires g c =
     let judged = c.in-Accepted.ensures.answers in
-    meant_slice _ judged.text _ _ (ap (map listed_as) c.as_slice-in-Accepted.ensures.value) judged.judges
+    meant_slice _ judged.text _ _ refl judged.judges
 
 pub returns-in-Accepted-clause-gives : goal.returns-in-Accepted-clause-gives
 returns-in-Accepted-clause-gives g c =
     let judged = c.in-Accepted.ensures.answers in
     instances_give _ _ _ _ judged.text _ _ _ _ (rw c.in-Ok-Some.field-0-is at c.in-Ok-Some.ensures.reads) judged.is_text judged.judges
-    (ap (map listed_as) c.as_slice-in-Accepted.ensures.value) c.publish.ensures (rw c.only_of.ensures at c.keep_format.ensures) refl
+    refl c.publish.ensures (rw c.only_of.ensures at c.keep_format.ensures) refl
 
 pub returns-in-Ok-None-clause-complete : goal.returns-in-Ok-None-clause-complete
 returns-in-Ok-None-clause-complete g c = run_completes _ _ _ _ (returns-in-Ok-None-clause-gives g c)
