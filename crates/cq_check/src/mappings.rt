@@ -51,7 +51,8 @@ fn entities_of(alloc: Global, duties: &[Duty]) -> Result<Vec<u32>, AllocError>
     Ok(entities)
 }
 
-/// The duties of a mapping, their places by the entity over which they are, and the target, over which they are decided.
+/// The duties of a mapping, their places by the entity over which they are, and the target, over which they are
+/// decided.
 #[derive(Drop)]
 struct DutyList<'a> {
     duties: Vec<Duty>,

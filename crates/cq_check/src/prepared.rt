@@ -16,6 +16,7 @@ pub struct Prepared<'a> {
 }
 
 impl<'a> Prepared<'a> {
+    /// A schema, prepared.
     pub fn new(alloc: Global, schema: &'a Schema) -> Result<Prepared<'a>, AllocError>
         ensures { IfOk result (IsPreparedFor schema.now) }
     {

@@ -14,7 +14,8 @@ theory_at o = theory_of o.schema.now o.presentation.now
 
 -- if there are rows, the outline lists the path equations
 abbrev pub AreListed : Origin → Content → Type 0
-AreListed o m = 0 < made_of m → AreGroups (path_eq_sources o.schema.now.path_eqs) (length o.schema.now.entities) o.outline.now.path_equations
+AreListed o m = 0 < made_of m
+    → AreGroups (path_eq_sources o.schema.now.path_eqs) (length o.schema.now.entities) o.outline.now.path_equations
 
 -- the tables are over the schema, the path equations are listed, and each generator has its current row
 pub record IsReady (o : Origin) (m : Content) (e : Entries) : Type 0 where
