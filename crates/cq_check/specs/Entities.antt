@@ -2,6 +2,7 @@
 use Rattle.std.specs.Prelude.{ℕ, List, Option, Some, ◌≡◌, ◌<◌, ◌≤◌, length, map, take, option_map, slice_get}
 use Rattle.cq_check.specs.Answers.{IsDerived, over}
 use Rattle.cq_check.specs.Deciding.{IsCause}
+use Rattle.cq_check.specs.Prepared.{IsPreparedFor}
 use Rattle.cq_check.specs.declared.deciding.Cause.{Cause}
 use Rattle.cq_check.specs.declared.deciding.Unmet.{Unmet}
 use Rattle.cq_check.specs.declared.mappings.DutyList.{DutyList}
@@ -28,6 +29,7 @@ module _ (F : Mapping) where
   pub record AreDuties (list : DutyList) : Type 0 where
     pub are : list.duties.items ≡ duties_of F
     pub groups : AreGroups (duty_entities (duties_of F)) (length F.target.entities) list.by_entity
+    pub target : IsPreparedFor F.target list.target
 
   abbrev pub IsMetDuty : Duty → Type 0
   IsMetDuty duty = IsDerived F.target (over F duty) duty.equation

@@ -6,6 +6,7 @@ pub mod Sound
 pub mod Adding
 pub mod Closed
 pub mod Answers
+pub mod Prepared
 pub mod Asking
 pub mod Deciding
 pub mod Entities

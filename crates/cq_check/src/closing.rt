@@ -3,6 +3,7 @@ ghost use Rattle.std.specs.Prelude.{ℕ, ◌≡◌, ◌<◌, IfOk, MatchOption, 
 ghost use Rattle.cq_check.specs.Asking.{AreMade, AreKnown, AreWellSorted, AllJudged};
 ghost use Rattle.cq_check.specs.Closed.{IsAmong, IsTold, AreTold, AreCompared};
 ghost use Rattle.cq_check.specs.declared.asking.Asked.TheVariants.{Answered};
+ghost use Rattle.cq_check.specs.Prepared.{AreObservations};
 ghost use Rattle.cq_flat.specs.Nodes.{HasEarlierArguments, AreSides};
 
 use crate::asking::{Asked, MadeRows, ask_all};
@@ -10,7 +11,7 @@ use crate::equations::{push_given, push_observations};
 use crate::nodes::NodeList;
 use cq_flat::Flat;
 use cq_terms::is_same_value;
-use cq_theory::{Equation, Presentation, Schema};
+use cq_theory::{Equation, Groups, Presentation, Schema};
 use std::alloc::{AllocError, Global};
 
 /// The answers, where no nodes have to be compared.
@@ -66,14 +67,17 @@ fn compare(alloc: Global, list: NodeList, asked: &[Asked]) -> Result<Vec<bool>, 
 
 /// Whether the sides of each equation are equal over rows: yes only where it is derivable, and no only where no
 /// derivation concludes it within a depth up to which all terms lead to rows. The nodes of all sides go into one list,
-/// which is closed once, and only where some nodes have to be compared.
+/// which is closed once, and only where some nodes have to be compared. The places of the observation equations are
+/// given by entity.
 pub fn are_equal(
     alloc: Global,
     rows: &MadeRows,
+    observations: &Groups,
     equations: &[&Equation],
     known: &[bool],
 ) -> Result<Vec<bool>, AllocError>
     requires made { AreMade rows.now }
+    requires observations { AreObservations rows.now.schema.now observations.now }
     requires sorted { AreWellSorted rows.now.schema.now rows.now.presentation.now (map (λ e. e.now) equations.now) }
     requires known { AreKnown rows.now.schema.now rows.now.presentation.now (map (λ e. e.now) equations.now) known.now }
     ensures { IfOk result (λ answers. AllJudged rows.now (map (λ e. e.now) equations.now) answers.items) }
@@ -96,7 +100,7 @@ pub fn are_equal(
         rows.entries,
         &mut list,
     )?;
-    push_observations(alloc, schema, rows.tables, &mut list)?;
+    push_observations(alloc, schema, observations, rows.tables, &mut list)?;
     let answers = compare(alloc, list, &asked)?;
     Ok(answers)
 }

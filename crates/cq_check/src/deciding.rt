@@ -2,6 +2,7 @@
 ghost use Rattle.std.specs.Prelude.{ℕ, ◌≡◌, ◌<◌, ◌≤◌, Err, IfOk, MatchOption, Some, false, true};
 ghost use Rattle.std.specs.Prelude.{length, map, replicate, slice_get};
 ghost use Rattle.cq_check.specs.Asking.{AreWellSorted, AreKnown};
+ghost use Rattle.cq_check.specs.Prepared.{IsPrepared};
 ghost use Rattle.cq_check.specs.Deciding.{AreDecided, AreAllDerived, IsFirst};
 ghost use Rattle.cq_rows.specs.Saturated.{SomeWide};
 ghost use Rattle.cq_rows.specs.declared.grow.RowsRefusal.TheVariants as rows;
@@ -9,7 +10,8 @@ ghost use Rattle.cq_theory.specs.Presentation.{IsPresentation};
 
 use crate::asking::MadeRows;
 use crate::closing::are_equal;
-use cq_rows::{RowsRefusal, saturate};
+use crate::prepared::Prepared;
+use cq_rows::{RowsRefusal, saturate_over};
 use cq_theory::{Equation, Presentation, Schema};
 use std::alloc::{AllocError, Global};
 
@@ -31,21 +33,23 @@ pub struct Unmet {
 /// Which equations are derived by the rows up to one depth, and whether the others are not derivable at all.
 fn decide(
     alloc: Global,
-    schema: &Schema,
+    prepared: &Prepared,
     presentation: &Presentation,
     depth: u32,
     equations: &[&Equation],
     known: &[bool],
 ) -> Result<(Vec<bool>, bool), RowsRefusal>
-    requires presentation { IsPresentation schema.now presentation.now }
-    requires sorted { AreWellSorted schema.now presentation.now (map (λ e. e.now) equations.now) }
-    requires known { AreKnown schema.now presentation.now (map (λ e. e.now) equations.now) known.now }
+    requires prepared { IsPrepared prepared.now }
+    requires presentation { IsPresentation prepared.now.schema.now presentation.now }
+    requires sorted { AreWellSorted prepared.now.schema.now presentation.now (map (λ e. e.now) equations.now) }
+    requires known { AreKnown prepared.now.schema.now presentation.now (map (λ e. e.now) equations.now) known.now }
     requires depth { depth ≤ 64 }
-    ensures decided { IfOk result (λ made. AreDecided schema.now presentation.now depth
+    ensures decided { IfOk result (λ made. AreDecided prepared.now.schema.now presentation.now depth
         (map (λ e. e.now) equations.now) made.0.items made.1) }
-    ensures many { result ≡ Err rows.TooManyRows → SomeWide schema.now presentation.now depth }
+    ensures many { result ≡ Err rows.TooManyRows → SomeWide prepared.now.schema.now presentation.now depth }
 {
-    let partial = saturate(alloc, schema, presentation, depth)?;
+    let schema: &Schema = prepared.schema;
+    let partial = saturate_over(alloc, &prepared.outline, schema, presentation, depth)?;
     let entries = partial.generator_rows.as_slice();
     let tables = &partial.tables;
     let rows = MadeRows {
@@ -54,7 +58,7 @@ fn decide(
         tables,
         entries,
     };
-    let answers = are_equal(alloc, &rows, equations, known)?;
+    let answers = are_equal(alloc, &rows, &prepared.observations, equations, known)?;
     Ok((answers, partial.closed))
 }
 
@@ -83,17 +87,18 @@ fn no_flags(alloc: Global, count: usize) -> Result<Vec<bool>, AllocError>
 /// are made once for all equations that aren't derived at a lesser one.
 pub fn first_unmet(
     alloc: Global,
-    schema: &Schema,
+    prepared: &Prepared,
     presentation: &Presentation,
     equations: &[&Equation],
     depth: u32,
 ) -> Result<Option<Unmet>, AllocError>
-    requires presentation { IsPresentation schema.now presentation.now }
-    requires sorted { AreWellSorted schema.now presentation.now (map (λ e. e.now) equations.now) }
+    requires prepared { IsPrepared prepared.now }
+    requires presentation { IsPresentation prepared.now.schema.now presentation.now }
+    requires sorted { AreWellSorted prepared.now.schema.now presentation.now (map (λ e. e.now) equations.now) }
     requires depth { depth ≤ 64 }
     ensures { IfOk result (λ unmet. MatchOption unmet
-        (AreAllDerived schema.now presentation.now (map (λ e. e.now) equations.now))
-        (IsFirst schema.now presentation.now depth (map (λ e. e.now) equations.now))) }
+        (AreAllDerived prepared.now.schema.now presentation.now (map (λ e. e.now) equations.now))
+        (IsFirst prepared.now.schema.now presentation.now depth (map (λ e. e.now) equations.now))) }
 {
     if equations.len() == 0 {
         return Ok(None);
@@ -101,7 +106,7 @@ pub fn first_unmet(
     let mut known = no_flags(alloc, equations.len())?;
     let mut first = 0;
     for stage in 0..depth + 1 {
-        match decide(alloc, schema, presentation, stage, equations, &known) {
+        match decide(alloc, prepared, presentation, stage, equations, &known) {
             Ok((answers, closed)) => {
                 let Some(place) = first_unset(&answers) else {
                     return Ok(None);

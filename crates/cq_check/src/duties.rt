@@ -1,12 +1,14 @@
 //! Duties: equations, each of which is to be derivable from a presentation, numbered from 1.
 ghost use Rattle.std.specs.Prelude.{ℕ, ◌≡◌, ◌≤◌, ◌+◌, Err, IfOk, IfErr};
 ghost use Rattle.cq_check.specs.Answers.{IsWellSorted, IsDerived, IsTooDeep, IsTooWide};
+ghost use Rattle.cq_check.specs.Prepared.{IsPrepared};
 ghost use Rattle.cq_check.specs.Refusing.{refusal_of};
 ghost use Rattle.cq_check.specs.declared.duties.CheckRefusal.TheVariants.{NotPreserved, Depth, TooManyRows};
 ghost use Rattle.cq_theory.specs.Presentation.{IsPresentation};
 
 use crate::deciding::{Cause, first_unmet};
-use cq_theory::{Equation, Presentation, Schema};
+use crate::prepared::Prepared;
+use cq_theory::{Equation, Presentation};
 use std::alloc::{AllocError, Global};
 use std::slice;
 
@@ -47,25 +49,26 @@ pub(crate) fn refusal(cause: Cause, number: u64) -> CheckRefusal
 /// Whether the duty with this number is derivable.
 pub(crate) fn check_duty(
     alloc: Global,
-    schema: &Schema,
+    prepared: &Prepared,
     presentation: &Presentation,
     equation: &Equation,
     depth: u32,
     number: u64,
 ) -> Result<(), CheckRefusal>
-    requires presentation { IsPresentation schema.now presentation.now }
-    requires sorted { IsWellSorted schema.now presentation.now equation.now }
+    requires prepared { IsPrepared prepared.now }
+    requires presentation { IsPresentation prepared.now.schema.now presentation.now }
+    requires sorted { IsWellSorted prepared.now.schema.now presentation.now equation.now }
     requires depth { depth ≤ 64 }
-    ensures derived { IfOk result (λ _. IsDerived schema.now presentation.now equation.now) }
+    ensures derived { IfOk result (λ _. IsDerived prepared.now.schema.now presentation.now equation.now) }
     ensures not_derivable { (n : ℕ) → result ≡ Err (NotPreserved n)
-        → (n ≡ number) × (IsDerived schema.now presentation.now equation.now → ⊥) }
+        → (n ≡ number) × (IsDerived prepared.now.schema.now presentation.now equation.now → ⊥) }
     ensures deep { (n : ℕ) → result ≡ Err (Depth n)
-        → (n ≡ number) × IsTooDeep schema.now presentation.now equation.now depth }
+        → (n ≡ number) × IsTooDeep prepared.now.schema.now presentation.now equation.now depth }
     ensures many { (n : ℕ) → result ≡ Err (TooManyRows n)
-        → (n ≡ number) × IsTooWide schema.now presentation.now equation.now depth }
+        → (n ≡ number) × IsTooWide prepared.now.schema.now presentation.now equation.now depth }
 {
     let one = slice::from_ref(&equation);
-    match first_unmet(alloc, schema, presentation, one, depth) {
+    match first_unmet(alloc, prepared, presentation, one, depth) {
         Ok(None) => Ok(()),
         Ok(Some(unmet)) => Err(refusal(unmet.cause, number)),
         Err(_) => Err(CheckRefusal::Memory),

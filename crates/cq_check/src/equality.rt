@@ -1,10 +1,12 @@
 //! Whether an equation is derivable from a presentation.
-ghost use Rattle.std.specs.Prelude.{◌≡◌, ◌≤◌, Err, IfOk};
-ghost use Rattle.cq_check.specs.Answers.{IsWellSorted, IsAnswer, IsTooDeep, IsTooWide};
+ghost use Rattle.std.specs.Prelude.{ℕ, ◌≡◌, ◌≤◌, Err, IfOk};
+ghost use Rattle.cq_check.specs.Answers.{IsWellSorted, IsDerived, IsAnswer, IsTooDeep, IsTooWide};
+ghost use Rattle.cq_check.specs.declared.duties.CheckRefusal.TheVariants as duty;
 ghost use Rattle.cq_check.specs.declared.equality.EqualRefusal.TheVariants.{Depth, TooManyRows};
 ghost use Rattle.cq_theory.specs.Presentation.{IsPresentation};
 
 use crate::duties::{CheckRefusal, check_duty};
+use crate::prepared::Prepared;
 use cq_theory::{Equation, Presentation, Schema};
 use std::alloc::Global;
 use std::rc::Rc;
@@ -26,6 +28,29 @@ pub enum EqualRefusal {
     Memory,
 }
 
+/// Whether an equation is derivable, where it is the only one over its schema.
+fn check_alone(
+    alloc: Global,
+    schema: &Schema,
+    presentation: &Presentation,
+    equation: &Equation,
+    depth: u32,
+) -> Result<(), CheckRefusal>
+    requires presentation { IsPresentation schema.now presentation.now }
+    requires sorted { IsWellSorted schema.now presentation.now equation.now }
+    requires depth { depth ≤ 64 }
+    ensures derived { IfOk result (λ _. IsDerived schema.now presentation.now equation.now) }
+    ensures not_derivable { (n : ℕ) → result ≡ Err (duty.NotPreserved n)
+        → IsDerived schema.now presentation.now equation.now → ⊥ }
+    ensures deep { (n : ℕ) → result ≡ Err (duty.Depth n)
+        → IsTooDeep schema.now presentation.now equation.now depth }
+    ensures many { (n : ℕ) → result ≡ Err (duty.TooManyRows n)
+        → IsTooWide schema.now presentation.now equation.now depth }
+{
+    let prepared = Prepared::new(alloc, schema)?;
+    check_duty(alloc, &prepared, presentation, equation, depth, 1)
+}
+
 /// Whether an equation is derivable from a presentation, by the depths from 0 up to the given one, which is at most
 /// 64. At each depth the rows of the presentation are made, and the sides are equal if they are so in the closure of
 /// all equations of which the paths can be traced (Nelson and Oppen, Fast Decision Procedures Based on Congruence
@@ -44,7 +69,7 @@ pub fn equal(
     ensures deep { result ≡ Err Depth → IsTooDeep schema.value presentation.now equation.now depth }
     ensures many { result ≡ Err TooManyRows → IsTooWide schema.value presentation.now equation.now depth }
 {
-    match check_duty(alloc, &schema, presentation, equation, depth, 1) {
+    match check_alone(alloc, &schema, presentation, equation, depth) {
         Ok(()) => Ok(Verdict::Yes),
         Err(CheckRefusal::NotPreserved(_)) => Ok(Verdict::No),
         Err(CheckRefusal::Depth(_)) => Err(EqualRefusal::Depth),

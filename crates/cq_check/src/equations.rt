@@ -4,6 +4,7 @@ ghost use Rattle.cq_tables.specs.Content.{live_of, made_of, keys_of, entities_of
 ghost use Rattle.cq_tables.specs.Content.{entity_of as row_entity};
 ghost use Rattle.cq_check.specs.Adding.{Grows, HasGiven, HasAtRow, HasAtRows};
 ghost use Rattle.cq_check.specs.Frame.{IsFrame};
+ghost use Rattle.cq_check.specs.Prepared.{AreObservations};
 ghost use Rattle.cq_check.specs.Sound.{AreSound, KeepsSound};
 ghost use Rattle.cq_rows.specs.Plain.{ends_of};
 ghost use Rattle.cq_theory.specs.Groups.{positions, obs_eq_sources};
@@ -12,7 +13,7 @@ ghost use Rattle.cq_theory.specs.Schema.{IsSchema};
 
 use crate::nodes::{NodeList, push_equation};
 use cq_tables::Tables;
-use cq_theory::{Equation, ObsEq, Presentation, Schema, observation_equations_by_entity};
+use cq_theory::{Equation, Groups, ObsEq, Presentation, Schema};
 use std::alloc::{AllocError, Global};
 
 /// Adds the equations between type terms of a presentation of which all paths can be traced.
@@ -83,29 +84,31 @@ fn push_row(
     Ok(())
 }
 
-/// Adds the observation equations of the schema at each live row from which all their paths can be traced.
+/// Adds the observation equations of the schema, of which the places by entity are given, at each live row from which
+/// all their paths can be traced.
 pub fn push_observations(
     alloc: Global,
     schema: &Schema,
+    observations: &Groups,
     tables: &Tables,
     list: &mut NodeList,
 ) -> Result<(), AllocError>
     requires whole { IsWhole tables.now }
     requires keys { keys_of tables.now ≡ map ends_of schema.now.keys }
     requires entities { entities_of tables.now ≡ length schema.now.entities }
+    requires observations { AreObservations schema.now observations.now }
     requires count { made_of tables.now ≤ length list.old.nodes }
     ensures grows { OnOk result (Grows list.old list.new) }
     ensures sound { OnOk result (KeepsSound schema.now tables.now list.old list.new) }
     ensures has { OnOk result (HasAtRows schema.now tables.now list.new (made_of tables.now)) }
 {
     schema.is_well_sorted();
-    let groups = observation_equations_by_entity(alloc, schema)?;
     for row in 0..tables.made() {
         let alive = tables.live(row);
         if !alive {
             continue;
         }
-        let places = groups.of(tables.entity(row) as usize);
+        let places = observations.of(tables.entity(row) as usize);
         push_row(alloc, schema, tables, places, row, list)?;
     }
     Ok(())

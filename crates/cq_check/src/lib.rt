@@ -10,6 +10,7 @@ pub mod equality;
 pub(crate) mod equations;
 pub mod mappings;
 pub(crate) mod nodes;
+pub(crate) mod prepared;
 pub mod queries;
 
 pub use duties::CheckRefusal;

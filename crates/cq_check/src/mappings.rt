@@ -5,10 +5,11 @@ ghost use Rattle.cq_check.specs.Answers.{IsNotPreserved, IsTooDeepDuty, IsTooWid
 ghost use Rattle.cq_check.specs.Entities.{duty_entities, equation_at as equation_in};
 ghost use Rattle.cq_check.specs.Entities.{AreDuties, AreMetOver, IsUnmetOver, IsCut};
 ghost use Rattle.cq_check.specs.declared.duties.CheckRefusal.TheVariants.{NotPreserved, Depth, TooManyRows};
-ghost use Rattle.cq_mapping.specs.Duties.{Preserves, one_generator};
+ghost use Rattle.cq_mapping.specs.Duties.{Preserves, duties_of, one_generator};
 
 use crate::deciding::{Unmet, first_unmet};
 use crate::duties::{CheckRefusal, number_after, refusal};
+use crate::prepared::Prepared;
 use cq_base::{Name, Seq};
 use cq_mapping::{Duty, Mapping};
 use cq_theory::{Equation, Groups, Presentation, Schema, Sort};
@@ -50,21 +51,32 @@ fn entities_of(alloc: Global, duties: &[Duty]) -> Result<Vec<u32>, AllocError>
     Ok(entities)
 }
 
-/// The duties of a mapping, and their places by the entity over which they are.
+/// The duties of a mapping, their places by the entity over which they are, and the target, over which they are
+/// decided.
 #[derive(Drop)]
-struct DutyList {
+struct DutyList<'a> {
     duties: Vec<Duty>,
     by_entity: Groups,
+    target: Prepared<'a>,
 }
 
-fn list_duties(alloc: Global, mapping: &Mapping) -> Result<DutyList, AllocError>
+fn list_duties<'a>(
+    alloc: Global,
+    mapping: &'a Mapping,
+    duties: Vec<Duty>,
+) -> Result<DutyList<'a>, AllocError>
+    requires { duties.items ≡ duties_of mapping.now }
     ensures { IfOk result (AreDuties mapping.now) }
 {
     mapping.is_well_sorted();
-    let duties = mapping.duties(alloc)?;
     let entities = entities_of(alloc, &duties)?;
     let by_entity = Groups::new(alloc, entity_count(mapping) as usize, &entities)?;
-    Ok(DutyList { duties, by_entity })
+    let target = Prepared::new(alloc, target(mapping))?;
+    Ok(DutyList {
+        duties,
+        by_entity,
+        target,
+    })
 }
 
 /// The places before the first one that isn't below a bound.
@@ -129,7 +141,7 @@ fn first_over(
     let places = places_below(list.by_entity.of(entity as usize), bound);
     let over = over_one(alloc, entity)?;
     let equations = equations_at(alloc, &list.duties, places)?;
-    let Some(unmet) = first_unmet(alloc, target(mapping), &over, &equations, depth)? else {
+    let Some(unmet) = first_unmet(alloc, &list.target, &over, &equations, depth)? else {
         return Ok(None);
     };
     let place = place_at(places, unmet.place);
@@ -147,7 +159,11 @@ pub fn check_mapping(alloc: Global, mapping: &Mapping, depth: u32) -> Result<(),
     ensures many { (n : ℕ) → result ≡ Err (TooManyRows n) → IsTooWideDuty mapping.now depth n }
 {
     mapping.is_well_sorted();
-    let list = list_duties(alloc, mapping)?;
+    let duties = mapping.duties(alloc)?;
+    if duties.is_empty() {
+        return Ok(());
+    }
+    let list = list_duties(alloc, mapping, duties)?;
     let mut bound = list.duties.len();
     let mut first = None;
     for entity in 0..entity_count(mapping) {

@@ -31,11 +31,11 @@ entity_sort (Entity n) e h = ap Entity (same_Some n e h)
 same_entity : (d e : ℕ) → Entity d ≡ Entity e → d ≡ e
 same_entity d e h = cc
 
-module _ (S : SchemaData) (P : Presentation) (wS : IsSchema S) (wP : IsPresentation S P) where
-  -- the ends of each key are entities
-  pub ends_in : All (λ (k : ℕ × ℕ). (k.0 < length S.entities) × (k.1 < length S.entities)) (map ends_of S.keys)
-  ends_in = All-map (λ (k : ℕ × ℕ). (k.0 < length S.entities) × (k.1 < length S.entities)) ends_of S.keys wS.keys
+-- the ends of each key are entities
+pub ends_in : (S : SchemaData) → IsSchema S → All (λ (k : ℕ × ℕ). (k.0 < length S.entities) × (k.1 < length S.entities)) (map ends_of S.keys)
+ends_in S wS = All-map (λ (k : ℕ × ℕ). (k.0 < length S.entities) × (k.1 < length S.entities)) ends_of S.keys wS.keys
 
+module _ (S : SchemaData) (P : Presentation) (wS : IsSchema S) (wP : IsPresentation S P) where
   keys_in : (k e d : ℕ) → step_of (map ends_of S.keys) e k ≡ Some d → (e < length S.entities) × (d < length S.entities)
   keys_in k e d h =
       let edge = has_key (slice_get S.keys k) e d (sym (step_same S P e k) ∙ h) in

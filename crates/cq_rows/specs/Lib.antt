@@ -5,5 +5,6 @@ pub mod Entries
 pub mod Plain
 pub mod Rows
 pub mod Saturated
+pub mod Outline
 pub mod Stage
 pub mod Origin

@@ -12,9 +12,10 @@ use Rattle.cq_rows.specs.Rows.{HaveRows}
 abbrev pub theory_at : Origin → Theory
 theory_at o = theory_of o.schema.now o.presentation.now
 
--- if there are rows, the groups are those of the path equations
+-- if there are rows, the outline lists the path equations
 abbrev pub AreListed : Origin → Content → Type 0
-AreListed o m = 0 < made_of m → AreGroups (path_eq_sources o.schema.now.path_eqs) (length o.schema.now.entities) o.groups.now
+AreListed o m = 0 < made_of m
+    → AreGroups (path_eq_sources o.schema.now.path_eqs) (length o.schema.now.entities) o.outline.now.path_equations
 
 -- the tables are over the schema, the path equations are listed, and each generator has its current row
 pub record IsReady (o : Origin) (m : Content) (e : Entries) : Type 0 where

@@ -1,6 +1,6 @@
 -- What tables say of a presentation: the rows of its terms, and which equations hold at them.
-use Rattle.std.specs.Prelude.{◌≡◌, ℕ, ◌-◌, ◌^◌, ◌≤◌, true, List, length, Some, IsSome, slice_get, slice_index}
-use Rattle.cq_tables.specs.Content.{Content, live_of}
+use Rattle.std.specs.Prelude.{◌≡◌, ℕ, ◌-◌, ◌^◌, ◌≤◌, true, false, List, length, map, Some, IsSome, MatchBool, slice_get, slice_index}
+use Rattle.cq_tables.specs.Content.{Content, IsWhole, keys_of, entities_of, live_of}
 use Rattle.cq_tables.specs.Content.{entity_of as row_entity}
 use Rattle.cq_theory.specs.declared.presentation.Equation.TheVariants.{Ent as EntEquation}
 use Rattle.cq_theory.specs.declared.presentation.Presentation.{Presentation}
@@ -12,7 +12,9 @@ use Rattle.cq_theory.specs.EntTerm.{depth_of}
 use Rattle.cq_theory.specs.Sorts.{entity_of, entity_at, type_at}
 use Rattle.cq_theory.specs.Derivation.{Derives, Within}
 use Rattle.cq_theory.specs.Closing.{Closes, IsWide}
-use Rattle.cq_rows.specs.Rows.{row_of_term, Agree}
+use Rattle.cq_rows.specs.Plain.{ends_of}
+use Rattle.cq_rows.specs.Rows.{row_of_term, Agree, AllFilled}
+use Rattle.cq_rows.specs.declared.grow.Partial.{Partial}
 
 -- each generator has an entry: that of an entity a live row of it, that of a type the number 2^64 - 1
 pub record HasEntries (P : Presentation) (m : Content) (rows : List ℕ) : Type 0 where
@@ -61,3 +63,18 @@ NoneCloses S P k = (j : ℕ) → j ≤ k → Closes S P j → ⊥
 -- the terms are too wide at some depth up to k
 abbrev pub SomeWide : Schema → Presentation → ℕ → Type 0
 SomeWide S P k = (j : ℕ) × (j ≤ k) × IsWide S P j
+
+-- rows that were made up to some depth: what each clause of `saturate` says of them
+pub record IsSaturated (S : Schema) (P : Presentation) (k : ℕ) (p : Partial) : Type 0 where
+  pub whole : IsWhole p.tables
+  pub keys : keys_of p.tables ≡ map ends_of S.keys
+  pub entities : entities_of p.tables ≡ length S.entities
+  pub entries : HasEntries P p.tables p.generator_rows
+  pub sound : OneRowIsEqual S P p.tables p.generator_rows
+  pub traced : AllTraced S P p.tables p.generator_rows k
+  pub within : WithinIsOneRow S P p.tables p.generator_rows k
+  pub named : AllNamed S P p.tables p.generator_rows k
+  pub closed : MatchBool p.closed (AllFilled p.tables) (AllFilled p.tables → ⊥)
+  pub rules : PathEquationsHold S p.tables
+  pub given : EntityEquationsHold P p.tables p.generator_rows
+  pub unclosed : p.closed ≡ false → NoneCloses S P k

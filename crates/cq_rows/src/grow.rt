@@ -1,11 +1,12 @@
 //! The stages.
-ghost use Rattle.std.specs.Prelude.{◌≡◌, ℕ, ◌<◌, ◌≤◌, ◌^◌, length, map, Err, IfOk, OnOk, MatchBool, false, All};
+ghost use Rattle.std.specs.Prelude.{◌≡◌, ◌<◌, ◌≤◌, length, map, Err, IfOk, MatchBool, false};
 ghost use Rattle.cq_tables.specs.Content.{keys_of, entities_of, made_of, IsWhole};
-ghost use Rattle.cq_theory.specs.Groups.{path_eq_sources, AreGroups};
-ghost use Rattle.cq_theory.specs.Schema.{IsSchema};
 ghost use Rattle.cq_theory.specs.Presentation.{IsPresentation};
+ghost use Rattle.cq_theory.specs.Schema.{IsSchema};
 ghost use Rattle.cq_rows.specs.Theory.{IsTheory};
-ghost use Rattle.cq_rows.specs.Plain.{theory_of, ends_of};
+ghost use Rattle.cq_rows.specs.Origin.{theory_at};
+ghost use Rattle.cq_rows.specs.Outline.{HasFrame, HasEntity, IsOutline, IsOutlineFor};
+ghost use Rattle.cq_rows.specs.Plain.{ends_of};
 ghost use Rattle.cq_rows.specs.Rows as rows;
 ghost use Rattle.cq_rows.specs.Entries.{rows_of};
 ghost use Rattle.cq_rows.specs.Stage.{IsStage};
@@ -15,10 +16,11 @@ ghost use Rattle.cq_rows.specs.declared.grow.RowsRefusal.TheVariants.{TooManyRow
 use crate::entries::Entries;
 use crate::fill::{all_filled, count_live, fill};
 use crate::origin::Origin;
+use crate::outline::Outline;
 use crate::settle::settle;
 use cq_base::Seq;
 use cq_tables::Tables;
-use cq_theory::{Groups, Presentation, Schema, Sort, path_equations_by_entity};
+use cq_theory::{Presentation, Schema, Sort};
 use std::alloc::{AllocError, Global};
 
 /// The most live rows at the end of a stage.
@@ -51,40 +53,16 @@ impl From<AllocError> for RowsRefusal {
     }
 }
 
-// The entities between which each key goes.
-fn key_ends(alloc: Global, schema: &Schema) -> Result<Vec<(u32, u32)>, AllocError>
-    ensures ends { IfOk result (λ keys. keys.items ≡ map ends_of schema.now.keys) }
-    ensures schema { IsSchema schema.now }
-{
-    let mut keys = Vec::new(alloc);
-    for edge in schema.keys.as_slice() {
-        keys.push((edge.from, edge.to))?;
-    }
-    Ok(keys)
-}
-
-// How many entities there are.
-fn count_entities(schema: &Schema) -> u32
-    ensures { result ≡ length schema.now.entities }
-{
-    schema.entities.len() as u32
-}
-
 // One row for each generator of an entity.
-fn begin(
-    alloc: Global,
-    schema: &Schema,
-    presentation: &Presentation,
-    keys: &[(u32, u32)],
-) -> Result<(Tables, Vec<u64>), AllocError>
-    requires theory { IsTheory (theory_of schema.now presentation.now) }
-    requires keys { keys.now ≡ (theory_of schema.now presentation.now).keys }
-    requires range { All (λ k. (k.0 < length schema.now.entities) × (k.1 < length schema.now.entities)) keys.now }
-    ensures { IfOk result (λ p. rows.HasBegun (theory_of schema.now presentation.now) p.0 p.1.items) }
+fn begin(alloc: Global, origin: &Origin) -> Result<(Tables, Vec<u64>), AllocError>
+    requires theory { IsTheory (theory_at origin.now) }
+    requires frame { HasFrame origin.now.schema.now origin.now.outline.now }
+    ensures begun { IfOk result (λ p. rows.HasBegun (theory_at origin.now) p.0 p.1.items) }
+    ensures some { IfOk result (λ p. 0 < made_of p.0 → HasEntity origin.now.presentation.now) }
 {
-    let mut tables = Tables::new(alloc, count_entities(schema), keys)?;
+    let mut tables = origin.outline.tables.blank()?;
     let mut entries = Vec::new(alloc);
-    for generator in presentation.generators.as_slice() {
+    for generator in origin.presentation.generators.as_slice() {
         let Sort::Entity(entity) = generator.1 else {
             entries.push(u64::MAX)?;
             continue;
@@ -95,45 +73,19 @@ fn begin(
     Ok((tables, entries))
 }
 
-// The path equations that begin at each entity, or none where there are no rows. An instance without rows costs no more
-// where its schema has many.
-fn list_rules(alloc: Global, schema: &Schema, tables: &Tables) -> Result<Groups, AllocError>
-    ensures { IfOk result (λ groups. 0 < made_of tables.now → AreGroups (path_eq_sources schema.now.path_eqs)
-        (length schema.now.entities) groups) }
-{
-    if tables.made() == 0 {
-        return Groups::new(alloc, 0, &[]);
-    }
-    path_equations_by_entity(alloc, schema)
-}
-
 // The tables at the end of the last stage, the rows of the generators, and whether all cells are filled.
-fn grow(
-    alloc: Global,
-    schema: &Schema,
-    presentation: &Presentation,
-    keys: &[(u32, u32)],
-    depth: u32,
-) -> Result<(Tables, Entries, bool), RowsRefusal>
-    requires theory { IsTheory (theory_of schema.now presentation.now) }
-    requires keys { keys.now ≡ (theory_of schema.now presentation.now).keys }
-    requires range { All (λ k. (k.0 < length schema.now.entities) × (k.1 < length schema.now.entities)) keys.now }
-    ensures stage { IfOk result (λ p. IsStage (theory_of schema.now presentation.now) p.0 (rows_of p.1) depth) }
+fn grow(alloc: Global, origin: &Origin, depth: u32) -> Result<(Tables, Entries, bool), RowsRefusal>
+    requires schema { IsSchema origin.now.schema.now }
+    requires theory { IsTheory (theory_at origin.now) }
+    requires outline { IsOutlineFor origin.now.schema.now origin.now.presentation.now origin.now.outline.now }
+    ensures stage { IfOk result (λ p. IsStage (theory_at origin.now) p.0 (rows_of p.1) depth) }
     ensures closed { IfOk result (λ p. MatchBool p.2 (rows.AllFilled p.0) (rows.AllFilled p.0 → ⊥)) }
-    ensures unclosed { IfOk result (λ p. p.2 ≡ false
-        → rows.NoneCloses (theory_of schema.now presentation.now) depth) }
-    ensures many { result ≡ Err TooManyRows
-        → rows.SomeWide (theory_of schema.now presentation.now) depth MOST_ROWS }
+    ensures unclosed { IfOk result (λ p. p.2 ≡ false → rows.NoneCloses (theory_at origin.now) depth) }
+    ensures many { result ≡ Err TooManyRows → rows.SomeWide (theory_at origin.now) depth MOST_ROWS }
 {
-    let (mut tables, first) = begin(alloc, schema, presentation, keys)?;
-    let groups = list_rules(alloc, schema, &tables)?;
-    let origin = Origin {
-        schema,
-        presentation,
-        groups: &groups,
-    };
+    let (mut tables, first) = begin(alloc, origin)?;
     let mut rows = Entries::new(alloc, first);
-    settle(alloc, &origin, &mut tables, &mut rows)?;
+    settle(alloc, origin, &mut tables, &mut rows)?;
     if count_live(&tables) > MOST_ROWS {
         return Err(RowsRefusal::TooManyRows);
     }
@@ -141,14 +93,33 @@ fn grow(
         if all_filled(&tables) {
             return Ok((tables, rows, true));
         }
-        fill(keys, &mut tables)?;
-        settle(alloc, &origin, &mut tables, &mut rows)?;
+        fill(&origin.outline.keys, &mut tables)?;
+        settle(alloc, origin, &mut tables, &mut rows)?;
         if count_live(&tables) > MOST_ROWS {
             return Err(RowsRefusal::TooManyRows);
         }
     }
     let closed = all_filled(&tables);
     Ok((tables, rows, closed))
+}
+
+// The rows of a presentation up to a depth, as `saturate` says.
+fn saturate_from(alloc: Global, origin: &Origin, depth: u32) -> Result<Partial, RowsRefusal>
+    requires presentation { IsPresentation origin.now.schema.now origin.now.presentation.now }
+    requires outline { IsOutlineFor origin.now.schema.now origin.now.presentation.now origin.now.outline.now }
+    requires depth { depth ≤ 64 }
+    ensures made { IfOk result (saturated.IsSaturated origin.now.schema.now origin.now.presentation.now depth) }
+    ensures many { result ≡ Err TooManyRows
+        → saturated.SomeWide origin.now.schema.now origin.now.presentation.now depth }
+{
+    let schema: &Schema = origin.schema;
+    schema.is_well_sorted();
+    let (tables, rows, closed) = grow(alloc, origin, depth)?;
+    Ok(Partial {
+        tables,
+        generator_rows: Seq::from_vec(rows.into_rows()),
+        closed,
+    })
 }
 
 /// Makes the rows of a term model stage by stage. Stage 0 makes a row for each generator of an entity; each further
@@ -191,11 +162,34 @@ pub fn saturate(
     ensures unclosed { IfOk result (λ p. p.closed ≡ false → saturated.NoneCloses schema.now presentation.now depth) }
     ensures many { result ≡ Err TooManyRows → saturated.SomeWide schema.now presentation.now depth }
 {
-    let keys = key_ends(alloc, schema)?;
-    let (tables, rows, closed) = grow(alloc, schema, presentation, &keys, depth)?;
-    Ok(Partial {
-        tables,
-        generator_rows: Seq::from_vec(rows.into_rows()),
-        closed,
-    })
+    let outline = Outline::of_presentation(alloc, schema, presentation)?;
+    let origin = Origin {
+        schema,
+        presentation,
+        outline: &outline,
+    };
+    saturate_from(alloc, &origin, depth)
+}
+
+/// Makes the rows of a term model as `saturate` does, by the outline of its schema. What the schema alone asks for is
+/// in the outline, so that this costs no more where the schema is large and the rows are few.
+pub fn saturate_over(
+    alloc: Global,
+    outline: &Outline,
+    schema: &Schema,
+    presentation: &Presentation,
+    depth: u32,
+) -> Result<Partial, RowsRefusal>
+    requires outline { IsOutline schema.now outline.now }
+    requires presentation { IsPresentation schema.now presentation.now }
+    requires depth { depth ≤ 64 }
+    ensures made { IfOk result (saturated.IsSaturated schema.now presentation.now depth) }
+    ensures many { result ≡ Err TooManyRows → saturated.SomeWide schema.now presentation.now depth }
+{
+    let origin = Origin {
+        schema,
+        presentation,
+        outline,
+    };
+    saturate_from(alloc, &origin, depth)
 }

@@ -7,8 +7,10 @@ mod grow;
 mod join;
 mod merge;
 mod origin;
+mod outline;
 mod renamings;
 mod settle;
 mod waiting;
 
-pub use grow::{MOST_ROWS, Partial, RowsRefusal, saturate};
+pub use grow::{MOST_ROWS, Partial, RowsRefusal, saturate, saturate_over};
+pub use outline::Outline;

@@ -1,11 +1,12 @@
 //! What rows are made from.
-use cq_theory::{Groups, Presentation, Schema};
+use crate::outline::Outline;
+use cq_theory::{Presentation, Schema};
 
-/// A presentation, its schema, and the path equations that begin at each entity of the schema, which are listed only
-/// where there are rows.
+/// A presentation, its schema, and the outline of the schema, which may lack the path equations where no generator is
+/// of an entity.
 #[derive(Clone, Copy)]
 pub struct Origin<'a> {
     pub schema: &'a Schema,
     pub presentation: &'a Presentation,
-    pub groups: &'a Groups,
+    pub outline: &'a Outline,
 }

@@ -10,6 +10,7 @@ ghost use Rattle.cq_rows.specs.Rows.{Passes, Continues, HoldIfLive};
 use crate::entries::Entries;
 use crate::join::{join_given, join_rule, path_equations};
 use crate::origin::Origin;
+use crate::outline::Outline;
 use crate::waiting::{RuleAt, Stopped, Waiting};
 use cq_tables::Tables;
 use std::alloc::{AllocError, Global};
@@ -113,8 +114,9 @@ fn pass_row(
     if !tables.live(row) {
         return Ok(false);
     }
+    let outline: &Outline = origin.outline;
     let mut merged = false;
-    for place in origin.groups.of(tables.entity(row) as usize) {
+    for place in outline.path_equations.of(tables.entity(row) as usize) {
         let one = join_rule(
             alloc,
             origin,

@@ -10,7 +10,7 @@ content entities keys kinds alive cells =
     record { entities = entities; keys = keys; kinds = kinds; alive = alive; cells = cells_by_row keys kinds cells }
 
 abbrev pub content_of : Inside → Content
-content_of t = content t.plan.entities t.plan.keys t.kinds.items t.alive.items t.cells.cells
+content_of t = content t.plan.value.entities t.plan.value.keys t.kinds.items t.alive.items t.cells.cells
 
 -- there is one flag, one start and one count of mentions a row, the cells of each row begin at its start, and all cells are
 -- those of the rows
@@ -25,4 +25,4 @@ pub record IsLaid (keys : List (ℕ × ℕ)) (kinds : List ℕ) (alive : List Bo
 
 pub record IsKept (t : Inside) : Type 0 where
   pub whole : IsWhole (content_of t)
-  pub laid : IsLaid t.plan.keys t.kinds.items t.alive.items t.starts.items t.cells.cells t.cells.counts
+  pub laid : IsLaid t.plan.value.keys t.kinds.items t.alive.items t.starts.items t.cells.cells t.cells.counts

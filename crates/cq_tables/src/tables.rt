@@ -11,13 +11,14 @@ use crate::cells::Cells;
 use crate::plan::Plan;
 use std::alloc::{AllocError, Global};
 use std::marker::Model;
+use std::rc::Rc;
 
 /// Numbered rows, each of one entity, each live or renamed. A live row has a cell for each foreign key of its entity:
 /// empty, or a live row of the entity to which the key goes. For each row the cells that hold it are kept, so that a
 /// renaming walks over these alone.
 #[derive(Drop)]
 pub struct Tables {
-    plan: Plan,
+    plan: Rc<Plan>,
     kinds: Vec<u32>,
     alive: Vec<bool>,
     starts: Vec<u64>,
@@ -49,14 +50,34 @@ impl Tables {
         ensures whole { IfOk result IsWhole }
     {
         let plan = Plan::new(alloc, entities, keys)?;
-        Ok(Tables {
+        Ok(Tables::over(alloc, Rc::new(alloc, plan)?))
+    }
+
+    /// No rows, over the same entities and keys. This costs nothing for these, however many there are.
+    pub fn blank(&self) -> Result<Tables, AllocError>
+        ensures entities { IfOk result (λ t. entities_of t ≡ entities_of self.now) }
+        ensures keys { IfOk result (λ t. keys_of t ≡ keys_of self.now) }
+        ensures empty { IfOk result (λ t. made_of t ≡ 0) }
+        ensures whole { IfOk result IsWhole }
+    {
+        Ok(Tables::over(self.alloc, self.plan.clone()?))
+    }
+
+    // No rows, over the entities and keys of a plan.
+    fn over(alloc: Global, plan: Rc<Plan>) -> Tables
+        ensures entities { entities_of result ≡ plan.value.entities }
+        ensures keys { keys_of result ≡ plan.value.keys }
+        ensures empty { made_of result ≡ 0 }
+        ensures whole { IsWhole result }
+    {
+        Tables {
             plan,
             kinds: Vec::new(alloc),
             alive: Vec::new(alloc),
             starts: Vec::new(alloc),
             cells: Cells::new(alloc),
             alloc,
-        })
+        }
     }
 
     /// How many rows were made. They are numbered from 0.

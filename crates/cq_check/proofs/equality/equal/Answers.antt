@@ -9,4 +9,4 @@ returns-in-Ok-clause-answer c = subst (λ (S : Schema). IsDerived S c.args.prese
 pub returns-in-Err-NotPreserved-clause-answer : goal.returns-in-Err-NotPreserved-clause-answer
 returns-in-Err-NotPreserved-clause-answer c =
     subst (λ (S : Schema). IsDerived S c.args.presentation.now c.args.equation.now → ⊥) c.deref.ensures
-    (c.in-Err-NotPreserved.ensures.not_derivable c.in-Err-NotPreserved.field-0-0 (ap Err c.in-Err-NotPreserved.field-0-is)).1
+    (c.in-Err-NotPreserved.ensures.not_derivable c.in-Err-NotPreserved.field-0-0 (ap Err c.in-Err-NotPreserved.field-0-is))

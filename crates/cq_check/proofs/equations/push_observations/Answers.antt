@@ -28,12 +28,12 @@ returns-clause-has c = λ row less live. c.loop-row.invariant.has row (omega (ar
 pub of-places-requires : goal.of-places-requires
 of-places-requires c =
     let within : c.entity.result < length c.args.schema.now.entities = omega (arith, c.requires.whole.kind c.loop-row.row (omega (arith, c.loop-row-test.true, c.made-row-end.ensures)), c.entity.ensures, c.requires.entities) in
-    group_within _ _ c.entity.result _ c.in_ok-groups.ensures within
+    group_within _ _ c.entity.result _ c.requires.observations within
 
 pub push_row-requires-clause-places : goal.push_row-requires-clause-places
 push_row-requires-clause-places c =
     let within : c.entity.result < length c.args.schema.now.entities = omega (arith, c.requires.whole.kind c.loop-row.row (omega (arith, c.loop-row-test.true, c.made-row-end.ensures)), c.entity.ensures, c.requires.entities) in
-    rw c.entity.ensures at (group_read _ _ c.entity.result _ c.in_ok-groups.ensures within _ c.of-places.ensures)
+    rw c.entity.ensures at (group_read _ _ c.entity.result _ c.requires.observations within _ c.of-places.ensures)
 
 pub push_row-requires-clause-schema : goal.push_row-requires-clause-schema
 push_row-requires-clause-schema c = c.is_well_sorted.ensures

@@ -1,5 +1,7 @@
-use Rattle.std.proofs.Common.{Err, ◌≡◌, ◌∙◌, length, sym, ap, subst, arith}
-use Rattle.cq_check.proofs.OverEntity.{IsLeast, all_preserved, not_preserved, too_deep_duty, too_wide_duty}
+use Rattle.std.proofs.Common.{ℕ, Err, ◌≡◌, ◌∙◌, length, sym, ap, subst, arith}
+use Rattle.std.specs.Prelude.{MatchOption}
+use Rattle.cq_check.specs.Entities.{AreMetOver, IsUnmetOver}
+use Rattle.cq_check.proofs.OverEntity.{IsLeast, least_some, all_preserved, not_preserved, too_deep_duty, too_wide_duty}
 use Rattle.cq_mapping.specs.MappingData.{MappingData as Mapping}
 use Rattle.cq_check.proofs.mappings.check_mapping.Goals as goal
 
@@ -37,3 +39,11 @@ returns-clause-many c = λ n told.
     subst (λ entity. IsLeast F entity c.loop-entity.bound c.args.depth c.loop-entity.first) last c.loop-entity.invariant in
     too_wide_duty F c.is_well_sorted.ensures c.loop-entity.bound c.args.depth c.loop-entity.first least c.in-Some-first.cause c.in-Some-first.is c.in_ok-number.number c.in_ok-number.ensures.next n
     (ap Err (sym c.refusal.ensures) ∙ told)
+
+pub loop-entity-preserved : goal.loop-entity-preserved
+loop-entity-preserved c =
+    let F : Mapping = c.args.mapping.now in
+    let entity : ℕ = c.loop-entity.entity in
+    let bound : ℕ = c.loop-entity.bound in
+    least_some F entity bound c.args.depth c.loop-entity.first c.in-Some.unmet
+    (subst (λ o. MatchOption o (AreMetOver F entity bound) (IsUnmetOver F entity bound c.args.depth)) c.in-Some.is c.in_ok-unmet.ensures) c.loop-entity.invariant

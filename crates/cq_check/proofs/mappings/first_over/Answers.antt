@@ -35,7 +35,7 @@ equations_at-requires c =
 pub first_unmet-requires-clause-presentation : goal.first_unmet-requires-clause-presentation
 first_unmet-requires-clause-presentation c =
     let F : Mapping = c.args.mapping.now in
-    subst (λ (x : Schema × Presentation). IsPresentation x.0 x.1) (λ i. (sym c.target.ensures i, sym c.in_ok-over.ensures i)) (one_presented F c.args.entity c.requires.entity)
+    subst (λ (x : Schema × Presentation). IsPresentation x.0 x.1) (λ i. (sym c.requires.duties.target.schema i, sym c.in_ok-over.ensures i)) (one_presented F c.args.entity c.requires.entity)
 
 pub first_unmet-requires-clause-sorted : goal.first_unmet-requires-clause-sorted
 first_unmet-requires-clause-sorted c =
@@ -51,7 +51,7 @@ first_unmet-requires-clause-sorted c =
     picked (λ (e : Bor Equation). e.now) (equation_at (duties_of F)) c.in_ok-equations.equations.items cut
     (c.in_ok-equations.ensures ∙ ap (λ duties. map (equation_at duties) cut) (c.deref.ensures.value ∙ c.requires.duties.are)) in
     subst (λ (x : (Schema × Presentation) × List (Bor Equation)). AreWellSorted x.0.0 x.0.1 (map (λ (e : Bor Equation). e.now) x.1))
-    (λ i. ((sym c.target.ensures i, sym c.in_ok-over.ensures i), sym c.deref-2.ensures.value i)) (sorted F is entity c.args.bound cut h es are)
+    (λ i. ((sym c.requires.duties.target.schema i, sym c.in_ok-over.ensures i), sym c.deref-2.ensures.value i)) (sorted F is entity c.args.bound cut h es are)
 
 pub returns-in_default : goal.returns-in_default
 returns-in_default c =
@@ -69,7 +69,7 @@ returns-in_default c =
     let told : MatchOption c.in_ok-unmet.field-0 (AreAllDerived F.target (one_generator entity) es) (IsFirst F.target (one_generator entity) c.args.depth es) =
     subst (λ (x : (Schema × Presentation) × List (Bor Equation)). MatchOption c.in_ok-unmet.field-0 (AreAllDerived x.0.0 x.0.1 (map (λ (e : Bor Equation). e.now) x.1))
     (IsFirst x.0.0 x.0.1 c.args.depth (map (λ (e : Bor Equation). e.now) x.1)))
-    (λ i. ((c.target.ensures i, c.in_ok-over.ensures i), c.deref-2.ensures.value i)) c.in_ok-unmet.ensures in
+    (λ i. ((c.requires.duties.target.schema i, c.in_ok-over.ensures i), c.deref-2.ensures.value i)) c.in_ok-unmet.ensures in
     all_met_over F is entity c.args.bound cut h es are
     (subst (λ o. MatchOption o (AreAllDerived F.target (one_generator entity) es) (IsFirst F.target (one_generator entity) c.args.depth es)) c.in_default.is told)
 
@@ -89,7 +89,7 @@ place_at-place-requires c =
     let told : MatchOption c.in_ok-unmet.field-0 (AreAllDerived F.target (one_generator entity) es) (IsFirst F.target (one_generator entity) c.args.depth es) =
     subst (λ (x : (Schema × Presentation) × List (Bor Equation)). MatchOption c.in_ok-unmet.field-0 (AreAllDerived x.0.0 x.0.1 (map (λ (e : Bor Equation). e.now) x.1))
     (IsFirst x.0.0 x.0.1 c.args.depth (map (λ (e : Bor Equation). e.now) x.1)))
-    (λ i. ((c.target.ensures i, c.in_ok-over.ensures i), c.deref-2.ensures.value i)) c.in_ok-unmet.ensures in
+    (λ i. ((c.requires.duties.target.schema i, c.in_ok-over.ensures i), c.deref-2.ensures.value i)) c.in_ok-unmet.ensures in
     let first : IsFirst F.target (one_generator entity) c.args.depth es c.in-Some.unmet =
     subst (λ o. MatchOption o (AreAllDerived F.target (one_generator entity) es) (IsFirst F.target (one_generator entity) c.args.depth es)) c.in-Some.is told in
     record { within = place_read F is entity c.args.bound cut h es are c.args.depth c.in-Some.unmet first }
@@ -110,7 +110,7 @@ returns c =
     let told : MatchOption c.in_ok-unmet.field-0 (AreAllDerived F.target (one_generator entity) es) (IsFirst F.target (one_generator entity) c.args.depth es) =
     subst (λ (x : (Schema × Presentation) × List (Bor Equation)). MatchOption c.in_ok-unmet.field-0 (AreAllDerived x.0.0 x.0.1 (map (λ (e : Bor Equation). e.now) x.1))
     (IsFirst x.0.0 x.0.1 c.args.depth (map (λ (e : Bor Equation). e.now) x.1)))
-    (λ i. ((c.target.ensures i, c.in_ok-over.ensures i), c.deref-2.ensures.value i)) c.in_ok-unmet.ensures in
+    (λ i. ((c.requires.duties.target.schema i, c.in_ok-over.ensures i), c.deref-2.ensures.value i)) c.in_ok-unmet.ensures in
     let first : IsFirst F.target (one_generator entity) c.args.depth es c.in-Some.unmet =
     subst (λ o. MatchOption o (AreAllDerived F.target (one_generator entity) es) (IsFirst F.target (one_generator entity) c.args.depth es)) c.in-Some.is told in
     unmet_over F is entity c.args.bound cut h es are c.args.depth c.place_at-place.result c.in-Some.unmet c.place_at-place.ensures first

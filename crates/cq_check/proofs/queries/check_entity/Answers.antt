@@ -17,7 +17,7 @@ check_duty-answer-requires-clause-sorted c =
     let Q : Query = c.args.query.now in
     let duty : Equation = c.duty-item.result in
     let at = item_at (duties Q c.args.entity) c.deref-duty-items.result.now c.loop-duty.duty-index duty (c.deref-duty-items.ensures.value ∙ c.in_ok-duties.ensures) c.loop-duty-test.true c.duty-item.is in
-    subst (λ (x : Schema × Presentation). IsWellSorted x.0 x.1 duty) (λ i. (sym c.source.ensures i, sym c.in_ok-over.ensures.frozen i)) (one_sort Q c.is_well_sorted.ensures c.args.entity c.loop-duty.duty-index duty at)
+    subst (λ (x : Schema × Presentation). IsWellSorted x.0 x.1 duty) (λ i. (sym c.requires.prepared.schema i, sym c.in_ok-over.ensures.frozen i)) (one_sort Q c.is_well_sorted.ensures c.args.entity c.loop-duty.duty-index duty at)
 
 pub returns-in-Err-clause-not_sound : goal.returns-in-Err-clause-not_sound
 returns-in-Err-clause-not_sound c = λ n same.
@@ -29,7 +29,7 @@ returns-in-Err-clause-not_sound c = λ n same.
     duty_read Q entity number c.loop-duty.duty-index c.deref-duty-items.result.now duty c.requires.entity c.loop-duty.invariant.0 (c.deref-duty-items.ensures.value ∙ c.in_ok-duties.ensures) c.loop-duty-test.true c.duty-item.is in
     let told = c.in-Err.ensures.not_derivable n (same_refusal c.in-Err.refusal (NotPreserved n) same) in
     first_unmet (ℕ × Equation) Q.source (frozen_over Q) (duty_equation Q) (all_duties Q) number (entity, duty) found c.loop-duty.invariant.1 n (told.0 ∙ c.in_ok-number.ensures.next)
-    (subst (λ (x : Schema × Presentation). IsDerived x.0 x.1 duty → ⊥) (λ i. (c.source.ensures i, c.in_ok-over.ensures.frozen i)) told.1)
+    (subst (λ (x : Schema × Presentation). IsDerived x.0 x.1 duty → ⊥) (λ i. (c.requires.prepared.schema i, c.in_ok-over.ensures.frozen i)) told.1)
 
 pub returns-in-Err-clause-deep : goal.returns-in-Err-clause-deep
 returns-in-Err-clause-deep c = λ n same.
@@ -41,7 +41,7 @@ returns-in-Err-clause-deep c = λ n same.
     duty_read Q entity number c.loop-duty.duty-index c.deref-duty-items.result.now duty c.requires.entity c.loop-duty.invariant.0 (c.deref-duty-items.ensures.value ∙ c.in_ok-duties.ensures) c.loop-duty-test.true c.duty-item.is in
     let told = c.in-Err.ensures.deep n (same_refusal c.in-Err.refusal (Depth n) same) in
     first_too_deep (ℕ × Equation) Q.source (frozen_over Q) (duty_equation Q) (all_duties Q) number (entity, duty) found c.loop-duty.invariant.1 n c.args.depth (told.0 ∙ c.in_ok-number.ensures.next)
-    (subst (λ (x : Schema × Presentation). IsTooDeep x.0 x.1 duty c.args.depth) (λ i. (c.source.ensures i, c.in_ok-over.ensures.frozen i)) told.1)
+    (subst (λ (x : Schema × Presentation). IsTooDeep x.0 x.1 duty c.args.depth) (λ i. (c.requires.prepared.schema i, c.in_ok-over.ensures.frozen i)) told.1)
 
 pub returns-in-Err-clause-many : goal.returns-in-Err-clause-many
 returns-in-Err-clause-many c = λ n same.
@@ -53,7 +53,7 @@ returns-in-Err-clause-many c = λ n same.
     duty_read Q entity number c.loop-duty.duty-index c.deref-duty-items.result.now duty c.requires.entity c.loop-duty.invariant.0 (c.deref-duty-items.ensures.value ∙ c.in_ok-duties.ensures) c.loop-duty-test.true c.duty-item.is in
     let told = c.in-Err.ensures.many n (same_refusal c.in-Err.refusal (TooManyRows n) same) in
     first_too_wide (ℕ × Equation) Q.source (frozen_over Q) (duty_equation Q) (all_duties Q) number (entity, duty) found c.loop-duty.invariant.1 n c.args.depth (told.0 ∙ c.in_ok-number.ensures.next)
-    (subst (λ (x : Schema × Presentation). IsTooWide x.0 x.1 duty c.args.depth) (λ i. (c.source.ensures i, c.in_ok-over.ensures.frozen i)) told.1)
+    (subst (λ (x : Schema × Presentation). IsTooWide x.0 x.1 duty c.args.depth) (λ i. (c.requires.prepared.schema i, c.in_ok-over.ensures.frozen i)) told.1)
 
 pub loop-duty-preserved : goal.loop-duty-preserved
 loop-duty-preserved c =
@@ -64,7 +64,7 @@ loop-duty-preserved c =
     let found : slice_get (all_duties Q) number ≡ Some (entity, duty) =
     duty_read Q entity number c.loop-duty.duty-index c.deref-duty-items.result.now duty c.requires.entity c.loop-duty.invariant.0 (c.deref-duty-items.ensures.value ∙ c.in_ok-duties.ensures) c.loop-duty-test.true c.duty-item.is in
     let derived : IsDerived Q.source (frozen_over Q (entity, duty)) duty =
-    subst (λ (x : Schema × Presentation). IsDerived x.0 x.1 duty) (λ i. (c.source.ensures i, c.in_ok-over.ensures.frozen i)) c.in_default.ensures.derived in (
+    subst (λ (x : Schema × Presentation). IsDerived x.0 x.1 duty) (λ i. (c.requires.prepared.schema i, c.in_ok-over.ensures.frozen i)) c.in_default.ensures.derived in (
       omega (arith, c.in_ok-number.ensures.next, c.loop-duty.invariant.0),
       subst (AreMetOf Q) (sym c.in_ok-number.ensures.next)
           (one_more_met (ℕ × Equation) Q.source (frozen_over Q) (duty_equation Q) (all_duties Q) number (entity, duty) found c.loop-duty.invariant.1 derived),

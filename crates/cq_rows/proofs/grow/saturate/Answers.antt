@@ -1,62 +1,45 @@
-use Rattle.std.proofs.Common.{◌≡◌, ◌∙◌, ap, Result, Err}
-use Rattle.std.proofs.lemmas.Result.{err_from_is_err_and}
-use Rattle.cq_rows.specs.Entries.{rows_of}
-use Rattle.cq_rows.proofs.WellSorted.{theory_is, ends_in}
-use Rattle.cq_rows.proofs.Answered.{has_entries, one_row, all_traced, within_row, all_named, path_equations, entity_equations, none_closes, some_wide}
+use Rattle.std.proofs.Common.{Result, Ok, Err}
+use Rattle.std.specs.Prelude.{IfOk}
+use Rattle.cq_rows.specs.Saturated.{IsSaturated}
 use Rattle.cq_rows.proofs.grow.saturate.Goals as goal
 
--- one refusal, whatever the other answers are
-same_refusal : {A B E : Type 0} (x y : E) → ◌≡◌ {A = Result A E} (Err x) (Err y) → ◌≡◌ {A = Result B E} (Err x) (Err y)
-same_refusal x y h = let e : x ≡ y = cc in ap Err e
+-- what follows from what is said of the answer
+if_ok : {A E : Type 0} (P Q : A → Type 0) (r : Result A E) → ((a : A) → P a → Q a) → IfOk r P → IfOk r Q
+if_ok P Q (Ok a) f h = f a h
+if_ok P Q (Err e) f h = h
 
-pub grow-requires : goal.grow-requires
-grow-requires c =
-    let keys = c.deref.ensures.value ∙ c.in_ok-keys.ensures.ends in
-    record {
-      theory = theory_is c.args.schema.now c.args.presentation.now c.in_ok-keys.ensures.schema c.requires.presentation;
-      keys = keys;
-      range = rw keys (ends_in c.args.schema.now c.args.presentation.now c.in_ok-keys.ensures.schema c.requires.presentation);
-    }
+pub returns-clause-whole : goal.returns-clause-whole
+returns-clause-whole c = if_ok _ _ _ (λ p (made : IsSaturated c.args.schema.now c.args.presentation.now c.args.depth p). made.whole) c.saturate_from.ensures.made
+
+pub returns-clause-keys : goal.returns-clause-keys
+returns-clause-keys c = if_ok _ _ _ (λ p (made : IsSaturated c.args.schema.now c.args.presentation.now c.args.depth p). made.keys) c.saturate_from.ensures.made
+
+pub returns-clause-entities : goal.returns-clause-entities
+returns-clause-entities c = if_ok _ _ _ (λ p (made : IsSaturated c.args.schema.now c.args.presentation.now c.args.depth p). made.entities) c.saturate_from.ensures.made
 
 pub returns-clause-entries : goal.returns-clause-entries
-returns-clause-entries c =
-    let th = theory_is c.args.schema.now c.args.presentation.now c.in_ok-keys.ensures.schema c.requires.presentation in
-    rw (c.from_vec.ensures, c.into_rows.ensures) (has_entries c.args.schema.now c.args.presentation.now th c.in_ok-tables.tables (rows_of c.in_ok-tables.rows) c.args.depth c.in_ok-tables.ensures.stage)
+returns-clause-entries c = if_ok _ _ _ (λ p (made : IsSaturated c.args.schema.now c.args.presentation.now c.args.depth p). made.entries) c.saturate_from.ensures.made
 
 pub returns-clause-sound : goal.returns-clause-sound
-returns-clause-sound c =
-    let th = theory_is c.args.schema.now c.args.presentation.now c.in_ok-keys.ensures.schema c.requires.presentation in
-    rw (c.from_vec.ensures, c.into_rows.ensures) (one_row c.args.schema.now c.args.presentation.now th c.in_ok-tables.tables (rows_of c.in_ok-tables.rows) c.args.depth c.in_ok-tables.ensures.stage)
+returns-clause-sound c = if_ok _ _ _ (λ p (made : IsSaturated c.args.schema.now c.args.presentation.now c.args.depth p). made.sound) c.saturate_from.ensures.made
 
 pub returns-clause-traced : goal.returns-clause-traced
-returns-clause-traced c =
-    let th = theory_is c.args.schema.now c.args.presentation.now c.in_ok-keys.ensures.schema c.requires.presentation in
-    rw (c.from_vec.ensures, c.into_rows.ensures) (all_traced c.args.schema.now c.args.presentation.now th c.in_ok-tables.tables (rows_of c.in_ok-tables.rows) c.args.depth c.in_ok-tables.ensures.stage)
+returns-clause-traced c = if_ok _ _ _ (λ p (made : IsSaturated c.args.schema.now c.args.presentation.now c.args.depth p). made.traced) c.saturate_from.ensures.made
 
 pub returns-clause-within : goal.returns-clause-within
-returns-clause-within c =
-    let th = theory_is c.args.schema.now c.args.presentation.now c.in_ok-keys.ensures.schema c.requires.presentation in
-    rw (c.from_vec.ensures, c.into_rows.ensures) (within_row c.args.schema.now c.args.presentation.now th c.in_ok-tables.tables (rows_of c.in_ok-tables.rows) c.args.depth c.in_ok-tables.ensures.stage)
+returns-clause-within c = if_ok _ _ _ (λ p (made : IsSaturated c.args.schema.now c.args.presentation.now c.args.depth p). made.within) c.saturate_from.ensures.made
 
 pub returns-clause-named : goal.returns-clause-named
-returns-clause-named c =
-    let th = theory_is c.args.schema.now c.args.presentation.now c.in_ok-keys.ensures.schema c.requires.presentation in
-    rw (c.from_vec.ensures, c.into_rows.ensures) (all_named c.args.schema.now c.args.presentation.now th c.in_ok-tables.tables (rows_of c.in_ok-tables.rows) c.args.depth c.in_ok-tables.ensures.stage)
+returns-clause-named c = if_ok _ _ _ (λ p (made : IsSaturated c.args.schema.now c.args.presentation.now c.args.depth p). made.named) c.saturate_from.ensures.made
+
+pub returns-clause-closed : goal.returns-clause-closed
+returns-clause-closed c = if_ok _ _ _ (λ p (made : IsSaturated c.args.schema.now c.args.presentation.now c.args.depth p). made.closed) c.saturate_from.ensures.made
 
 pub returns-clause-rules : goal.returns-clause-rules
-returns-clause-rules c =
-    let th = theory_is c.args.schema.now c.args.presentation.now c.in_ok-keys.ensures.schema c.requires.presentation in
-    path_equations c.args.schema.now c.args.presentation.now th c.in_ok-tables.tables (rows_of c.in_ok-tables.rows) c.args.depth c.in_ok-tables.ensures.stage
+returns-clause-rules c = if_ok _ _ _ (λ p (made : IsSaturated c.args.schema.now c.args.presentation.now c.args.depth p). made.rules) c.saturate_from.ensures.made
 
 pub returns-clause-given : goal.returns-clause-given
-returns-clause-given c =
-    let th = theory_is c.args.schema.now c.args.presentation.now c.in_ok-keys.ensures.schema c.requires.presentation in
-    rw (c.from_vec.ensures, c.into_rows.ensures) (entity_equations c.args.schema.now c.args.presentation.now th c.in_ok-tables.tables (rows_of c.in_ok-tables.rows) c.args.depth c.in_ok-tables.ensures.stage)
+returns-clause-given c = if_ok _ _ _ (λ p (made : IsSaturated c.args.schema.now c.args.presentation.now c.args.depth p). made.given) c.saturate_from.ensures.made
 
 pub returns-clause-unclosed : goal.returns-clause-unclosed
-returns-clause-unclosed c = λ e. none_closes c.args.schema.now c.args.presentation.now c.args.depth (c.in_ok-tables.ensures.unclosed e)
-
-pub returns-in_err-tables-clause-many : goal.returns-in_err-tables-clause-many
-returns-in_err-tables-clause-many c =
-    let p = err_from_is_err_and c.from_residual-in_err-tables.result c.from_residual-in_err-tables.ensures.1 in
-    rw (p.1, p.2) (λ e. some_wide c.args.schema.now c.args.presentation.now c.args.depth (c.in_err-tables.ensures.many (same_refusal _ _ e)))
+returns-clause-unclosed c = if_ok _ _ _ (λ p (made : IsSaturated c.args.schema.now c.args.presentation.now c.args.depth p). made.unclosed) c.saturate_from.ensures.made

@@ -15,7 +15,7 @@ point-requires-clause-place c =
     let key = rw (← c.self.view_is) at c.requires.key in
     let place = rw (← c.self.view_is) at c.place-place.ensures in
     let made = live_made _ _ _ _ _ _ _ c.self.invariant.laid c.args.row c.self.invariant.whole row in
-    rw c.reserve.ensures.cells (place_as c.self.inside.plan.entities _ _ c.self.inside.alive.items _ _ _ c.self.invariant.laid c.args.row c.args.key c.place-place.result made (rw key refl) place).below
+    rw c.reserve.ensures.cells (place_as c.self.inside.plan.value.entities _ _ c.self.inside.alive.items _ _ _ c.self.invariant.laid c.args.row c.args.key c.place-place.result made (rw key refl) place).below
 
 pub point-requires-clause-empty : goal.point-requires-clause-empty
 point-requires-clause-empty c =
@@ -24,8 +24,8 @@ point-requires-clause-empty c =
     let empty = rw (← c.self.view_is) at c.requires.empty in
     let place = rw (← c.self.view_is) at c.place-place.ensures in
     let made = live_made _ _ _ _ _ _ _ c.self.invariant.laid c.args.row c.self.invariant.whole row in
-    let p = place_as c.self.inside.plan.entities _ _ c.self.inside.alive.items _ _ _ c.self.invariant.laid c.args.row c.args.key c.place-place.result made (rw key refl) place in
-    rw c.reserve.ensures.cells (cell_read c.self.inside.plan.entities _ _ c.self.inside.alive.items _ _ _ c.self.invariant.laid c.args.row c.args.key c.place-place.result _ made (rw key refl) p refl ∙ empty)
+    let p = place_as c.self.inside.plan.value.entities _ _ c.self.inside.alive.items _ _ _ c.self.invariant.laid c.args.row c.args.key c.place-place.result made (rw key refl) place in
+    rw c.reserve.ensures.cells (cell_read c.self.inside.plan.value.entities _ _ c.self.inside.alive.items _ _ _ c.self.invariant.laid c.args.row c.args.key c.place-place.result _ made (rw key refl) p refl ∙ empty)
 
 pub point-requires-clause-row : goal.point-requires-clause-row
 point-requires-clause-row c =
