@@ -1,5 +1,5 @@
 //! Classes of nodes, which are joined.
-ghost use Rattle.std.specs.Prelude.{◌≡◌, ◌≢◌, ◌<◌, ℕ, length, map, IfOk, OnOk, slice_index};
+ghost use Rattle.std.specs.Prelude.{◌≡◌, ◌≢◌, ◌<◌, ◌^◌, ℕ, length, map, IfOk, OnOk, slice_index};
 ghost use Rattle.std.specs.List.{range_with_len};
 ghost use Rattle.cq_flat.specs.Closing.{Stales};
 ghost use Rattle.cq_flat.specs.Partition.{AreRings, joined};
@@ -9,15 +9,16 @@ use std::alloc::{AllocError, Global};
 
 /// Each node in a class of its own, by its own number: the classes, and the node that follows each
 /// in the ring of its class.
-pub fn singletons(alloc: Global, count: usize) -> Result<(Vec<u64>, Vec<u64>), AllocError>
+pub fn singletons(alloc: Global, count: usize) -> Result<(Vec<u32>, Vec<u32>), AllocError>
+    requires { count < 2 ^ 32 }
     ensures classes { IfOk result (λ made. made.0.items ≡ range_with_len 0 count) }
     ensures rings { IfOk result (λ made. AreRings made.0.items made.1.items) }
 {
     let mut classes = Vec::with_capacity(alloc, count)?;
     let mut following = Vec::with_capacity(alloc, count)?;
     for node in 0..count {
-        classes.push(node as u64)?;
-        following.push(node as u64)?;
+        classes.push(node as u32)?;
+        following.push(node as u32)?;
     }
     Ok((classes, following))
 }
@@ -25,12 +26,12 @@ pub fn singletons(alloc: Global, count: usize) -> Result<(Vec<u64>, Vec<u64>), A
 /// Puts the nodes of a class into another, going once round their ring. What uses one of them
 /// becomes stale.
 pub fn relabel(
-    classes: &mut Vec<u64>,
+    classes: &mut Vec<u32>,
     stale: &mut Vec<u64>,
-    following: &[u64],
+    following: &[u32],
     uses: &Lists,
-    from: u64,
-    to: u64,
+    from: u32,
+    to: u32,
 ) -> Result<(), AllocError>
     requires rings { AreRings classes.old.items following.now }
     requires from { from < length classes.old.items }
@@ -42,7 +43,7 @@ pub fn relabel(
     let mut node = from;
     while classes[node as usize] == from {
         classes[node as usize] = to;
-        stale.extend_from_slice(uses.get(node))?;
+        stale.extend_from_slice(uses.get(u64::from(node)))?;
         node = following[node as usize];
     }
     Ok(())
@@ -50,7 +51,7 @@ pub fn relabel(
 
 /// Whether one ring is no longer than another. Both are gone round at once until one is at its end,
 /// so it takes time in the members of the shorter.
-pub fn is_shorter(following: &[u64], left: u64, right: u64) -> bool
+pub fn is_shorter(following: &[u32], left: u32, right: u32) -> bool
     requires following { (x : ℕ) → x < length following.now → slice_index following.now x < length following.now }
     requires left { left < length following.now }
     requires right { right < length following.now }

@@ -1,5 +1,5 @@
 //! The closure of equations on nodes.
-ghost use Rattle.std.specs.Prelude.{◌≡◌, ◌≢◌, ◌<◌, ◌↔◌, ℕ, length, Contains, IfOk, OnOk, IsFalse, slice_index};
+ghost use Rattle.std.specs.Prelude.{◌≡◌, ◌≢◌, ◌<◌, ◌^◌, ◌↔◌, ℕ, length, Contains, IfOk, OnOk, IsFalse, slice_index};
 ghost use Rattle.cq_flat.specs.Nodes.{HasEarlierArguments, AreSides};
 ghost use Rattle.cq_flat.specs.Closing.{AreExact, Skips};
 ghost use Rattle.cq_flat.specs.Partition.{Has};
@@ -18,8 +18,8 @@ use std::mem;
 /// and the functions whose arguments were joined since they were looked up.
 #[derive(Drop)]
 pub struct Closing {
-    classes: Vec<u64>,
-    following: Vec<u64>,
+    classes: Vec<u32>,
+    following: Vec<u32>,
     uses: Lists,
     table: Table,
     pending: Vec<(u64, u64)>,
@@ -37,6 +37,7 @@ impl Closing {
         nodes: &[Node],
         equations: Vec<(u64, u64)>,
     ) -> Result<Closing, AllocError>
+        requires few { length nodes.now < 2 ^ 32 }
         requires arguments { HasEarlierArguments nodes.now }
         requires sides { AreSides nodes.now equations.items }
         ensures { IfOk result (λ closing. IsClosing nodes.now equations.items AnyNode closing) }
@@ -55,6 +56,7 @@ impl Closing {
         nodes: &[Node],
         equations: Vec<(u64, u64)>,
     ) -> Result<Closing, AllocError>
+        requires few { length nodes.now < 2 ^ 32 }
         requires arguments { HasEarlierArguments nodes.now }
         requires sides { AreSides nodes.now equations.items }
         ensures { IfOk result (λ closing. IsClosing nodes.now equations.items
@@ -77,6 +79,7 @@ impl Closing {
 
     // Each of some nodes is alone in its class.
     fn alone(alloc: Global, count: usize, equations: Vec<(u64, u64)>) -> Result<Closing, AllocError>
+        requires { count < 2 ^ 32 }
         ensures { IfOk result (λ closing. IsAlone count equations.items closing) }
     {
         let (classes, following) = singletons(alloc, count)?;
@@ -116,7 +119,7 @@ impl Closing {
     }
 
     // Joins two classes: the one with fewer members to the other.
-    fn merge(&mut self, left: u64, right: u64) -> Result<(), AllocError>
+    fn merge(&mut self, left: u32, right: u32) -> Result<(), AllocError>
         requires rings { AreRings self.old.classes.items self.old.following.items }
         requires left { left < length self.old.classes.items }
         requires right { right < length self.old.classes.items }
@@ -135,7 +138,7 @@ impl Closing {
 
     // Joins one class to another, in time in the members of the first. What uses one of them is to
     // be looked up anew.
-    fn join(&mut self, from: u64, to: u64) -> Result<(), AllocError>
+    fn join(&mut self, from: u32, to: u32) -> Result<(), AllocError>
         requires rings { AreRings self.old.classes.items self.old.following.items }
         requires from { from < length self.old.classes.items }
         requires to { to < length self.old.classes.items }
@@ -195,7 +198,8 @@ pub fn close_classes(
     alloc: Global,
     nodes: &[Node],
     equations: Vec<(u64, u64)>,
-) -> Result<Vec<u64>, AllocError>
+) -> Result<Vec<u32>, AllocError>
+    requires few { length nodes.now < 2 ^ 32 }
     requires arguments { HasEarlierArguments nodes.now }
     requires sides { AreSides nodes.now equations.items }
     ensures { IfOk result (λ classes. AreExact nodes.now equations.items classes.items) }
@@ -212,7 +216,7 @@ pub fn close_classes(
 }
 
 // Takes out pairs up to the first one of two classes, and gives these.
-fn next(classes: &[u64], pending: &mut Vec<(u64, u64)>) -> Option<(u64, u64)>
+fn next(classes: &[u32], pending: &mut Vec<(u64, u64)>) -> Option<(u32, u32)>
     requires { (a b : ℕ) → Contains pending.old.items (a, b) → (a < length classes.now) × (b < length classes.now) }
     ensures { Skips (slice_index classes.now) pending.old.items pending.new.items result }
 {
@@ -226,7 +230,7 @@ fn next(classes: &[u64], pending: &mut Vec<(u64, u64)>) -> Option<(u64, u64)>
     None
 }
 
-fn class_of(classes: &[u64], node: u64) -> u64
+fn class_of(classes: &[u32], node: u64) -> u32
     requires { node < length classes.now }
     ensures { result ≡ slice_index classes.now node }
 {

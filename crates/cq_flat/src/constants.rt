@@ -1,5 +1,5 @@
 //! The constants of classes.
-ghost use Rattle.std.specs.Prelude.{◌≡◌, ◌<◌, length, All, IfOk, Some, option_map};
+ghost use Rattle.std.specs.Prelude.{◌≡◌, ◌<◌, ◌^◌, length, All, IfOk, Some, option_map};
 ghost use Rattle.std.specs.Ordering.{is_gt, ordering_then};
 ghost use Rattle.cq_theory.specs.Constant.{con_cmp};
 ghost use Rattle.cq_flat.specs.Constants.{AreLeast, IsExcess, constant_at, constants_at};
@@ -14,25 +14,26 @@ use std::cmp::Ordering;
 pub fn least_constants(
     alloc: Global,
     nodes: &[Node],
-    classes: &[u64],
-) -> Result<Vec<u64>, AllocError>
+    classes: &[u32],
+) -> Result<Vec<u32>, AllocError>
+    requires few { length nodes.now < 2 ^ 32 }
     requires count { length classes.now ≡ length nodes.now }
     requires within { All (λ class. class < length nodes.now) classes.now }
     ensures { IfOk result (λ least. AreLeast nodes.now classes.now (length nodes.now)
         (constants_at nodes.now least.items)) }
 {
-    let mut least = vec![in alloc; nodes.len() as u64; nodes.len()]?;
+    let mut least = vec![in alloc; nodes.len() as u32; nodes.len()]?;
     for (node, content) in nodes.iter().enumerate() {
         if let Node::Const(constant) = content {
             let class = classes[node];
-            least[class as usize] = lesser_of(nodes, least[class as usize], node as u64, constant);
+            least[class as usize] = lesser_of(nodes, least[class as usize], node as u32, constant);
         }
     }
     Ok(least)
 }
 
 /// The constant of a node, if the number is that of a constant.
-pub fn constant_at(nodes: &[Node], place: u64) -> Option<&Con>
+pub fn constant_at(nodes: &[Node], place: u32) -> Option<&Con>
     ensures { option_map (λ constant. constant.now) result ≡ constant_at nodes.now place }
 {
     match nodes.get(place as usize) {
@@ -42,7 +43,7 @@ pub fn constant_at(nodes: &[Node], place: u64) -> Option<&Con>
 }
 
 // The node of the lesser one of two constants, of which the first may be missing.
-fn lesser_of(nodes: &[Node], other: u64, node: u64, constant: &Con) -> u64
+fn lesser_of(nodes: &[Node], other: u32, node: u32, constant: &Con) -> u32
     requires { constant_at nodes.now node ≡ Some constant.now }
     ensures { constant_at nodes.now result ≡ Some (lesser (constant_at nodes.now other) constant.now) }
 {
@@ -61,8 +62,8 @@ fn lesser_of(nodes: &[Node], other: u64, node: u64, constant: &Con) -> u64
 /// The least constant that is in a class with a greater one, and the least such greater one.
 pub fn clash_of(
     nodes: &[Node],
-    classes: &[u64],
-    least: &[u64],
+    classes: &[u32],
+    least: &[u32],
 ) -> Result<Option<(Con, Con)>, AllocError>
     requires count { length classes.now ≡ length nodes.now }
     requires least { length least.now ≡ length nodes.now }

@@ -12,7 +12,7 @@ use smallvec::SmallVec;
 use std::alloc::{AllocError, Global};
 
 /// What a node is looked up by, where nodes have these classes.
-pub fn key(alloc: Global, classes: &[u64], node: &Node) -> Result<Option<Key>, AllocError>
+pub fn key(alloc: Global, classes: &[u32], node: &Node) -> Result<Option<Key>, AllocError>
     requires { HasArgumentsBelow (length classes.now) node.now }
     ensures { IfOk result (λ key. key ≡ key_of (slice_index classes.now) node.now) }
 {
@@ -40,7 +40,7 @@ fn constant_key(alloc: Global, constant: &Con) -> Result<Key, AllocError>
 /// The key of a function, where nodes have these classes.
 pub fn function_key(
     alloc: Global,
-    classes: &[u64],
+    classes: &[u32],
     function: u32,
     args: &[u64],
 ) -> Result<Key, AllocError>
@@ -51,7 +51,7 @@ pub fn function_key(
     numbers.push(1)?;
     numbers.push(u64::from(function))?;
     for arg in args {
-        numbers.push(classes[*arg as usize])?;
+        numbers.push(u64::from(classes[*arg as usize]))?;
     }
     Ok(Key::of_numbers(numbers))
 }
@@ -60,7 +60,7 @@ pub fn function_key(
 pub fn enter(
     alloc: Global,
     nodes: &[Node],
-    classes: &[u64],
+    classes: &[u32],
     table: &mut Table,
     pending: &mut Vec<(u64, u64)>,
     node: u64,
@@ -84,7 +84,7 @@ pub fn enter(
 pub fn enter_all(
     alloc: Global,
     nodes: &[Node],
-    classes: &[u64],
+    classes: &[u32],
     table: &mut Table,
     pending: &mut Vec<(u64, u64)>,
     entered: &[u64],

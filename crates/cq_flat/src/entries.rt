@@ -18,7 +18,7 @@ use std::alloc::{AllocError, Global};
 pub fn entries_of(
     alloc: Global,
     nodes: &[Node],
-    classes: &[u64],
+    classes: &[u32],
     values: &NodeValues,
 ) -> Result<Vec<Entry>, AllocError>
     requires arguments { HasEarlierArguments nodes.now }

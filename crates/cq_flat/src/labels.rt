@@ -16,8 +16,8 @@ use std::alloc::{AllocError, Global};
 pub fn values_of(
     alloc: Global,
     nodes: &[Node],
-    classes: &[u64],
-    least: &[u64],
+    classes: &[u32],
+    least: &[u32],
 ) -> Result<(NodeValues, Vec<u64>), AllocError>
     requires few { length classes.now < 2 ^ 32 }
     requires count { length least.now ≡ length classes.now }
@@ -50,7 +50,7 @@ pub fn values_of(
 // this is the first node of a null.
 fn new_value(
     nodes: &[Node],
-    place: u64,
+    place: u32,
     nulls: &mut Vec<u64>,
     node: u64,
 ) -> Result<Value, AllocError>
@@ -66,7 +66,7 @@ fn new_value(
 }
 
 // The place of the value of a class, or else the number of classes.
-fn place_at(placed: &[u32], count: u32, class: u64) -> u32
+fn place_at(placed: &[u32], count: u32, class: u32) -> u32
     ensures { result ≡ slice_index_or placed.now class count }
 {
     match placed.get(class as usize) {
@@ -76,11 +76,11 @@ fn place_at(placed: &[u32], count: u32, class: u64) -> u32
 }
 
 // Writes the place of the value of a class. Memory that no place is written to is not touched.
-fn write_place(placed: &mut Vec<u32>, count: u32, class: u64, place: u32) -> Result<(), AllocError>
+fn write_place(placed: &mut Vec<u32>, count: u32, class: u32, place: u32) -> Result<(), AllocError>
     ensures { OnOk result ((k : ℕ) → slice_index_or placed.new.items k count
         ≡ (if k == class then place else slice_index_or placed.old.items k count)) }
 {
-    while placed.len() as u64 <= class {
+    while placed.len() as u64 <= u64::from(class) {
         placed.push(count)?;
     }
     placed[class as usize] = place;

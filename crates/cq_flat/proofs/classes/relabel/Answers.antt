@@ -17,7 +17,7 @@ loop-classes-preserved c =
     let e = get_or_default c.loop-classes.classes.items c.loop-classes.node 0 c.index.result.now l ∙ sym c.index.ensures ∙ c.loop-classes-test.true in
     record {
       classes = relabelling_more c.args.classes.now.items c.loop-classes.classes.items c.args.following.now c.args.from c.args.to c.loop-classes.node c.requires.rings c.requires.differ i e;
-      stale = rw (c.in_ok-extend_from_slice.ensures.items, c.get.ensures)
+      stale = rw (c.in_ok-extend_from_slice.ensures.items, c.get.ensures, c.from.ensures)
           (staling_more c.args.classes.now.items c.loop-classes.classes.items c.args.uses.now c.args.from c.args.to c.args.stale.now.items c.loop-classes.stale.items c.loop-classes.invariant.stale c.loop-classes.node);
     }
 
