@@ -16,4 +16,5 @@ ArePlaced v = All (λ p. p < length v.different.items) v.places.items
 -- the value of a class that has none: its least constant, or the next null, of which a node is the first
 abbrev pub IsNewValue : Option Con → List ℕ → List ℕ → ℕ → Value → Type 0
 IsNewValue least nulls nulls' node v =
-    ((c : Con) × (least ≡ Some c) × (v ≡ Const c) × (nulls' ≡ nulls)) ⊎ ((least ≡ None) × (v ≡ Null (length nulls)) × (nulls' ≡ nulls ++ node ∷ []))
+    ((c : Con) × (least ≡ Some c) × (v ≡ Const c) × (nulls' ≡ nulls))
+    ⊎ ((least ≡ None) × (v ≡ Null (length nulls)) × (nulls' ≡ nulls ++ node ∷ []))

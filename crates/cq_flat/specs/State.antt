@@ -27,7 +27,8 @@ pub record IsShaped (nodes : List Node) (IsKnown : ℕ → Type 0) (s : Closing)
   pub within : (a : ℕ) → a < length nodes → class_in s a < length nodes
   pub root : (a : ℕ) → a < length nodes → class_in s (class_in s a) ≡ class_in s a
   pub rings : AreRings s.classes.items s.following.items
-  pub uses : (a f x : ℕ) (args : List ℕ) → IsKnown a → slice_get nodes a ≡ Some (Fun f args) → Has args x → Has (slice_index_or s.uses x []) a
+  pub uses : (a f x : ℕ) (args : List ℕ) → IsKnown a → slice_get nodes a ≡ Some (Fun f args) → Has args x
+      → Has (slice_index_or s.uses x []) a
   pub users : (k a : ℕ) → Has (slice_index_or s.uses k []) a → a < length nodes
 
 -- What is joined is equal. What is equal, of the nodes that are known, is joined once the pairs that wait are, and the functions that are

@@ -23,7 +23,8 @@ pub fn values_of(
     requires count { length least.now ≡ length classes.now }
     requires within { All (λ class. class < length classes.now) classes.now }
     requires apart { AreApart (constants_at nodes.now least.now) }
-    ensures values { IfOk result (λ made. AreClassValues classes.now (constants_at nodes.now least.now) (values_in made.0)) }
+    ensures values { IfOk result (λ made. AreClassValues classes.now (constants_at nodes.now least.now)
+        (values_in made.0)) }
     ensures placed { IfOk result (λ made. ArePlaced made.0) }
     ensures labels { IfOk result (λ made. AreLabels (values_in made.0) made.1.items) }
 {

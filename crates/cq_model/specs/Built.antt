@@ -7,7 +7,8 @@ use Rattle.cq_flat.specs.declared.node.Node.{Node}
 use Rattle.cq_flat.specs.Values.{Closure, AreValues, AreLabels, entries_of, IsClash, value_at}
 use Rattle.cq_model.specs.declared.places.Places.{Places}
 use Rattle.cq_model.specs.LeastNames.{rows_at, AreNumbered}
-use Rattle.cq_model.specs.NodeTerms.{given_sides, leaf_terms, side_terms, cell_place, IsConstantTerm, AreNodes, AreSidesOf, ArePlaces, AreTypes}
+use Rattle.cq_model.specs.NodeTerms.{given_sides, leaf_terms, side_terms, cell_place, IsConstantTerm, AreNodes, AreSidesOf}
+use Rattle.cq_model.specs.NodeTerms.{ArePlaces, AreTypes}
 use Rattle.cq_model.specs.Thins.{Thins}
 use Rattle.cq_theory.specs.declared.presentation.Presentation.{Presentation}
 use Rattle.cq_theory.specs.declared.presentation.Sort.{Sort}

@@ -27,7 +27,8 @@ module _ (S : Schema) (m : Content) (places : Places) where
   -- these sides are added, whatever there was before
   abbrev pub AddsSides : Presentation → List ℕ → List (TypeTerm × TypeTerm) → NodeListData → NodeListData → Type 0
   AddsSides P entries more old new = (terms : List TypeTerm) (sides : List (TypeTerm × TypeTerm))
-      → AreEquationsOf S m places P entries terms sides old → HasMore S m places P entries terms (flat_map side_terms more) (sides ++ more) new
+      → AreEquationsOf S m places P entries terms sides old
+      → HasMore S m places P entries terms (flat_map side_terms more) (sides ++ more) new
 
   -- a term over the presentation that leads to the row
   pub record IsNameOf (P : Presentation) (entries : List ℕ) (entity row : ℕ) (t : EntTerm) : Type 0 where
