@@ -8,4 +8,4 @@ pub returns-in-Example : goal.returns-in-Example
 returns-in-Example g c = rw c.in-Example.is c.export_all-in-Example.ensures
 
 pub returns-in-Explain : goal.returns-in-Explain
-returns-in-Explain g c = rw c.in-Explain.is (c.answer_question.ensures, refl)
+returns-in-Explain g c = rw c.in-Explain.is (rw c.as_slice.ensures.value at c.answer_question.ensures, refl)
