@@ -1,11 +1,11 @@
 -- Numbers of names in tables.
-use Rattle.std.proofs.Common.{ℕ, zero, suc, Bool, true, false, not, List, [], ◌∷◌, ◌++◌, Option, Some, None, ◌≡◌, ◌<◌, ◌+◌, ◌||◌, length, refl, sym, ap, ◌∙◌, arith, rules}
-use Rattle.std.specs.Prelude.{is_some, is_none, option_map, position, slice_get, nat_lt, cond}
+use Rattle.std.proofs.Common.{ℕ, suc, Bool, true, false, not, List, [], ◌∷◌, ◌++◌, Option, Some, None, ◌≡◌, ◌<◌, ◌+◌, ◌||◌, length, refl, sym, ap, ◌∙◌, arith}
+use Rattle.std.specs.Prelude.{is_some, option_map, position, nat_lt, cond}
 use Rattle.std.specs.List.{list_any, position_or_len}
-use Rattle.std.specs.Cmp.Lexicographic.{pointwise, nat_list_eq_equiv}
+use Rattle.std.specs.Cmp.Lexicographic.{nat_list_eq_equiv}
 use Rattle.std.proofs.lemmas.Bool.Decides.{nat_tests}
 use Rattle.std.proofs.lemmas.List.Quantifiers.{position-Some}
-use Rattle.std.proofs.lemmas.Map.Keys.{IsDistinct-push, IsDistinct-head, IsDistinct-tail}
+use Rattle.std.proofs.lemmas.Map.Keys.{IsDistinct-push}
 use Rattle.cq_base.specs.declared.name.Name.{Name}
 use Rattle.cq_base.specs.Names.{same_name, number_of, AreDistinct}
 

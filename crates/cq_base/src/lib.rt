@@ -8,6 +8,7 @@ pub mod place;
 pub mod raw;
 pub mod seq;
 pub mod shared;
+pub mod source;
 
 pub use hashing::Hashing;
 pub use name::{Name, NameRefusal};
@@ -16,6 +17,7 @@ pub use place::Place;
 pub use raw::Raw;
 pub use seq::{Seq, number_at};
 pub use shared::SharedTexts;
+pub use source::Source;
 
 #[cfg(test)]
 mod tests;

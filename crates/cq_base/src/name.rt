@@ -1,6 +1,5 @@
 //! Names.
-ghost use Rattle.std.specs.Prelude.{◌≡◌, ◌<◌, ◌≤◌, ◌↔◌, IfOk, length, nat_eq, []};
-ghost use Rattle.std.specs.Rc.{rc_str_bytes};
+ghost use Rattle.std.specs.Prelude.{◌≡◌, ◌<◌, ◌≤◌, ◌↔◌, IfOk, IfSome, length, nat_eq, []};
 ghost use Rattle.std.specs.Hash as fed;
 ghost use Rattle.std.specs.Cmp.Lexicographic.{pointwise, nat_list_eq_equiv, slice_cmp, nat_list_cmp_total, texts_ties};
 ghost use Rattle.std.specs.Cmp.Lexicographic.{texts_po};
@@ -15,7 +14,7 @@ use std::alloc::{AllocError, AllocFailed, Global};
 use std::cmp::Ordering;
 use std::hash::{Hash, Hasher};
 use std::marker::Model;
-use std::rc::RcStr;
+use std::rc::RcSlice;
 
 /// The most bytes of a name.
 pub const LONGEST: usize = 255;
@@ -23,20 +22,23 @@ pub const LONGEST: usize = 255;
 /// A text of at most 255 bytes of UTF-8, which copies share. Contracts see it as its bytes.
 #[derive(Drop)]
 pub struct Name {
-    // None is the empty text, which takes no memory.
-    text: Option<RcStr>,
+    // A text of its own, or that of a whole file; the name begins at `from`.
+    shared: RcSlice<u8>,
+    from: u32,
+    len: u8,
 }
 
 impl Model for Name {
-    ghost use Rattle.std.specs.Prelude.{ℕ, List, [], length, ◌≤◌, Some, None};
-    ghost use Rattle.std.specs.Rc.{rc_str_bytes};
+    ghost use Rattle.std.specs.Prelude.{ℕ, List, length, take, drop, ◌≤◌, ◌+◌};
+    ghost use Rattle.std.specs.Rc.{rc_slice_items};
+    ghost use Rattle.std.specs.Str.{IsUtf8};
 
     ghost Value = { List ℕ };
 
-    ghost view = { λ name. elim name.text [ None ↦ [] | Some text ↦ rc_str_bytes text ] };
+    ghost view = { λ name. take name.len (drop name.from (rc_slice_items name.shared)) };
 
-    ghost invariant = { λ name. length (elim name.text as
-        (λ _. List ℕ) [ None ↦ [] | Some text ↦ rc_str_bytes text ]) ≤ 255 };
+    ghost invariant = { λ name. (name.from + name.len ≤ length (rc_slice_items name.shared))
+        × IsUtf8 (take name.len (drop name.from (rc_slice_items name.shared))) };
 }
 
 /// Why a text could not be made a name.
@@ -76,23 +78,43 @@ impl Name {
         if text.len() > LONGEST {
             return Err(NameRefusal::Long);
         }
-        let text = RcStr::from_str(alloc, text)?;
-        Ok(Name { text: Some(text) })
+        let bytes = text.as_bytes();
+        Ok(Name {
+            shared: RcSlice::from_slice(alloc, bytes)?,
+            from: 0,
+            len: bytes.len() as u8,
+        })
     }
 
-    /// The name that this text is, whose memory it shares.
-    pub(crate) fn of_shared(text: RcStr) -> Name
-        requires { length (rc_str_bytes text) ≤ LONGEST }
-        ensures { result ≡ rc_str_bytes text }
+    /// The name that this text is, in the memory of `shared`, if it stands there at `from`.
+    pub(crate) fn standing_in(
+        shared: &RcSlice<u8>,
+        from: usize,
+        text: &str,
+    ) -> Result<Option<Name>, AllocError>
+        requires { length text.now ≤ LONGEST }
+        ensures { IfOk result (λ found. IfSome found (λ name. name ≡ text.now)) }
     {
-        Name { text: Some(text) }
+        let bytes = text.as_bytes();
+        let len = bytes.len();
+        let Ok(start) = u32::try_from(from) else {
+            return Ok(None);
+        };
+        match shared.as_slice().get(from..from + len) {
+            Some(found) if found == bytes => Ok(Some(Name {
+                shared: shared.clone()?,
+                from: start,
+                len: len as u8,
+            })),
+            _ => Ok(None),
+        }
     }
 
-    /// The empty name, which takes no memory.
-    pub fn empty() -> Name
-        ensures { result ≡ [] }
+    /// The empty name.
+    pub fn empty(alloc: Global) -> Result<Name, AllocError>
+        ensures { IfOk result (λ name. name ≡ []) }
     {
-        Name { text: None }
+        Name::new(alloc, "").map_err(|_| AllocError)
     }
 
     /// The text of the name.
@@ -100,10 +122,9 @@ impl Name {
         ensures text { result.now ≡ self.now }
         ensures short { length self.now ≤ LONGEST }
     {
-        match &self.text {
-            Some(text) => text.as_str(),
-            None => "",
-        }
+        let from = self.from as usize;
+        let bytes = &self.shared.as_slice()[from..from + self.len as usize];
+        unsafe { std::str::from_utf8_unchecked(bytes) }
     }
 }
 
@@ -111,12 +132,11 @@ impl Clone for Name {
     ghost is_clone = { λ name copy. copy ≡ name };
 
     fn clone(&self) -> Result<Name, AllocError> {
-        match &self.text {
-            Some(text) => Ok(Name {
-                text: Some(text.clone()?),
-            }),
-            None => Ok(Name::empty()),
-        }
+        Ok(Name {
+            shared: self.shared.clone()?,
+            from: self.from,
+            len: self.len,
+        })
     }
 }
 

@@ -1,17 +1,32 @@
 //! Texts of which equal ones share their memory.
 ghost use Rattle.std.specs.Prelude.{◌≡◌, ◌<◌, ◌↔◌, IfOk, length};
+ghost use Rattle.std.proofs.Common.{ap};
+ghost use Rattle.std.specs.Cmp.Lexicographic.{bytes_decides, nat_list_eq_equiv};
+ghost use Rattle.std.specs.Hash as fed;
+ghost use Rattle.std.specs.Str.{bytes_eq};
 
 use crate::hashing::Hashing;
 use crate::name::{LONGEST, Name, NameRefusal};
-use indexmap::IndexSet;
+use indexmap::{Equivalent, IndexSet};
 use std::alloc::Global;
-use std::rc::RcStr;
+
+impl Equivalent<Name> for &str {
+    ghost equivalent = { λ text name. bytes_eq text.now name };
+
+    ghost respects_hash = { λ text name same. ap fed.str ((bytes_decides text.now name).0 same) };
+
+    ghost respects_eq = { λ text x y. nat_list_eq_equiv.congr text.now x y };
+
+    fn equivalent(&self, name: &Name) -> bool {
+        *self == name.as_str()
+    }
+}
 
 /// Texts that were made names, each of which stands once in memory. No clause says which they are, since a name is the
 /// same whether it shares its memory or not.
 #[derive(Drop)]
 pub struct SharedTexts {
-    texts: IndexSet<RcStr, Hashing>,
+    texts: IndexSet<Name, Hashing>,
     alloc: Global,
 }
 
@@ -33,10 +48,10 @@ impl SharedTexts {
             return Err(NameRefusal::Long);
         }
         if let Some(shared) = self.texts.get(text) {
-            return Ok(Name::of_shared(shared.clone()?));
+            return Ok(shared.clone()?);
         }
-        let shared = RcStr::from_str(self.alloc, text)?;
-        self.texts.insert(shared.clone()?)?;
-        Ok(Name::of_shared(shared))
+        let name = Name::new(self.alloc, text)?;
+        self.texts.insert(name.clone()?)?;
+        Ok(name)
     }
 }

@@ -33,7 +33,7 @@ fn entity_count(mapping: &Mapping) -> u32
 fn over_one(alloc: Global, entity: u32) -> Result<Presentation, AllocError>
     ensures { IfOk result (λ made. made ≡ one_generator entity) }
 {
-    let generators = vec![in alloc; (Name::empty(), Sort::Entity(entity))]?;
+    let generators = vec![in alloc; (Name::empty(alloc)?, Sort::Entity(entity))]?;
     Ok(Presentation {
         generators: Seq::from_vec(generators),
         equations: Seq::from_vec(Vec::new(alloc)),

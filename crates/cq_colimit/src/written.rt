@@ -22,12 +22,12 @@ fn joined(alloc: Global, part: &Placed, name: &Name) -> Result<Name, AllocError>
 }
 
 /// A name of a list.
-fn name_at(names: &[Name], number: u32) -> Result<Name, AllocError>
+fn name_at(alloc: Global, names: &[Name], number: u32) -> Result<Name, AllocError>
     ensures { IfOk result (λ name. name ≡ slice_index_or names.now number []) }
 {
     match names.get(number as usize) {
         Some(name) => name.clone(),
-        None => Ok(Name::empty()),
+        None => Name::empty(alloc),
     }
 }
 
@@ -47,10 +47,12 @@ fn key_part(
 {
     let name = joined(alloc, part, &edge.name)?;
     let from = name_at(
+        alloc,
         entities,
         numbers[part.start.entity as usize + edge.from as usize],
     )?;
     let to = name_at(
+        alloc,
         entities,
         numbers[part.start.entity as usize + edge.to as usize],
     )?;
@@ -72,10 +74,11 @@ fn attribute_part(
 {
     let name = joined(alloc, part, &edge.name)?;
     let from = name_at(
+        alloc,
         entities,
         numbers[part.start.entity as usize + edge.from as usize],
     )?;
-    let to = name_at(part.schema.typeside.types.as_slice(), edge.to)?;
+    let to = name_at(alloc, part.schema.typeside.types.as_slice(), edge.to)?;
     Ok((name, from, to))
 }
 

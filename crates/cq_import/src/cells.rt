@@ -15,7 +15,7 @@ use crate::ids::Id;
 use crate::labels::{Labels, Trouble, note_labels, value_term};
 use crate::refusal::CsvRefusal;
 use crate::rows::bad_cell;
-use cq_base::{Seq, SharedTexts};
+use cq_base::{Seq, Source};
 use cq_theory::{EntTerm, Equation, Schema, TypeTerm, Typeside, Value};
 use std::alloc::{AllocError, Global};
 
@@ -32,15 +32,16 @@ pub struct Context<'a> {
     pub room: Option<u32>,
 }
 
-/// The labels and the equations that were read, and the texts of their constants.
+/// The labels and the equations that were read, and the file that is read, in whose memory texts of constants stand.
 #[derive(Drop)]
 pub struct Made {
     pub labels: Labels,
     pub equations: Vec<Equation>,
-    pub texts: SharedTexts,
+    pub source: Source,
 }
 
-/// A field with its place and the generator of its record.
+/// A field with its place and the generator of its record, and how many bytes the file has from the field on, if no
+/// field before it in the record is quoted.
 #[derive(Clone, Copy)]
 pub struct Cell<'a> {
     pub file: &'a str,
@@ -49,6 +50,7 @@ pub struct Cell<'a> {
     pub generator: u32,
     pub column: Column,
     pub field: &'a [u8],
+    pub rest: usize,
 }
 
 fn wrong(context: &Context, cell: &Cell) -> CsvRefusal
@@ -215,7 +217,8 @@ fn read_attribute(
 {
     let schema: &Schema = context.schema;
     let typeside: &Typeside = &schema.typeside;
-    match read_content(context.alloc, &mut made.texts, typeside, sort, cell.field)? {
+    let source = &mut made.source;
+    match read_content(context.alloc, source, typeside, sort, cell.rest, cell.field)? {
         Content::Blank => Ok(()),
         Content::Wrong => Err(wrong(context, cell)),
         Content::Means(value) => {

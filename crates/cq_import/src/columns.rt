@@ -76,21 +76,25 @@ fn push_keys(
     Ok(())
 }
 
-fn name_of(schema: &Schema, column: Column) -> Result<Name, AllocError>
+fn name_of(alloc: Global, schema: &Schema, column: Column) -> Result<Name, AllocError>
     ensures { IfOk result (λ name. name ≡ column_name schema.now column) }
 {
     match column {
-        Column::Attribute(attribute, _) => edge_name(schema.attributes.as_slice(), attribute),
-        Column::Key(key, _) => edge_name(schema.keys.as_slice(), key),
+        Column::Attribute(attribute, _) => edge_name(
+            alloc,
+            schema.attributes.as_slice(),
+            attribute,
+        ),
+        Column::Key(key, _) => edge_name(alloc, schema.keys.as_slice(), key),
     }
 }
 
-fn edge_name(edges: &[Edge], number: u32) -> Result<Name, AllocError>
+fn edge_name(alloc: Global, edges: &[Edge], number: u32) -> Result<Name, AllocError>
     ensures { IfOk result (λ name. name ≡ edge_name_of (slice_get edges.now number)) }
 {
     match edges.get(number as usize) {
         Some(edge) => edge.name.clone(),
-        None => Ok(Name::empty()),
+        None => Name::empty(alloc),
     }
 }
 
@@ -101,7 +105,7 @@ pub fn header(alloc: Global, schema: &Schema, columns: &[Column]) -> Result<Vec<
     let mut names = Vec::new(alloc);
     names.push(id_name(alloc)?)?;
     for column in columns {
-        names.push(name_of(schema, *column)?)?;
+        names.push(name_of(alloc, schema, *column)?)?;
     }
     Ok(names)
 }

@@ -3,7 +3,7 @@ ghost use Rattle.std.specs.Prelude.{◌≡◌, IfOk};
 ghost use Rattle.cq_import.specs.Cells.{constant_content as content_of_constant, content_of, constant_of_name};
 ghost use Rattle.cq_import.specs.Cells.{found as content_found, typed_constant as content_typed};
 
-use cq_base::{Name, NameRefusal, SharedTexts};
+use cq_base::{Name, NameRefusal, Source};
 use cq_theory::{Con, Typeside, Value};
 use cq_values::read_value;
 use std::alloc::{AllocError, Global};
@@ -38,9 +38,10 @@ fn typed_constant(typeside: &Typeside, sort: u32, constant: Con) -> Content
 
 /// The constant with this content: the declared one, or else the open one.
 fn constant_content(
-    texts: &mut SharedTexts,
+    source: &mut Source,
     typeside: &Typeside,
     sort: u32,
+    rest: usize,
     field: &[u8],
 ) -> Result<Content, AllocError>
     ensures { IfOk result (λ content. content ≡ content_of_constant typeside.now sort field.now) }
@@ -48,7 +49,7 @@ fn constant_content(
     let Ok(text) = str::from_utf8(field) else {
         return Ok(Content::Wrong);
     };
-    match texts.name(text) {
+    match source.name(rest, text) {
         Ok(name) => Ok(named_content(typeside, sort, name)),
         Err(NameRefusal::Long) => Ok(Content::Wrong),
         Err(NameRefusal::Memory) => Err(AllocError),
@@ -64,12 +65,14 @@ fn named_content(typeside: &Typeside, sort: u32, name: Name) -> Content
     }
 }
 
-/// What a field means in the column of an attribute of this type. Equal texts of different cells share their memory.
+/// What a field means in the column of an attribute of this type. A text stands in the memory of its file, if the field
+/// is written as it is where the file's last `rest` bytes begin.
 pub fn read_content(
     alloc: Global,
-    texts: &mut SharedTexts,
+    source: &mut Source,
     typeside: &Typeside,
     sort: u32,
+    rest: usize,
     field: &[u8],
 ) -> Result<Content, AllocError>
     ensures { IfOk result (λ content. content ≡ content_of typeside.now sort field.now) }
@@ -78,6 +81,6 @@ pub fn read_content(
         None => Ok(Content::Blank),
         Some((b'?', _)) => Ok(found(read_value(alloc, typeside, sort, field)?)),
         Some((b'=', text)) => Ok(found(read_value(alloc, typeside, sort, text)?)),
-        Some(_) => constant_content(texts, typeside, sort, field),
+        Some(_) => constant_content(source, typeside, sort, rest, field),
     }
 }

@@ -19,7 +19,7 @@ use crate::generators::push_row_sorts;
 use crate::labels::Labels;
 use crate::refusal::CsvRefusal;
 use crate::tables::read_cells;
-use cq_base::{Seq, SharedTexts};
+use cq_base::{Seq, Source};
 use cq_terms::name_generators;
 use cq_theory::{Presentation, Schema};
 use std::alloc::{AllocError, Global};
@@ -94,7 +94,7 @@ fn present_cells(context: &Context) -> Result<Presentation, CsvRefusal>
     let mut made = Made {
         labels: Labels::new(context.alloc),
         equations: Vec::new(context.alloc),
-        texts: SharedTexts::new(context.alloc),
+        source: Source::new(context.alloc, &[])?,
     };
     if let Err(refusal) = read_cells(context, &mut made) {
         return Err(refusal);

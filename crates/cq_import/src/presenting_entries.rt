@@ -23,7 +23,7 @@ use crate::nulls::read_nulls;
 use crate::presenting::{MOST_GENERATORS, find_starts, finish};
 use crate::refusal::CsvRefusal;
 use crate::tables::read_cells;
-use cq_base::SharedTexts;
+use cq_base::Source;
 use cq_theory::{Presentation, Schema, Typeside};
 use std::alloc::Global;
 
@@ -95,7 +95,7 @@ fn present_all(context: &Context, over: &Over, text: &[u8]) -> Result<Presentati
     let mut made = Made {
         labels: Labels::new(context.alloc),
         equations: Vec::new(context.alloc),
-        texts: SharedTexts::new(context.alloc),
+        source: Source::new(context.alloc, &[])?,
     };
     if let Err(refusal) = read_all(context, over, text, &mut made) {
         return Err(refusal);

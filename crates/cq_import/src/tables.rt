@@ -11,24 +11,36 @@ use crate::cells::{Cell, Context, Made, read_cell};
 use crate::columns::Column;
 use crate::records::{field, next, start};
 use crate::refusal::CsvRefusal;
+use cq_base::Source;
 use cq_theory::Schema;
 use csv::{ByteRecord, Reader};
 
-/// A record with its number and its generator.
+/// A record with its number and its generator, and how many bytes the file has behind its id, if that isn't quoted.
 #[derive(Clone, Copy)]
 struct Row<'a> {
     file: &'a str,
     number: u32,
     generator: u32,
     fields: &'a ByteRecord,
+    rest: usize,
 }
 
-/// The columns of a file and the generator of its first record.
+/// The columns of a file, the generator of its first record, and how many bytes it has.
 #[derive(Clone, Copy)]
 struct Table<'a> {
     file: &'a str,
     columns: &'a [Column],
     start: u32,
+    length: usize,
+}
+
+/// How many bytes a file has behind the id of a record and the comma there, if the id isn't quoted.
+fn rest_behind_id(length: usize, fields: &ByteRecord) -> usize {
+    let Some(position) = fields.position() else {
+        return 0;
+    };
+    let rest = length.saturating_sub(position.byte() as usize);
+    rest.saturating_sub(field(fields, 0).len() + 1)
 }
 
 /// Reads the cells of a record.
@@ -48,6 +60,7 @@ fn read_row(
     ensures refused { IfErr result (λ r. Refuses r (faults_in context.now made.old
         (row_cells row.now.file.now columns.now row.now.generator row.now.number (fields_of row.now.fields.now)))) }
 {
+    let mut rest = row.rest;
     for (place, column) in columns.iter().enumerate() {
         let cell = Cell {
             file: row.file,
@@ -56,10 +69,12 @@ fn read_row(
             generator: row.generator,
             column: *column,
             field: field(row.fields, place + 1),
+            rest,
         };
         if let Err(refusal) = read_cell(context, &cell, made) {
             return Err(refusal);
         }
+        rest = rest.saturating_sub(cell.field.len() + 1);
     }
     Ok(())
 }
@@ -94,6 +109,7 @@ fn read_rows(
             // at most 16,000,000
             generator: table.start.saturating_add(number - 1),
             fields,
+            rest: rest_behind_id(table.length, fields),
         };
         if let Err(refusal) = read_row(context, table.columns, &row, made) {
             return Err(refusal);
@@ -146,6 +162,7 @@ fn read_table(
     ensures refused { IfErr result (λ r. Refuses r (faults_in context.now made.old
         (rows_cells table.now.file.now table.now.columns.now table.now.start 1 (rows_of text.now)))) }
 {
+    made.source = Source::new(context.alloc, text)?;
     let mut reader = start(context.alloc, text);
     let mut fields = ByteRecord::new(context.alloc);
     match read_records(context, table, &mut reader, &mut fields, made) {
@@ -177,6 +194,7 @@ fn read_entity(context: &Context, entity: usize, made: &mut Made) -> Result<(), 
         file: file.name.as_str(),
         columns,
         start: context.starts[entity],
+        length: file.text.len(),
     };
     read_table(context, &table, file.text.as_slice(), made)
 }

@@ -10,7 +10,7 @@ use crate::comment::{behind_block, behind_line};
 use crate::fault::Fault;
 use crate::text::{name_of, text};
 use crate::token::{Kind, Mark};
-use cq_base::SharedTexts;
+use cq_base::Source;
 use std::alloc::Global;
 
 /// What stands at the front, with the bytes behind it.
@@ -22,11 +22,11 @@ pub(crate) enum Front<'a> {
     Token(Kind, &'a [u8]),
 }
 
-fn word<'a>(texts: &mut SharedTexts, bytes: &'a [u8]) -> Result<Front<'a>, Fault<'a>>
+fn word<'a>(source: &mut Source, bytes: &'a [u8]) -> Result<Front<'a>, Fault<'a>>
     ensures { Gives result (found.at_word (prefix_len rules.is_word_byte bytes.now) bytes.now) }
 {
     let (front, rest) = bytes.split_at(word_len(bytes));
-    let name = name_of(texts, bytes, front)?;
+    let name = name_of(source, bytes, bytes, front)?;
     Ok(Front::Token(Kind::Word(name), rest))
 }
 
@@ -55,11 +55,11 @@ fn mark<'a>(bytes: &'a [u8], first: u8, after: &'a [u8]) -> Result<Front<'a>, Fa
     }
 }
 
-/// What stands at the front of the bytes. Names of equal texts share their memory.
+/// What stands at the front of the bytes, which end the source. Names stand in its memory.
 #[tactic(auto, unfolding(crate::specs::Front::front))]
 pub(crate) fn front_of<'a>(
     alloc: Global,
-    texts: &mut SharedTexts,
+    source: &mut Source,
     bytes: &'a [u8],
 ) -> Result<Front<'a>, Fault<'a>>
     ensures { Gives result (found.front bytes.now) }
@@ -71,9 +71,9 @@ pub(crate) fn front_of<'a>(
     if is_blank(first) {
         Ok(Front::Gap(after))
     } else if is_word_byte(first) {
-        word(texts, bytes)
+        word(source, bytes)
     } else if first == b'"' {
-        text(alloc, texts, bytes, after)
+        text(alloc, source, bytes, after)
     } else if first == b'/' {
         slash(bytes, after)
     } else {

@@ -9,7 +9,7 @@ use crate::fronts::{Front, front_of};
 use crate::place::{advance, start, told};
 use crate::refusal::LexRefusal;
 use crate::token::{Kind, Token};
-use cq_base::SharedTexts;
+use cq_base::Source;
 use std::alloc::Global;
 
 /// The tokens of a file's bytes, in order; the last is the End, at the place behind the last byte.
@@ -28,12 +28,12 @@ pub fn lex(alloc: Global, bytes: &[u8]) -> Result<Vec<Token>, LexRefusal>
     ensures ends { IfOk result (λ tokens. EndsOnce tokens.items) }
     ensures few { IfOk result (λ tokens. length tokens.items ≤ length bytes.now + 1) }
 {
-    let mut texts = SharedTexts::new(alloc);
+    let mut source = Source::new(alloc, bytes)?;
     let mut tokens = Vec::new(alloc);
     let mut rest = bytes;
     let mut place = start();
     'fronts: loop {
-        match front_of(alloc, &mut texts, rest) {
+        match front_of(alloc, &mut source, rest) {
             Ok(Front::End) => break,
             Ok(Front::Gap(after)) => {
                 place = advance(place, rest, after);

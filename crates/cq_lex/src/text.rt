@@ -7,13 +7,15 @@ use crate::bytes::{escape, plain_len};
 use crate::fault::Fault;
 use crate::fronts::Front;
 use crate::token::Kind;
-use cq_base::{Name, NameRefusal, SharedTexts};
+use cq_base::{Name, NameRefusal, Source};
 use std::alloc::Global;
 
-/// The name whose bytes are `content`, for a token that begins at `token`.
+/// The name whose bytes are `content`, for a token that begins at `token`. Where the content is written as it is, it
+/// stands `at` the place behind the token's mark.
 pub(crate) fn name_of<'a>(
-    texts: &mut SharedTexts,
+    source: &mut Source,
     token: &'a [u8],
+    at: &[u8],
     content: &[u8],
 ) -> Result<Name, Fault<'a>>
     ensures { Names result content.now token.now }
@@ -21,7 +23,7 @@ pub(crate) fn name_of<'a>(
     let Ok(text) = str::from_utf8(content) else {
         return Err(Fault::BadByte(token));
     };
-    match texts.name(text) {
+    match source.name(at.len(), text) {
         Ok(name) => Ok(name),
         Err(NameRefusal::Long) => Err(Fault::LongName(token)),
         Err(NameRefusal::Memory) => Err(Fault::Memory),
@@ -65,7 +67,7 @@ fn content<'a>(
 /// A text without a backslash is its own content, so it is copied into its name alone.
 pub(crate) fn text<'a>(
     alloc: Global,
-    texts: &mut SharedTexts,
+    source: &mut Source,
     token: &'a [u8],
     bytes: &'a [u8],
 ) -> Result<Front<'a>, Fault<'a>>
@@ -73,10 +75,10 @@ pub(crate) fn text<'a>(
 {
     let (plain, behind) = bytes.split_at(plain_len(bytes));
     if let Some((b'"', rest)) = behind.split_first() {
-        let name = name_of(texts, token, plain)?;
+        let name = name_of(source, token, bytes, plain)?;
         return Ok(Front::Token(Kind::Text(name), rest));
     }
     let (content, rest) = content(alloc, token, bytes)?;
-    let name = name_of(texts, token, content.as_slice())?;
+    let name = name_of(source, token, bytes, content.as_slice())?;
     Ok(Front::Token(Kind::Text(name), rest))
 }

@@ -100,6 +100,6 @@ pub fn name_in(alloc: Global, token: &Token) -> Result<Name, AllocError>
     match &token.kind {
         Kind::Word(word) => word.clone(),
         Kind::Text(text) => text.clone(),
-        _ => Ok(Name::empty()),
+        _ => Name::empty(alloc),
     }
 }

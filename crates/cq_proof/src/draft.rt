@@ -52,7 +52,7 @@ fn name_of(alloc: Global, bytes: &[u8]) -> Result<Name, AllocError>
     let text = String::from_utf8_lossy(alloc, bytes)?;
     match Name::new(alloc, text.as_str()) {
         Ok(name) => Ok(name),
-        Err(NameRefusal::Long) => Ok(Name::empty()),
+        Err(NameRefusal::Long) => Name::empty(alloc),
         Err(NameRefusal::Memory) => Err(AllocError),
     }
 }

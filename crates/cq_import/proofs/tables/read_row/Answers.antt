@@ -20,7 +20,7 @@ returns-in-Err-clause-refused c =
     let place = c.loop-place.place in
     let fields = fields_of row.fields.now in
     let column = get_or c.args.columns.now place (Attribute 0 0) in
-    let cell : RustCell = record { file = row.file; row_number = row.number; column_number = place + 2; generator = row.generator; column = column; field = c.field.result } in
+    let cell : RustCell = record { file = row.file; row_number = row.number; column_number = place + 2; generator = row.generator; column = column; field = c.field.result; rest = c.loop-place.rest } in
     let here : Cell = cell_in row.file.now row.generator row.number fields (place + 2, column) in
     let same = same_cell row.file.now c.args.columns.now row.generator row.number fields place cell column refl refl refl refl refl c.field.ensures in
     let more = row_rest-more row.file.now c.args.columns.now row.generator row.number fields place column c.loop-place-test.true (same_default c.args.columns.now place (Attribute 0 0) c.loop-place-test.true) in
@@ -35,7 +35,7 @@ loop-place-preserved c =
     let place = c.loop-place.place in
     let fields = fields_of row.fields.now in
     let column = get_or c.args.columns.now place (Attribute 0 0) in
-    let cell : RustCell = record { file = row.file; row_number = row.number; column_number = place + 2; generator = row.generator; column = column; field = c.field.result } in
+    let cell : RustCell = record { file = row.file; row_number = row.number; column_number = place + 2; generator = row.generator; column = column; field = c.field.result; rest = c.loop-place.rest } in
     let here : Cell = cell_in row.file.now row.generator row.number fields (place + 2, column) in
     let same = same_cell row.file.now c.args.columns.now row.generator row.number fields place cell column refl refl refl refl refl c.field.ensures in
     let more = row_rest-more row.file.now c.args.columns.now row.generator row.number fields place column c.loop-place-test.true (same_default c.args.columns.now place (Attribute 0 0) c.loop-place-test.true) in

@@ -1,6 +1,5 @@
-use Rattle.std.proofs.Common.{ℕ, Bool, true, false, List, [], ◌∷◌, Option, Some, ◌≡◌, refl, sym, ap, ◌∙◌, arith}
+use Rattle.std.proofs.Common.{Bool, true, false, List, [], ◌∷◌, Option, Some, ◌≡◌, refl, sym, ap, ◌∙◌}
 use Rattle.std.specs.Prelude.{cond, find}
-use Rattle.std.specs.Rc.{rc_str_bytes}
 use Rattle.std.specs.Cmp.Lexicographic.{bytes_decides}
 use Rattle.std.specs.Str.{bytes_eq}
 use Rattle.cq_base.proofs.shared.SharedTexts.name.Goals as goal
@@ -14,14 +13,7 @@ found-passes {X = X} p (x ∷ xs) y h = at_test (p x) _ refl (found-passes p xs 
     at_test true rest is later h' = let same : x ≡ y = cc in ap p (sym same) ∙ is
     at_test false rest is later h' = later h'
 
-pub of_shared-requires : goal.of_shared-requires
-of_shared-requires c =
-    let same : rc_str_bytes c.in_ok-clone.field-0 ≡ c.args.text.now =
-    c.in_ok-clone.ensures.cases ∙ sym ((bytes_decides c.args.text.now (rc_str_bytes c.in-Some.shared.now)).0
-    (found-passes (λ key. bytes_eq c.args.text.now (rc_str_bytes key)) c.args.self.now.texts.keys c.in-Some.shared.now (sym c.in-Some.ensures.key))) in
-    rw same (omega arith)
-
 pub returns-in-Some-clause-ok : goal.returns-in-Some-clause-ok
 returns-in-Some-clause-ok c =
-    c.of_shared.ensures ∙ c.in_ok-clone.ensures.cases ∙ sym ((bytes_decides c.args.text.now (rc_str_bytes c.in-Some.shared.now)).0
-    (found-passes (λ key. bytes_eq c.args.text.now (rc_str_bytes key)) c.args.self.now.texts.keys c.in-Some.shared.now (sym c.in-Some.ensures.key)))
+    c.in_ok-clone.ensures.cases ∙ sym ((bytes_decides c.args.text.now c.in-Some.shared.now).0
+    (found-passes (bytes_eq c.args.text.now) c.args.self.now.texts.keys c.in-Some.shared.now (sym c.in-Some.ensures.key)))
