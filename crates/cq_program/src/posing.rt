@@ -157,23 +157,23 @@ fn pose_schema(
 {
     let typeside = env.typeside(&literal.typeside)?;
     let schema = schema_in(alloc, place, typeside, literal)?;
-    Ok(Statement::Schema(named_schema(alloc, name, &literal.typeside.name, schema)?))
+    let shared = shared_schema(alloc, schema)?;
+    Ok(Statement::Schema(named_schema(name, &literal.typeside.name, &shared)?))
 }
 
 /// A schema under its name, with the name of its typeside.
 fn named_schema(
-    alloc: Global,
     name: &Name,
     typeside: &Name,
-    schema: Schema,
+    schema: &Rc<Schema>,
 ) -> Result<NamedSchema, AllocError>
     ensures { IfOk result (λ named. schema_meant named
-        ≡ record { name = name.now; typeside = typeside.now; schema = schema }) }
+        ≡ record { name = name.now; typeside = typeside.now; schema = schema.now.value }) }
 {
     Ok(NamedSchema {
         name: name.clone()?,
         typeside: typeside.clone()?,
-        schema: shared_schema(alloc, schema)?,
+        schema: schema.clone()?,
     })
 }
 
