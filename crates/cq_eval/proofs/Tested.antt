@@ -13,7 +13,8 @@ use Rattle.cq_theory.specs.Tables.{Tables, AtRow, AtValue, Assignment, row_in, v
 use Rattle.cq_theory.proofs.TypeTerms.{fold-Gen, fold-Const, fold-Att, fold-Fun, Each, on_terms}
 use Rattle.cq_model.specs.SameValue.{same_value}
 use Rattle.cq_model.proofs.SameValues.{same_from_value, value_from_same}
-use Rattle.cq_eval.specs.Testing.{holds_at, greatest, reach_of_entity, reach_step, reach_of, reach}
+use Rattle.cq_theory.specs.Term.{greatest}
+use Rattle.cq_eval.specs.Testing.{holds_at, reach_of_entity, reach_step, reach_of, reach}
 
 -- the test of an equation decides it
 pub from_test : (M : Tables) (rows : List ℕ) (e : Equation) → holds_at M rows e ≡ true → meaning_of M (map AtRow rows) (left_of e) ≡ meaning_of M (map AtRow rows) (right_of e)

@@ -1,11 +1,12 @@
 -- Tests of where equations, and how many variables they need.
-use Rattle.std.specs.Prelude.{ℕ, Bool, List, [], ◌∷◌, ◌+◌, ◌==◌, map, min, max}
+use Rattle.std.specs.Prelude.{ℕ, Bool, List, ◌+◌, ◌==◌, map, min, max}
 use Rattle.cq_theory.specs.declared.term.EntTerm.{EntTerm}
 use Rattle.cq_theory.specs.declared.term.TypeTerm.{TypeTerm}
 use Rattle.cq_theory.specs.declared.term.TypeTerm.TheOpen.{TypeTerm-F, Gen, Const, Att, Fun}
 use Rattle.cq_theory.specs.declared.term.TypeTerm.TheFolds.{fold-TypeTerm}
 use Rattle.cq_theory.specs.declared.presentation.Equation.{Equation}
 use Rattle.cq_theory.specs.declared.presentation.Equation.TheVariants.{Ent, Typ}
+use Rattle.cq_theory.specs.Term.{greatest}
 use Rattle.cq_theory.specs.SchemaData.{SchemaData as Schema}
 use Rattle.cq_theory.specs.Tables.{Tables, AtRow, Assignment, row_of, value_of}
 use Rattle.cq_model.specs.SameValue.{same_value}
@@ -25,10 +26,6 @@ module _ (M : Tables) (rows : List ℕ) where
 abbrev pub IsTestAt : Schema → Tables → List ℕ → Equation → Type 0
 IsTestAt S M rows (Ent t u) = (entity : ℕ) × IsEntTermOf S M (map AtRow rows) t entity × IsEntTermOf S M (map AtRow rows) u entity
 IsTestAt S M rows (Typ t u) = (type : ℕ) × IsTypeTermOf S M (map AtRow rows) t type × IsTypeTermOf S M (map AtRow rows) u type
-
-abbrev pub greatest : List ℕ → ℕ
-greatest [] = 0
-greatest (n ∷ ns) = max n (greatest ns)
 
 -- how many of the first variables a term needs
 abbrev pub reach_of_entity : EntTerm → ℕ

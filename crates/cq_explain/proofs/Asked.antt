@@ -13,7 +13,8 @@ use Rattle.cq_theory.specs.Resolve.{equation_fault}
 use Rattle.cq_theory.specs.Resolved.{resolved}
 use Rattle.cq_theory.specs.SchemaData.{SchemaData as Schema}
 use Rattle.cq_theory.specs.Sorts.{Generators}
-use Rattle.cq_explain.specs.Question.{Asks, IsTextOfTerm, Makes, names_of, sorts_of}
+use Rattle.cq_terms.specs.Generators.{names_of, sorts_of}
+use Rattle.cq_explain.specs.Question.{Asks, IsTextOfTerm, Makes}
 use Rattle.cq_explain.specs.declared.question.QuestionRefusal.{QuestionRefusal}
 
 none_of : (o : Option TermRefusal) → is_some o ≡ false → o ≡ None

@@ -22,7 +22,8 @@ use Rattle.cq_theory.specs.Parts.{equation_of}
 use Rattle.cq_theory.proofs.Faults.{of_five, not_false, neither, at_most}
 use Rattle.cq_theory.proofs.RawSymbols.{resolved-no_longer}
 use Rattle.cq_theory.proofs.ResolvedSorts.{map_some, sort_of-resolved}
-use Rattle.cq_explain.specs.Question.{Makes, names_of, sorts_of}
+use Rattle.cq_terms.specs.Generators.{names_of, sorts_of}
+use Rattle.cq_explain.specs.Question.{Makes}
 
 apart : (e t : ℕ) → Entity e ≡ Plain t → ⊥
 apart e t h = cc

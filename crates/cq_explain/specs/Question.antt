@@ -12,15 +12,9 @@ use Rattle.cq_theory.specs.declared.presentation.Sort.{Sort}
 use Rattle.cq_theory.specs.Parts.{equation_of}
 use Rattle.cq_theory.specs.Resolve.{equation_fault}
 use Rattle.cq_theory.specs.Resolved.{resolved}
+use Rattle.cq_terms.specs.Generators.{names_of, sorts_of}
 use Rattle.cq_theory.specs.SchemaData.{SchemaData as Schema}
 use Rattle.cq_theory.specs.Sorts.{Generators}
-
--- the names and the sorts of generators
-abbrev pub names_of : Generators → List Name
-names_of G = map (λ g. g.0) G
-
-abbrev pub sorts_of : Generators → List Sort
-sorts_of G = map (λ g. g.1) G
 
 -- the tokens are one term, of at most 64 levels
 pub record IsTermOf (tokens : List Token) (term : Raw) : Type 0 where

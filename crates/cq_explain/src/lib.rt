@@ -4,7 +4,6 @@
 mod answer;
 mod lines;
 mod question;
-mod scope;
 mod terms;
 mod words;
 

@@ -2,21 +2,21 @@
 ghost use Rattle.std.specs.Prelude.{◌≡◌, ◌≤◌, IfErr, IfOk, MatchResult, None, is_some, length};
 ghost use Rattle.cq_base.specs.declared.raw.Raw.{Raw};
 ghost use Rattle.cq_lex.specs.Spans.{EndsOnce};
-ghost use Rattle.cq_theory.specs.Parts.{equation_of};
-ghost use Rattle.cq_theory.specs.Resolve.{are_of_one_sort, equation_fault};
+ghost use Rattle.cq_theory.specs.Resolve.{equation_fault};
 ghost use Rattle.cq_theory.specs.Resolved.{resolved};
 ghost use Rattle.cq_theory.specs.declared.presentation.Equation.{Equation};
 ghost use Rattle.cq_explain.specs.Question.{Asks, IsTermOf, IsTextOfTerm, Makes};
 ghost use Rattle.cq_explain.specs.declared.question.QuestionRefusal.{QuestionRefusal};
 
-use crate::scope::{names_of, sorts_of};
 use cq_base::{Name, Names, Raw};
 use cq_lex::{LexRefusal, Token, lex};
 use cq_parse::{ParseRefusal, parse_term};
+use cq_terms::{names_of, sorts_of};
 use cq_theory::lookup::{
-    build, has_reserved, has_unknown, has_wrong_count, is_too_large, sort_of_raw,
+    build, has_reserved, has_unknown, has_wrong_count, have_one_sort, is_too_large, make_equation,
+    sort_of_raw,
 };
-use cq_theory::{Con, Equation, Presentation, Schema, Sort, Term, TypeTerm};
+use cq_theory::{Equation, Presentation, Schema, Sort};
 use std::alloc::{AllocError, Global};
 
 /// Why two texts ask about no equation.
@@ -117,7 +117,7 @@ fn equation_over(
     }
     let left = build(alloc, schema, &names, sorts, left)?;
     let right = build(alloc, schema, &names, sorts, right)?;
-    Ok(equation_of(left, right))
+    Ok(make_equation(left, right))
 }
 
 /// Whether an equation of two terms breaks a rule.
@@ -138,29 +138,4 @@ fn breaks_rule(schema: &Schema, names: &Names, sorts: &[Sort], left: &Raw, right
         return true;
     }
     is_too_large(left) || is_too_large(right)
-}
-
-/// Whether both are the same sort.
-fn have_one_sort(left: Option<Sort>, right: Option<Sort>) -> bool
-    ensures { result ≡ are_of_one_sort left right }
-{
-    match (left, right) {
-        (Some(Sort::Plain(left)), Some(Sort::Plain(right))) => left == right,
-        (Some(Sort::Entity(left)), Some(Sort::Entity(right))) => left == right,
-        _ => false,
-    }
-}
-
-/// The equation of two terms. Two of different kinds stand here only where the equation breaks a rule.
-fn equation_of(left: Term, right: Term) -> Equation
-    ensures { result ≡ equation_of left right }
-{
-    match (left, right) {
-        (Term::Ent(left), Term::Ent(right)) => Equation::Ent(left, right),
-        (Term::Typ(left), Term::Typ(right)) => Equation::Typ(left, right),
-        _ => Equation::Typ(
-            TypeTerm::Const(Con::Named(0)),
-            TypeTerm::Const(Con::Named(0)),
-        ),
-    }
 }

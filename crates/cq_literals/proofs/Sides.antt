@@ -35,7 +35,8 @@ use Rattle.cq_values.specs.Readable.{is_name}
 use Rattle.cq_model.specs.InstanceData.{InstanceData, IsInstance}
 use Rattle.cq_model.proofs.CanonicalHolds.{every_equation}
 use Rattle.cq_text.specs.Literal.{content_of, generator_text}
-use Rattle.cq_return.specs.Return.{IsReturnableEntry, IsReturnableValue, greatest, has_name, has_names, has_names_step, levels_of, levels_step}
+use Rattle.cq_return.specs.Return.{IsReturnableEntry, IsReturnableValue, has_name, has_names, has_names_step, levels_of, levels_step}
+use Rattle.cq_theory.specs.Term.{greatest}
 use Rattle.cq_literals.specs.Literals.{HasContents, HasFewLevels}
 use Rattle.cq_literals.specs.Writable.{IsWritable}
 use Rattle.cq_literals.specs.Written.{entity_raw, has_contents, has_contents_step, raw_step, type_raw}

@@ -4,16 +4,15 @@ use Rattle.std.specs.List.{flat_map}
 use Rattle.cq_theory.specs.declared.presentation.Sort.{Sort}
 use Rattle.cq_theory.specs.declared.presentation.Sort.TheVariants.{Plain, Entity}
 use Rattle.cq_theory.specs.declared.presentation.Equation.{Equation}
-use Rattle.cq_theory.specs.declared.presentation.Equation.TheVariants as equation
 use Rattle.cq_theory.specs.declared.presentation.Presentation.{Presentation}
 use Rattle.cq_theory.specs.declared.constant.Con.TheVariants.{Named}
 use Rattle.cq_theory.specs.declared.term.EntTerm.{EntTerm}
 use Rattle.cq_theory.specs.declared.term.TypeTerm.{TypeTerm}
 use Rattle.cq_theory.specs.declared.term.TypeTerm.TheVariants as term
-use Rattle.cq_theory.specs.declared.term.TypeTerm.TheOpen.{TypeTerm-F, Gen, Const, Att, Fun}
+use Rattle.cq_theory.specs.declared.term.TypeTerm.TheOpen.{TypeTerm-F}
 use Rattle.cq_theory.specs.declared.term.TypeTerm.TheFolds.{fold-TypeTerm}
 use Rattle.cq_theory.specs.declared.term.Term.{Term}
-use Rattle.cq_theory.specs.declared.term.Term.TheVariants.{Ent, Typ}
+use Rattle.cq_theory.specs.Carried.{carried_step, carried_term, carried_equation}
 use Rattle.cq_theory.specs.TypeTerm.{substituted}
 use Rattle.cq_theory.specs.Sorts.{Generators}
 use Rattle.cq_mapping.specs.MappingData.{MappingData as Mapping}
@@ -38,25 +37,20 @@ module _ (F : Mapping) where
 
   -- each attribute is replaced by its term, with the image of its entity term in the variable's place
   abbrev pub type_image_step : TypeTerm-F TypeTerm → TypeTerm
-  type_image_step (Gen n) = term.Gen n
-  type_image_step (Const c) = term.Const c
-  type_image_step (Att a t) = substituted (ent_image t) (attribute_image a)
-  type_image_step (Fun f args) = term.Fun f args
+  type_image_step = carried_step term.Gen (λ a t. substituted (ent_image t) (attribute_image a))
 
   abbrev pub type_image : TypeTerm → TypeTerm
   type_image = fold-TypeTerm TypeTerm type_image_step
 
   abbrev pub term_image : Term → Term
-  term_image (Ent t) = Ent (ent_image t)
-  term_image (Typ t) = Typ (type_image t)
+  term_image = carried_term ent_image type_image
 
   abbrev pub sort_image : Sort → Sort
   sort_image (Plain type) = Plain type
   sort_image (Entity e) = Entity (entity_image e)
 
   abbrev pub equation_image : Equation → Equation
-  equation_image (equation.Ent t u) = equation.Ent (ent_image t) (ent_image u)
-  equation_image (equation.Typ t u) = equation.Typ (type_image t) (type_image u)
+  equation_image = carried_equation ent_image type_image
 
   abbrev pub generator_images : Generators → Generators
   generator_images generators = map (λ g. (g.0, sort_image g.1)) generators

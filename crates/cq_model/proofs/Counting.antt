@@ -42,10 +42,6 @@ grouped_more count n member members groups group are within is member_within gro
     let unlike : (member == k) ≡ false = ne_eqb member k (λ same. other (sym same)) in
     sym (append-nil (positions (take n members) k)) ∙ ap (λ b. positions (take n members) k ++ (if b then n ∷ [] else [])) (sym unlike) ∙ sym (one_more k))
 
--- one empty list more
-pub empties_more : {X : Type 0} (n : ℕ) → map (λ (_ : ℕ). let none : List X = [] in none) (below (n + 1)) ≡ map (λ (_ : ℕ). let none : List X = [] in none) (below n) ++ [] ∷ []
-empties_more n = map-range_with_len_more (λ (_ : ℕ). []) 0 n n (omega arith)
-
 mapped_if : {X : Type 0} (f : ℕ → X) (b : Bool) (n : ℕ) → map f (if b then n ∷ [] else []) ≡ (if b then f n ∷ [] else [])
 mapped_if f true n = refl
 mapped_if f false n = refl

@@ -6,11 +6,10 @@ ghost use Rattle.cq_model.specs.SameValue.{same_value};
 ghost use Rattle.cq_model.specs.CellRows.{rows_with, group_rows, indexed_rows};
 
 use crate::digests::digest;
-use crate::groups::empty_groups;
 use crate::instance::Instance;
 use crate::values::{copied, equals};
 use cq_base::number_at;
-use cq_theory::Value;
+use cq_theory::{Value, empty_groups};
 use std::alloc::{AllocError, Global};
 use std::marker::Model;
 

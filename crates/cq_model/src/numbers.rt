@@ -3,10 +3,10 @@ ghost use Rattle.std.specs.Prelude.{ℕ, ◌≡◌, ◌<◌, ◌^◌, Some, All,
 ghost use Rattle.cq_tables.specs.Content.{made_of, entities_of, IsWhole};
 ghost use Rattle.cq_model.specs.RowNumbers.{row_entities, names_by, AreNumbers, AreNumberedAs};
 
-use crate::groups::{empty_groups, grouped, sealed};
+use crate::groups::grouped;
 use cq_base::Seq;
 use cq_tables::Tables;
-use cq_theory::EntTerm;
+use cq_theory::{EntTerm, empty_groups, sealed};
 use std::alloc::{AllocError, Global};
 
 /// Rows in one order, and the same by entity.

@@ -2,13 +2,13 @@
 use Rattle.std.specs.Prelude.{ℕ, List, map, Option, Some, None, slice_get}
 use Rattle.std.specs.List.{range_with_len}
 use Rattle.cq_theory.specs.declared.presentation.Equation.{Equation}
-use Rattle.cq_theory.specs.declared.presentation.Equation.TheVariants.{Ent as EntEquation, Typ as TypEquation}
 use Rattle.cq_theory.specs.declared.term.EntTerm.{EntTerm}
 use Rattle.cq_theory.specs.declared.term.TypeTerm.{TypeTerm}
 use Rattle.cq_theory.specs.declared.term.TypeTerm.TheVariants as term
-use Rattle.cq_theory.specs.declared.term.TypeTerm.TheOpen.{TypeTerm-F, Gen, Const, Att, Fun}
+use Rattle.cq_theory.specs.declared.term.TypeTerm.TheOpen.{TypeTerm-F}
 use Rattle.cq_theory.specs.declared.term.TypeTerm.TheFolds.{fold-TypeTerm}
 use Rattle.cq_theory.specs.EntTerm.{alone, extended}
+use Rattle.cq_theory.specs.Carried.{carried_step, carried_equation}
 
 -- that many generators, from `first` on
 abbrev pub generators_from : ℕ → ℕ → List EntTerm
@@ -25,15 +25,11 @@ module _ (terms : List EntTerm) where
   put t = extended (term_or_first (slice_get terms t.generator)) t.path
 
   abbrev pub put_type_step : TypeTerm-F TypeTerm → TypeTerm
-  put_type_step (Gen n) = term.Gen n
-  put_type_step (Const c) = term.Const c
-  put_type_step (Att a t) = term.Att a (put t)
-  put_type_step (Fun f args) = term.Fun f args
+  put_type_step = carried_step term.Gen (λ a t. term.Att a (put t))
 
   -- the same in a type term, whose entity generators alone are replaced
   abbrev pub put_type : TypeTerm → TypeTerm
   put_type = fold-TypeTerm TypeTerm put_type_step
 
   abbrev pub put_equation : Equation → Equation
-  put_equation (EntEquation t u) = EntEquation (put t) (put u)
-  put_equation (TypEquation t u) = TypEquation (put_type t) (put_type u)
+  put_equation = carried_equation put put_type

@@ -7,8 +7,9 @@ use Rattle.cq_theory.specs.declared.term.EntTerm.{EntTerm}
 use Rattle.cq_theory.specs.declared.constant.Con.TheVariants.{Named}
 use Rattle.cq_theory.specs.declared.term.TypeTerm.{TypeTerm}
 use Rattle.cq_theory.specs.declared.term.TypeTerm.TheVariants as term
-use Rattle.cq_theory.specs.declared.term.TypeTerm.TheOpen.{TypeTerm-F, Gen, Const, Att, Fun}
+use Rattle.cq_theory.specs.declared.term.TypeTerm.TheOpen.{TypeTerm-F}
 use Rattle.cq_theory.specs.declared.term.TypeTerm.TheFolds.{fold-TypeTerm}
+use Rattle.cq_theory.specs.Carried.{carried_step}
 use Rattle.cq_query.specs.declared.query.Block.{Block}
 use Rattle.cq_query.specs.QueryData.{QueryData as Query}
 use Rattle.cq_theory.specs.Groups.{places, edge_sources, path_eq_sources, obs_eq_sources}
@@ -81,10 +82,7 @@ module _ (Q : Query) where
   along terms (k ∷ path) = along (map (put terms) (assigned k)) path
 
   abbrev pub translated_step : List EntTerm → TypeTerm-F TypeTerm → TypeTerm
-  translated_step terms (Gen n) = term.Gen n
-  translated_step terms (Const c) = term.Const c
-  translated_step terms (Att a t) = put_type (along terms t.path) (attribute_term a)
-  translated_step terms (Fun f args) = term.Fun f args
+  translated_step terms = carried_step term.Gen (λ a t. put_type (along terms t.path) (attribute_term a))
 
   -- a term over one variable of a target entity, with the query's terms for keys and attributes
   abbrev pub translated : List EntTerm → TypeTerm → TypeTerm

@@ -2,7 +2,6 @@
 ghost use Rattle.std.specs.Prelude.{ℕ, List, [], ◌≡◌, ◌++◌, ◌<◌, All, IfOk, OnOk, Some, length, map, option_copied};
 ghost use Rattle.std.specs.Prelude.{slice_get};
 ghost use Rattle.cq_theory.specs.Canonical.{below};
-ghost use Rattle.cq_theory.specs.Parts.{equation_of};
 ghost use Rattle.cq_theory.specs.Resolved.{entity_term_in, resolved};
 ghost use Rattle.cq_theory.specs.Groups.{positions};
 ghost use Rattle.cq_query.specs.Assigned.{IsAssigned};
@@ -22,7 +21,7 @@ use crate::query::Block;
 use crate::scopes::Scope;
 use crate::tables::Tables;
 use cq_base::{Name, Raw, Seq};
-use cq_theory::lookup::{build, type_term};
+use cq_theory::lookup::{build, make_equation, type_term};
 use cq_theory::{Con, Edge, EntTerm, Equation, Schema, Term, TypeTerm, alone};
 use std::alloc::{AllocError, Global};
 
@@ -31,20 +30,6 @@ use std::alloc::{AllocError, Global};
 struct Edges<'a> {
     attributes: &'a [usize],
     keys: &'a [usize],
-}
-
-/// An equation of two terms of one kind, which they are where the parts break no rule.
-fn make_equation(left: Term, right: Term) -> Equation
-    ensures { result ≡ equation_of left right }
-{
-    match (left, right) {
-        (Term::Ent(left), Term::Ent(right)) => Equation::Ent(left, right),
-        (Term::Typ(left), Term::Typ(right)) => Equation::Typ(left, right),
-        _ => Equation::Typ(
-            TypeTerm::Const(Con::Named(0)),
-            TypeTerm::Const(Con::Named(0)),
-        ),
-    }
 }
 
 /// The first variable alone, which stands only in parts that break a rule.

@@ -3,7 +3,7 @@ ghost use Rattle.std.specs.Prelude.{ℕ, List, ◌≡◌, ◌&&◌, ◌==◌, �
 ghost use Rattle.std.specs.Prelude.{option_map, option_copied, slice_get, is_none};
 ghost use Rattle.std.specs.List.{list_any};
 ghost use Rattle.cq_theory.specs.ArrowRefusals.{of_arrow as refusal_of_arrow};
-ghost use Rattle.cq_theory.specs.Resolve.{are_of_one_sort, has_unknown as unknown_in, in_part, raw_sort};
+ghost use Rattle.cq_theory.specs.Resolve.{has_unknown as unknown_in, in_part, raw_sort};
 ghost use Rattle.cq_theory.specs.SchemaData.{SchemaData};
 ghost use Rattle.cq_base.specs.declared.name.Name.{Name};
 ghost use Rattle.cq_query.specs.declared.parts.Clause.{Clause as ClausePart};
@@ -22,21 +22,12 @@ use crate::parts::Clause;
 use crate::scopes::Scope;
 use cq_base::{Hashing, Name, Raw, number_at};
 use cq_theory::lookup::{
-    has_reserved, has_unknown, has_wrong_count, in_part_of, is_too_large, of_arrow, sort_of_raw,
+    has_reserved, has_unknown, has_wrong_count, have_one_sort, in_part_of, is_too_large, of_arrow,
+    sort_of_raw,
 };
 use cq_theory::{ArrowRefusal, Edge, Schema, Sort, Symbol, TermRefusal, TheoryRefusal};
 use std::alloc::{AllocError, Global};
 use std::collections::HashSet;
-
-fn have_one_sort(left: Option<Sort>, right: Option<Sort>) -> bool
-    ensures { result ≡ are_of_one_sort left right }
-{
-    match (left, right) {
-        (Some(Sort::Plain(left)), Some(Sort::Plain(right))) => left == right,
-        (Some(Sort::Entity(left)), Some(Sort::Entity(right))) => left == right,
-        _ => false,
-    }
-}
 
 /// The least rule that is broken.
 fn least_rule(

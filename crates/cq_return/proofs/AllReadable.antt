@@ -30,7 +30,8 @@ use Rattle.cq_model.specs.Given.{size_of}
 use Rattle.cq_import.specs.Imports.{most_bytes, most_generators}
 use Rattle.cq_csv.specs.Files.{algebra_records, entity_records}
 use Rattle.cq_csv.specs.Records.{file_text}
-use Rattle.cq_return.specs.Return.{HasNames, IsReturnable, IsReturnableEntry, greatest, has_name, has_names, has_names_step, levels_of, levels_step}
+use Rattle.cq_theory.specs.Term.{greatest}
+use Rattle.cq_return.specs.Return.{HasNames, IsReturnable, IsReturnableEntry, has_name, has_names, has_names_step, levels_of, levels_step}
 
 -- both sides of the entry are readable at the type of its function
 abbrev pub IsReadableEntry : Typeside → Entry → Type 0

@@ -1,5 +1,5 @@
 -- Folders that hold the files of an instance, and instances that are read back from their files.
-use Rattle.std.specs.Prelude.{ℕ, Bool, true, List, [], ◌∷◌, ◌+◌, Some, ◌≡◌, ◌<◌, ◌≤◌, All, max, length}
+use Rattle.std.specs.Prelude.{ℕ, Bool, true, List, ◌+◌, Some, ◌≡◌, ◌<◌, ◌≤◌, All, length}
 use Rattle.std.specs.List.{list_all}
 use Rattle.cq_base.specs.declared.name.Name.{Name}
 use Rattle.cq_io.specs.Content.{File, find_file, path_of}
@@ -11,6 +11,7 @@ use Rattle.cq_theory.specs.declared.value.Value.TheOpen.{Value-F, Const, Null, F
 use Rattle.cq_theory.specs.declared.value.Value.TheFolds.{fold-Value}
 use Rattle.cq_theory.specs.TypesideData.{TypesideData as Typeside}
 use Rattle.cq_theory.specs.Schema.{IsSchema}
+use Rattle.cq_theory.specs.Term.{greatest}
 use Rattle.cq_theory.specs.Value.{symbols_of}
 use Rattle.cq_theory.specs.ValueText.{is_word}
 use Rattle.cq_values.specs.Readable.{is_name}
@@ -45,10 +46,6 @@ has_names_step (Fun f named) = list_all (λ b. b) named
 -- so has each open constant in the value
 abbrev pub has_names : Value → Bool
 has_names = fold-Value Bool has_names_step
-
-abbrev pub greatest : List ℕ → ℕ
-greatest [] = 0
-greatest (n ∷ ns) = max n (greatest ns)
 
 -- the levels of a value: one for a constant and for a null, and one more than its arguments have for a function
 abbrev pub levels_step : Value-F ℕ → ℕ

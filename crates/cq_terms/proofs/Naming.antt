@@ -1,5 +1,5 @@
--- Generators that are named one after another.
-use Rattle.std.proofs.Common.{ℕ, zero, suc, List, [], ◌∷◌, ◌++◌, Some, ◌≡◌, ◌<◌, ◌+◌, map, take, length, get_or, refl, sym, ap, ◌∙◌, arith}
+-- Generators that are named one after another, and the names of the first ones.
+use Rattle.std.proofs.Common.{ℕ, zero, suc, List, [], ◌∷◌, ◌++◌, Some, ◌≡◌, ◌<◌, ◌≤◌, ◌+◌, map, take, length, get_or, refl, sym, ap, ◌∙◌, arith}
 use Rattle.std.specs.Prelude.{slice_get, codes, decimal, All}
 use Rattle.std.specs.List.{enumerate_from}
 use Rattle.std.proofs.lemmas.List.{take_more, map-append, length-take-le, length-map}
@@ -7,6 +7,8 @@ use Rattle.std.proofs.lemmas.List.FromFn.{length-enumerate_from}
 use Rattle.cq_base.specs.declared.name.Name.{Name}
 use Rattle.cq_theory.specs.declared.presentation.Sort.{Sort}
 use Rattle.cq_theory.specs.Canonical.{named}
+use Rattle.cq_theory.specs.Sorts.{Generators}
+use Rattle.cq_terms.specs.Generators.{names_of}
 
 enumerate_from-append : {X : Type 0} (s : ℕ) (xs : List X) (x : X) → enumerate_from s (xs ++ x ∷ []) ≡ enumerate_from s xs ++ (s + length xs, x) ∷ []
 enumerate_from-append s [] x = let here : s ≡ s + 0 = omega arith in ap (λ n. (n, x) ∷ []) here
@@ -47,3 +49,14 @@ has_sort sorts n sort h = named_at 1 sorts n sort h
 
 pub sort_of_named : (sorts : List Sort) (n : ℕ) (g : Name × Sort) → slice_get (named sorts) n ≡ Some g → slice_get sorts n ≡ Some g.1
 sort_of_named sorts n g h = named_of 1 sorts n g h
+
+-- the names of the first generators
+pub names_more : (G : Generators) (k : ℕ) (g : Name × Sort) → k < length G → g ≡ get_or G k g → names_of (take (k + 1) G) ≡ names_of (take k G) ++ g.0 ∷ []
+names_more G k g within is =
+    ap names_of (take_more G k g within) ∙ map-append (λ (x : Name × Sort). x.0) (take k G) (get_or G k g ∷ [])
+    ∙ ap (λ (x : Name × Sort). names_of (take k G) ++ x.0 ∷ []) (sym is)
+
+pub few_names : (G : Generators) (k : ℕ) → length (names_of (take k G)) ≤ length G
+few_names G zero = omega arith
+few_names [] (suc k) = omega arith
+few_names (g ∷ G) (suc k) = let rest : length (names_of (take k G)) ≤ length G = few_names G k in omega arith

@@ -1,1 +1,2 @@
 pub mod ValueTerms
+pub mod Generators

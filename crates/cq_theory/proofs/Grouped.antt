@@ -4,10 +4,14 @@ use Rattle.std.specs.Prelude.{slice_get}
 use Rattle.std.specs.List.{range_with_len}
 use Rattle.std.proofs.lemmas.Bool.{cases_eq, ne_eqb}
 use Rattle.std.proofs.lemmas.List.{append-nil, get_or-set_same, get_or-set_other, length-set, take_more, length-take-le}
-use Rattle.std.proofs.lemmas.List.FromFn.{fill_by_all, length-map-range_with_len, get_or-map-range_with_len}
+use Rattle.std.proofs.lemmas.List.FromFn.{fill_by_all, length-map-range_with_len, get_or-map-range_with_len, map-range_with_len_more}
 use Rattle.cq_theory.specs.Canonical.{below}
 use Rattle.cq_theory.specs.declared.groups.Groups.{Groups}
 use Rattle.cq_theory.specs.Groups.{positions_from, positions, place_of, AreGroups}
+
+-- one empty list more
+pub empties_more : {X : Type 0} (n : ℕ) → map (λ (_ : ℕ). let none : List X = [] in none) (below (n + 1)) ≡ map (λ (_ : ℕ). let none : List X = [] in none) (below n) ++ [] ∷ []
+empties_more n = map-range_with_len_more (λ (_ : ℕ). []) 0 n n (omega arith)
 
 -- a write at one number turns what f gives below n into what g gives
 pub set-map_below : {X : Type 0} (f g : ℕ → X) (n i : ℕ) (x : X) → i < n → x ≡ g i → ((k : ℕ) → k ≢ i → f k ≡ g k) → slice_set (map f (below n)) i x ≡ map g (below n)

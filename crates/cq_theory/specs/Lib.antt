@@ -3,6 +3,7 @@ pub mod TypesideData
 pub mod SchemaData
 pub mod EntTerm
 pub mod TypeTerm
+pub mod Carried
 pub mod Value
 pub mod ValueText
 pub mod Term

@@ -43,7 +43,7 @@ impl Groups {
 }
 
 /// That many empty lists.
-fn empty_groups(alloc: Global, count: usize) -> Result<Vec<Vec<usize>>, AllocError>
+pub fn empty_groups<T: Drop>(alloc: Global, count: usize) -> Result<Vec<Vec<T>>, AllocError>
     ensures { IfOk result (λ groups. map (λ group. group.items) groups.items ≡ map (λ _. []) (below count)) }
 {
     let mut groups = Vec::new(alloc);
@@ -54,10 +54,10 @@ fn empty_groups(alloc: Global, count: usize) -> Result<Vec<Vec<usize>>, AllocErr
 }
 
 /// The same lists, each as a list of its own.
-fn sealed(alloc: Global, groups: Vec<Vec<usize>>) -> Result<Seq<Seq<usize>>, AllocError>
+pub fn sealed<T: Drop>(alloc: Global, groups: Vec<Vec<T>>) -> Result<Seq<Seq<T>>, AllocError>
     ensures { IfOk result (λ lists. lists ≡ map (λ group. group.items) groups.items) }
 {
-    let lists: Vec<Seq<usize>> = groups
+    let lists: Vec<Seq<T>> = groups
         .into_iter()
         .map(|group| Seq::from_vec(group))
         .collect(alloc)?;

@@ -20,7 +20,7 @@ pub use beginnings::{
     attributes_by_entity, keys_by_entity, observation_equations_by_entity, path_equations_by_entity,
 };
 pub use constant::{Con, is_reserved};
-pub use groups::Groups;
+pub use groups::{Groups, empty_groups, sealed};
 pub use lookup::{ArrowRefusal, SizeRefusal, Symbol, TermRefusal, TheoryRefusal, resolve};
 pub use parts::{
     ArrowImage, ArrowPart, MappingParts, ObsPart, PresentationParts, SchemaParts, TypesideParts,

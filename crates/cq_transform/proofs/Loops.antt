@@ -4,10 +4,6 @@ use Rattle.std.specs.Prelude.{slice_get}
 use Rattle.std.proofs.lemmas.Bool.{cases_order}
 use Rattle.std.proofs.lemmas.List.{take_more, map-append}
 use Rattle.std.proofs.lemmas.Option.{slice_get-get_or}
-use Rattle.cq_base.specs.declared.name.Name.{Name}
-use Rattle.cq_theory.specs.declared.presentation.Sort.{Sort}
-use Rattle.cq_theory.specs.Sorts.{Generators}
-use Rattle.cq_transform.specs.Images.{names_of}
 
 -- what holds below k, and of k, holds below k + 1
 pub more_below : (P Q : ℕ → Type 0) (k : ℕ) → ((n : ℕ) → P n → Q n) → ((n : ℕ) → n < k → P n) → Q k → (n : ℕ) → n < k + 1 → Q n
@@ -37,14 +33,3 @@ read_at xs k x within is = slice_get-get_or xs k x within ∙ ap (λ y. Some y) 
 pub fewer_left : (changed : Bool) (old new : ℕ) → (changed ≡ true → new < old) → (changed ≡ false → new ≡ old) → new + cond changed 1 0 < old + 1
 fewer_left true old new fewer same = let less : new < old = fewer refl in omega arith
 fewer_left false old new fewer same = let equal : new ≡ old = same refl in omega (arith, equal)
-
--- the names of the first generators
-pub names_more : (G : Generators) (k : ℕ) (g : Name × Sort) → k < length G → g ≡ get_or G k g → names_of (take (k + 1) G) ≡ names_of (take k G) ++ g.0 ∷ []
-names_more G k g within is =
-    ap names_of (take_more G k g within) ∙ map-append (λ (x : Name × Sort). x.0) (take k G) (get_or G k g ∷ [])
-    ∙ ap (λ (x : Name × Sort). names_of (take k G) ++ x.0 ∷ []) (sym is)
-
-pub few_names : (G : Generators) (k : ℕ) → length (names_of (take k G)) ≤ length G
-few_names G zero = omega arith
-few_names [] (suc k) = omega arith
-few_names (g ∷ G) (suc k) = let rest : length (names_of (take k G)) ≤ length G = few_names G k in omega arith

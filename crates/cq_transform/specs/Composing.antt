@@ -5,10 +5,11 @@ use Rattle.cq_theory.specs.declared.constant.Con.TheVariants.{Named}
 use Rattle.cq_theory.specs.declared.term.EntTerm.{EntTerm}
 use Rattle.cq_theory.specs.declared.term.TypeTerm.{TypeTerm}
 use Rattle.cq_theory.specs.declared.term.TypeTerm.TheVariants as term
-use Rattle.cq_theory.specs.declared.term.TypeTerm.TheOpen.{TypeTerm-F, Gen, Const, Att, Fun}
+use Rattle.cq_theory.specs.declared.term.TypeTerm.TheOpen.{TypeTerm-F}
 use Rattle.cq_theory.specs.declared.term.TypeTerm.TheFolds.{fold-TypeTerm}
 use Rattle.cq_theory.specs.declared.value.Value.{Value}
 use Rattle.cq_theory.specs.EntTerm.{extended}
+use Rattle.cq_theory.specs.Carried.{carried_step}
 use Rattle.cq_theory.specs.Presentation.{term_symbols}
 use Rattle.cq_theory.specs.Homomorphism.{row_image, value_image}
 use Rattle.cq_model.specs.InstanceData.{InstanceData}
@@ -32,10 +33,7 @@ module _ (images : List Image) where
   put_row t = extended (row_term (slice_get images t.generator)) t.path
 
   abbrev pub put_value_step : TypeTerm-F TypeTerm → TypeTerm
-  put_value_step (Gen n) = value_term (slice_get images n)
-  put_value_step (Const c) = term.Const c
-  put_value_step (Att a t) = term.Att a (put_row t)
-  put_value_step (Fun f args) = term.Fun f args
+  put_value_step = carried_step (λ n. value_term (slice_get images n)) (λ a t. term.Att a (put_row t))
 
   abbrev pub put_value : TypeTerm → TypeTerm
   put_value = fold-TypeTerm TypeTerm put_value_step

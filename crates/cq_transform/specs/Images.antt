@@ -11,6 +11,7 @@ use Rattle.cq_theory.specs.declared.lookup.TheoryRefusal.TheVariants as theory_r
 use Rattle.cq_theory.specs.declared.presentation.Sort.{Sort}
 use Rattle.cq_theory.specs.declared.term.Term.{Term}
 use Rattle.cq_theory.specs.declared.term.Term.TheVariants.{Ent, Typ}
+pub use Rattle.cq_terms.specs.Generators.{names_of, sorts_of}
 use Rattle.cq_theory.specs.SchemaData.{SchemaData as Schema}
 use Rattle.cq_theory.specs.Sorts.{Generators}
 use Rattle.cq_theory.specs.Resolve.{or_else, has_unknown, has_wrong_count, has_reserved, raw_sort, are_of_one_sort, is_too_large, in_part}
@@ -36,12 +37,6 @@ of_transform (theory_refusal.TooLarge n) = TooLarge n
 of_transform theory_refusal.Memory = Memory
 
 -- the names and the sorts of generators
-abbrev pub names_of : Generators → List Name
-names_of G = map (λ g. g.0) G
-
-abbrev pub sorts_of : Generators → List Sort
-sorts_of G = map (λ g. g.1) G
-
 abbrev pub scope_of : Generators → Scope
 scope_of G = record { names = names_of G; sorts = sorts_of G }
 

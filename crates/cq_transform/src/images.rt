@@ -2,7 +2,7 @@
 ghost use Rattle.std.specs.Prelude.{◌≡◌, ◌≤◌, ◌-◌, ◌<◌, ◌^◌, ◌⊎◌, ◌||◌, ◌++◌, ◌∷◌, [], IfOk, IfErr, Some, None};
 ghost use Rattle.std.specs.Prelude.{is_none, length, map, option_map, option_copied};
 ghost use Rattle.cq_base.specs.Names.{AreDistinct};
-ghost use Rattle.cq_theory.specs.Resolve.{or_else, are_of_one_sort, has_unknown as is_unknown_in};
+ghost use Rattle.cq_theory.specs.Resolve.{or_else, has_unknown as is_unknown_in};
 ghost use Rattle.cq_theory.specs.Resolved.{resolved};
 ghost use Rattle.cq_transform.specs.Images.{of_transform as transform_refusal, image_rule as rule_of_image};
 ghost use Rattle.cq_transform.specs.Images.{late_rule as rule_of_sorted, image_fault, parts_fault, given as given_by};
@@ -14,22 +14,11 @@ use crate::scope::{Scope, make_scope, sort_of};
 use cq_base::{Name, Names, Raw, Seq};
 use cq_model::Image;
 use cq_theory::lookup::{
-    build, declare, has_reserved, has_unknown, has_wrong_count, in_part_of, is_too_large,
-    sort_of_raw,
+    build, declare, has_reserved, has_unknown, has_wrong_count, have_one_sort, in_part_of,
+    is_too_large, sort_of_raw,
 };
 use cq_theory::{EntTerm, Schema, Sort, Term, TermRefusal, TheoryRefusal};
 use std::alloc::{AllocError, Global};
-
-/// Whether both are the same sort.
-fn have_one_sort(left: Option<Sort>, right: Option<Sort>) -> bool
-    ensures { result ≡ are_of_one_sort left right }
-{
-    match (left, right) {
-        (Some(Sort::Plain(left)), Some(Sort::Plain(right))) => left == right,
-        (Some(Sort::Entity(left)), Some(Sort::Entity(right))) => left == right,
-        _ => false,
-    }
-}
 
 /// Whether a name is unknown: that of the generator, which then has no sort, or one in its image.
 fn is_unknown(schema: &Schema, to: &Scope, sort: Option<Sort>, image: &Raw) -> bool

@@ -1,6 +1,7 @@
 //! Terms made of terms as they are written.
 ghost use Rattle.std.specs.Prelude.{◌≡◌, ◌∷◌, [], IfOk, IfErr, IfSome, IfNone, Some, map, slice_get};
 ghost use Rattle.cq_theory.specs.EntTerm.{extended};
+ghost use Rattle.cq_theory.specs.Parts.{equation_of};
 ghost use Rattle.cq_theory.specs.Resolve.{word_constant, symbol_of, term_fault as fault_of_term};
 ghost use Rattle.cq_theory.specs.Resolved.{resolved, type_term_in, entity_term_in, first_entity_term, generator_term};
 ghost use Rattle.cq_theory.specs.Resolved.{constant_term, word_term, symbol_term};
@@ -8,7 +9,7 @@ ghost use Rattle.cq_theory.specs.Resolved.{constant_term, word_term, symbol_term
 use crate::constant::Con;
 use crate::lookup::faults::term_fault;
 use crate::lookup::{Symbol, TermRefusal};
-use crate::presentation::Sort;
+use crate::presentation::{Equation, Sort};
 use crate::schema::Schema;
 use crate::term::{EntTerm, Term, TypeTerm};
 use cq_base::{Name, Names, Raw, Seq};
@@ -99,6 +100,20 @@ pub(crate) fn entity_term(alloc: Global, term: Term) -> EntTerm
             generator: 0,
             path: Seq::from_vec(Vec::new(alloc)),
         },
+    }
+}
+
+/// An equation of two terms of one kind, which they are where the parts break no rule.
+pub fn make_equation(left: Term, right: Term) -> Equation
+    ensures { result ≡ equation_of left right }
+{
+    match (left, right) {
+        (Term::Ent(left), Term::Ent(right)) => Equation::Ent(left, right),
+        (Term::Typ(left), Term::Typ(right)) => Equation::Typ(left, right),
+        _ => Equation::Typ(
+            TypeTerm::Const(Con::Named(0)),
+            TypeTerm::Const(Con::Named(0)),
+        ),
     }
 }
 

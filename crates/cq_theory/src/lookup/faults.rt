@@ -79,7 +79,8 @@ pub(crate) fn term_fault(
     }
 }
 
-pub(crate) fn have_one_sort(left: Option<Sort>, right: Option<Sort>) -> bool
+/// Whether both are there and are the same sort.
+pub fn have_one_sort(left: Option<Sort>, right: Option<Sort>) -> bool
     ensures { result ≡ are_of_one_sort left right }
 {
     match (left, right) {

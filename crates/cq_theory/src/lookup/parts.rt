@@ -8,14 +8,14 @@ ghost use Rattle.cq_theory.specs.Resolved.{resolved};
 ghost use Rattle.cq_theory.specs.Parts.{presentation_fault, presented, equation_of, sort_or_first, generator_fault};
 ghost use Rattle.cq_theory.specs.Parts.{first_generator_fault, generator_names, generator_sorts};
 
-use crate::constant::Con;
+use crate::lookup::builds::make_equation;
 use crate::lookup::faults::{have_one_sort, in_part_of, sorted_sides_rule, unsorted_sides_rule};
 use crate::lookup::typed::typed_term;
 use crate::lookup::{TermRefusal, TheoryRefusal};
 use crate::parts::PresentationParts;
 use crate::presentation::{Equation, Presentation, Sort};
 use crate::schema::Schema;
-use crate::term::{Term, TypeTerm};
+use crate::term::Term;
 use cq_base::{Name, Names, Raw, Seq};
 use std::alloc::{AllocError, Global};
 
@@ -151,20 +151,6 @@ fn build_generators(
         made.push((name, first_sort(schema.find_sort(&generator.1))))?;
     }
     Ok(made)
-}
-
-/// An equation of two terms of one kind, which they are where the parts break no rule.
-fn make_equation(left: Term, right: Term) -> Equation
-    ensures { result ≡ equation_of left right }
-{
-    match (left, right) {
-        (Term::Ent(left), Term::Ent(right)) => Equation::Ent(left, right),
-        (Term::Typ(left), Term::Typ(right)) => Equation::Typ(left, right),
-        _ => Equation::Typ(
-            TypeTerm::Const(Con::Named(0)),
-            TypeTerm::Const(Con::Named(0)),
-        ),
-    }
 }
 
 /// The terms, where both are there and are of one sort.

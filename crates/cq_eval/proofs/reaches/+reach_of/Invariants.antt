@@ -1,5 +1,6 @@
 use Rattle.std.proofs.Common.{◌≡◌, drop, map, max}
-use Rattle.cq_eval.specs.Testing.{greatest, reach_of}
+use Rattle.cq_theory.specs.Term.{greatest}
+use Rattle.cq_eval.specs.Testing.{reach_of}
 use Rattle.cq_eval.proofs.reaches.+reach_of.Given as goal
 
 abbrev pub decreases-reach_of : goal.decreases-reach_of

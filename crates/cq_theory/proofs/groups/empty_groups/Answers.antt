@@ -1,11 +1,11 @@
-use Rattle.std.proofs.Common.{ℕ, List, [], ◌∷◌, ◌++◌, map, sym, ap, ◌∙◌, arith}
+use Rattle.std.proofs.Common.{[], ◌∷◌, ◌++◌, map, sym, ap, ◌∙◌}
 use Rattle.std.proofs.lemmas.List.{map-append}
-use Rattle.std.proofs.lemmas.List.FromFn.{map-range_with_len_more}
+use Rattle.cq_theory.proofs.Grouped.{empties_more}
 use Rattle.cq_theory.proofs.groups.empty_groups.Goals as goal
 
 pub loop-number-preserved : goal.loop-number-preserved
-loop-number-preserved c =
+loop-number-preserved g c =
     ap (map (λ group. group.items)) c.in_ok-push.ensures.items
     ∙ map-append (λ group. group.items) c.loop-number.groups.items (c.new.result ∷ [])
     ∙ (λ i. c.loop-number.invariant i ++ c.new.ensures.items i ∷ [])
-    ∙ sym (map-range_with_len_more (λ (n : ℕ). let none : List ℕ = [] in none) 0 c.loop-number._number c.loop-number._number (omega arith))
+    ∙ sym (empties_more c.loop-number._number)

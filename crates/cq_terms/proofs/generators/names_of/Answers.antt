@@ -1,8 +1,8 @@
 use Rattle.std.proofs.Common.{[], ◌∷◌, ◌++◌, length, sym, ap, subst, ◌∙◌, arith}
 use Rattle.cq_base.specs.Names.{AreDistinct}
 use Rattle.cq_base.proofs.Numbers.{AreDistinct-more}
-use Rattle.cq_transform.proofs.Loops.{names_more, few_names}
-use Rattle.cq_transform.proofs.scope.names.Goals as goal
+use Rattle.cq_terms.proofs.Naming.{names_more, few_names}
+use Rattle.cq_terms.proofs.generators.names_of.Goals as goal
 
 pub add_name-requires : goal.add_name-requires
 add_name-requires c =

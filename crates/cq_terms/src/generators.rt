@@ -1,7 +1,7 @@
 //! The names and the sorts of generators.
 ghost use Rattle.std.specs.Prelude.{◌≡◌, ◌≤◌, ◌<◌, ◌-◌, ◌^◌, ◌++◌, ◌∷◌, [], None, IfOk, length};
-ghost use Rattle.cq_base.specs.Names.{number_of};
-ghost use Rattle.cq_explain.specs.Question.{names_of, sorts_of};
+ghost use Rattle.cq_base.specs.Names.{number_of, AreDistinct};
+ghost use Rattle.cq_terms.specs.Generators.{names_of, sorts_of};
 
 use cq_base::{Name, Names};
 use cq_theory::Sort;
@@ -22,7 +22,8 @@ fn add_name(table: &mut Names, name: &Name) -> Result<(), AllocError>
 /// The table of the generators' names. There is none where a name stands twice.
 pub fn names_of(alloc: Global, generators: &[(Name, Sort)]) -> Result<Names, AllocError>
     requires { length generators.now ≤ 16000000 }
-    ensures { IfOk result (λ made. made ≡ names_of generators.now) }
+    ensures names { IfOk result (λ made. made ≡ names_of generators.now) }
+    ensures distinct { IfOk result AreDistinct }
 {
     let mut table = Names::new(alloc);
     for generator in generators {

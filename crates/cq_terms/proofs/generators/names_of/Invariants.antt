@@ -1,7 +1,7 @@
 use Rattle.std.proofs.Common.{◌≡◌, take}
 use Rattle.cq_base.specs.Names.{AreDistinct}
-use Rattle.cq_transform.specs.Images.{names_of}
-use Rattle.cq_transform.proofs.scope.names.Given as goal
+use Rattle.cq_terms.specs.Generators.{names_of}
+use Rattle.cq_terms.proofs.generators.names_of.Given as goal
 
 abbrev pub invariant-loop-generator : goal.invariant-loop-generator
 invariant-loop-generator l = record {
