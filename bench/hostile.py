@@ -13,6 +13,7 @@ where there is that: with 100,000 of them in one folder of a disk, the run takes
 """
 import os
 import pathlib
+import re
 import sys
 import tempfile
 
@@ -39,6 +40,11 @@ def schema(body):
 
 def instance(generators, equations):
     return f"instance I = literal : S {{ generators {generators} equations {equations} }}\n"
+
+
+def even(text):
+    """The text with numbers of six digits in its names, so that a tenth of the parts has a tenth of the bytes."""
+    return re.sub(r"\b([A-Za-z])(\d{1,5})\b", lambda name: f"{name[1]}{name[2]:0>6}", text)
 
 
 def names(letter, count):
@@ -179,7 +185,7 @@ def schemas(n):
     return HEAD + "\n".join(f"schema S{k} = literal : T {{ entities E attributes v : E -> s }}" for k in range(n))
 
 
-@file("deep towers of functions", 40_000, "instance I")
+@file("deep towers of functions", 39_000, "instance I")
 def towers(n):
     rows = "\n".join("g(" * 62 + f"a{k}" + ")" * 62 + f" = a{k * 7919 % n}" for k in range(n))
     return schema("") + instance(f"{names('a', n)} : s", rows)
@@ -187,13 +193,16 @@ def towers(n):
 
 @file("wide terms of functions", 1_500, "instance I")
 def wide_terms(n):
+    # Among as many generators at each size: of fewer, a term would have fewer different parts.
+    count = 1_500
+
     def tree(leaves):
         while len(leaves) > 1:
             leaves = [f"p({a}, {b})" for a, b in zip(leaves[::2], leaves[1::2])]
         return leaves[0]
 
-    rows = "\n".join(tree([f"a{(k + j * j) % n}" for j in range(256)]) + f" = a{k}" for k in range(n))
-    return schema("") + instance(f"{names('a', n)} : s", rows)
+    rows = "\n".join(tree([f"a{(k + j * j) % count}" for j in range(256)]) + f" = a{k}" for k in range(n))
+    return schema("") + instance(f"{names('a', count)} : s", rows)
 
 
 @file("deep paths", 28_000, "instance I")
@@ -242,7 +251,7 @@ def main():
             continue
         before = None
         for part in (100, 10, 1):
-            text = make(count // part)
+            text = even(make(count // part))
             size = len(text.encode())
             if size > LIMIT:
                 sys.exit(f"{name}: {size} bytes are too many")
