@@ -124,6 +124,7 @@ impl Name {
     {
         let from = self.from as usize;
         let bytes = &self.shared.as_slice()[from..from + self.len as usize];
+        // The invariant of a name says that these bytes are UTF-8.
         unsafe { std::str::from_utf8_unchecked(bytes) }
     }
 }
