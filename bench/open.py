@@ -2,13 +2,14 @@
 """Times instances whose cells are texts that nobody declared.
 
 Builds a small program over the library in a temporary folder, which makes a presentation, its listed model and its transcript, and
-runs it at 2,000, 20,000 and 200,000 rows of four attributes, each cell given by an equation with a text of 24 bytes:
+runs it at 2,000, 20,000 and 200,000 rows of four attributes, each cell given by an equation with a text of 24 bytes. The names of the
+rows and the texts stand in the memory of a file, as those of program texts and imports do:
 
   each      every cell another text
   shared    1,000 different texts
 
-For each it prints the seconds of the whole program (the best of three), their ratio to those at a tenth, the peak memory, and the
-bytes a row, less those of the same program with one row. Needs the command `rt` in the path; the build takes some minutes.
+For each it prints the seconds of the whole program (the best of three), their ratio to those at a tenth, the peak memory, and its
+bytes a row; the memory of this script itself is its least. Needs the command `rt` in the path; the build takes some minutes.
 
     python3 bench/open.py
 """
@@ -58,7 +59,7 @@ fn main(rt: HostRuntime) -> anyhow::Result<()> {
 }
 """,
     "src/draft.rt": r"""//! The parts of a schema with four attributes, and of a presentation over it.
-use cq_base::{Name, Raw, Seq, SharedTexts};
+use cq_base::{Name, Raw, Seq, Source};
 use cq_theory::{PresentationParts, SchemaParts};
 use std::alloc::{AllocError, Global};
 
@@ -87,40 +88,79 @@ pub fn schema_parts(alloc: Global) -> Result<SchemaParts, AllocError> {
     })
 }
 
-/// A name as the readers of files make it: equal texts are one in memory.
-fn shared(texts: &mut SharedTexts, text: &str) -> Result<Name, AllocError> {
-    match texts.name(text) {
-        Ok(name) => Ok(name),
-        Err(_) => Err(AllocError),
+fn row_text(alloc: Global, number: u64) -> Result<String, AllocError> {
+    format!(in alloc; "x{number}")
+}
+
+fn cell_text(alloc: Global, number: u64) -> Result<String, AllocError> {
+    format!(in alloc; "text of a cell {number:09}")
+}
+
+/// The number of the text of a cell.
+fn text_of(number: u64, texts: u64) -> u64 {
+    if texts == 0 { number } else { number % texts }
+}
+
+/// The bytes of a file that has a line for each row, with the text of each cell.
+fn file(alloc: Global, rows: u64, texts: u64) -> Result<Vec<u8>, AllocError> {
+    let mut bytes = Vec::new(alloc);
+    let mut cell = 0;
+    for number in 0..rows {
+        bytes.extend_from_slice(row_text(alloc, number)?.as_str().as_bytes())?;
+        for attribute in ATTRIBUTES {
+            bytes.push(b',')?;
+            bytes.extend_from_slice(cell_text(alloc, text_of(cell, texts))?.as_str().as_bytes())?;
+            cell = cell.wrapping_add(1);
+        }
+        bytes.push(b'\n')?;
+    }
+    Ok(bytes)
+}
+
+/// A file that is read from its beginning on.
+#[derive(Drop)]
+struct Reader {
+    source: Source,
+    rest: usize,
+}
+
+impl Reader {
+    /// A name as the readers of files make it: it stands in the memory of the file. The byte behind it is passed.
+    fn next(&mut self, text: &str) -> Result<Name, AllocError> {
+        let name = self.source.name(self.rest, text);
+        self.rest = self.rest.saturating_sub(text.len()).saturating_sub(1);
+        match name {
+            Ok(name) => Ok(name),
+            Err(_) => Err(AllocError),
+        }
     }
 }
 
 fn cell(
     alloc: Global,
-    texts: &mut SharedTexts,
-    attribute: &str,
+    reader: &mut Reader,
+    attribute: &Name,
     row: &Name,
     text: u64,
 ) -> Result<(Raw, Raw), AllocError> {
-    let text = format!(in alloc; "text of a cell {text:09}")?;
+    let text = cell_text(alloc, text)?;
     let term = Raw::Word(row.clone()?);
     let args = Seq::from_vec(vec![in alloc; term]?);
-    let left = Raw::App(shared(texts, attribute)?, args);
-    Ok((left, Raw::Text(shared(texts, text.as_str())?)))
+    let left = Raw::App(attribute.clone()?, args);
+    Ok((left, Raw::Text(reader.next(text.as_str())?)))
 }
 
 fn push_cells(
     alloc: Global,
-    known: &mut SharedTexts,
+    reader: &mut Reader,
     equations: &mut Vec<(Raw, Raw)>,
+    attributes: &[Name],
     row: &Name,
-    first: u64,
-    texts: u64,
+    places: (u64, u64),
 ) -> Result<(), AllocError> {
-    let mut number = first;
-    for attribute in ATTRIBUTES {
-        let text = if texts == 0 { number } else { number % texts };
-        equations.push(cell(alloc, known, attribute, row, text)?)?;
+    let (mut number, texts) = places;
+    for attribute in attributes {
+        equations.push(cell(alloc, reader, attribute, row, text_of(number, texts))?)?;
         number = number.wrapping_add(1);
     }
     Ok(())
@@ -129,19 +169,26 @@ fn push_cells(
 pub fn generators(alloc: Global, rows: u64, texts: u64) -> Result<PresentationParts, AllocError> {
     let mut generators = Vec::new(alloc);
     let mut equations = Vec::new(alloc);
-    let mut known = SharedTexts::new(alloc);
+    let bytes = file(alloc, rows, texts)?;
+    let mut reader = Reader { source: Source::new(alloc, bytes.as_slice())?, rest: bytes.len() };
+    drop(bytes);
+    let mut attributes = Vec::new(alloc);
+    for attribute in ATTRIBUTES {
+        attributes.push(name(alloc, attribute)?)?;
+    }
+    let entity = name(alloc, "E")?;
     for number in 0..rows {
-        let text = format!(in alloc; "x{number}")?;
-        let row = name(alloc, text.as_str())?;
+        let text = row_text(alloc, number)?;
+        let row = reader.next(text.as_str())?;
         push_cells(
             alloc,
-            &mut known,
+            &mut reader,
             &mut equations,
+            attributes.as_slice(),
             &row,
-            number.wrapping_mul(4),
-            texts,
+            (number.wrapping_mul(4), texts),
         )?;
-        generators.push((row, shared(&mut known, "E")?))?;
+        generators.push((row, entity.clone()?))?;
     }
     Ok(PresentationParts {
         generators: Seq::from_vec(generators),
@@ -296,7 +343,6 @@ def measured(program, rows, texts):
 def main():
     with tempfile.TemporaryDirectory() as folder:
         program = build(folder)
-        _, idle = measured(program, 1, 0)
         print("| case | rows | seconds | of a tenth | peak memory, MiB | bytes a row |")
         print("|---|---|---|---|---|---|")
         for case, texts in (("each", 0), ("shared", 1000)):
@@ -305,7 +351,7 @@ def main():
                 seconds, peak = min(measured(program, rows, texts) for _ in range(3))
                 ratio = f"{seconds / before:.1f}" if before else ""
                 before = seconds
-                print(f"| {case} | {rows:,} | {seconds:.3f} | {ratio} | {peak / 2**20:.0f} | {(peak - idle) / rows:.0f} |", flush=True)
+                print(f"| {case} | {rows:,} | {seconds:.3f} | {ratio} | {peak / 2**20:.0f} | {peak / rows:.0f} |", flush=True)
 
 
 main()

@@ -67,6 +67,8 @@ pub fn ranks(alloc: Global, entities: usize, sources: &[u32]) -> Result<Vec<u32>
 pub fn push_leaves(list: &mut NodeList, types: &[u32]) -> Result<(), AllocError>
     ensures { OnOk result (AddsLeaves list.old list.new types.now) }
 {
+    list.nodes.reserve_exact(types.len())?;
+    list.types.reserve_exact(types.len())?;
     for kind in types {
         list.push(Node::Leaf, *kind)?;
     }
@@ -82,7 +84,7 @@ pub fn push_generators(
 ) -> Result<Vec<u64>, AllocError>
     ensures { IfOk result (λ places. AddsGenerators list.old list.new generators.now places.items) }
 {
-    let mut places = Vec::new(alloc);
+    let mut places = Vec::with_capacity(alloc, generators.len())?;
     for generator in generators {
         let place = match generator.1 {
             Sort::Plain(kind) => list.push(Node::Leaf, kind)?,

@@ -66,7 +66,7 @@ pub(crate) fn add_generators(
         ⊎ (first_generator_fault schema.now [] 0 parts.now ≡ Some refusal)) }
 {
     let mut names = Names::new(alloc);
-    let mut sorts = Vec::new(alloc);
+    let mut sorts = Vec::with_capacity(alloc, parts.len())?;
     let mut part = 0;
     for generator in parts {
         let sort = add_generator(schema, &mut names, part, &generator.0, &generator.1)?;
@@ -92,8 +92,12 @@ impl Presentation {
         ensures refused { IfErr result (λ refusal. (refusal ≡ TheoryRefusal.Memory)
             ⊎ (presentation_fault schema.now parts.generators parts.equations ≡ Some refusal)) }
     {
-        let generators = parts.generators.as_slice();
-        let equations = parts.equations.as_slice();
+        let PresentationParts {
+            generators,
+            equations,
+        } = parts;
+        let equations = equations.into_vec();
+        let generators = generators.as_slice();
         let (names, sorts) = add_generators(alloc, schema, generators)?;
         let sorts = sorts.as_slice();
         let made = build_presentation(alloc, schema, &names, sorts, generators, equations)?;
@@ -108,16 +112,16 @@ fn build_presentation(
     names: &Names,
     sorts: &[Sort],
     generators: &[(Name, Name)],
-    equations: &[(Raw, Raw)],
+    equations: Vec<(Raw, Raw)>,
 ) -> Result<Presentation, TheoryRefusal>
     requires generators { first_generator_fault schema.now [] 0 generators.now ≡ None }
     requires names { names.now ≡ generator_names generators.now }
     requires sorts { sorts.now ≡ generator_sorts schema.now generators.now }
-    requires parts { length generators.now + length equations.now < 2 ^ 32 }
-    ensures accepted { IfOk result (λ _. presentation_fault schema.now generators.now equations.now ≡ None) }
-    ensures made { IfOk result (λ made. made ≡ presented schema.now generators.now equations.now) }
+    requires parts { length generators.now + length equations.items < 2 ^ 32 }
+    ensures accepted { IfOk result (λ _. presentation_fault schema.now generators.now equations.items ≡ None) }
+    ensures made { IfOk result (λ made. made ≡ presented schema.now generators.now equations.items) }
     ensures refused { IfErr result (λ refusal. (refusal ≡ TheoryRefusal.Memory)
-        ⊎ (presentation_fault schema.now generators.now equations.now ≡ Some refusal)) }
+        ⊎ (presentation_fault schema.now generators.now equations.items ≡ Some refusal)) }
 {
     let first = generators.len() as u32;
     let equations = resolve_equations(alloc, schema, names, sorts, equations, first)?;
@@ -145,7 +149,7 @@ fn build_generators(
     ensures { IfOk result (λ made. made.items ≡ map (λ part. (part.0, sort_or_first (sort_named schema.now part.1)))
         generators.now) }
 {
-    let mut made = Vec::new(alloc);
+    let mut made = Vec::with_capacity(alloc, generators.len())?;
     for generator in generators {
         let name = generator.0.clone()?;
         made.push((name, first_sort(schema.find_sort(&generator.1))))?;
@@ -197,32 +201,48 @@ fn resolve_equation(
     }
 }
 
-/// The equations, or the first, counted from `first`, that breaks a rule, with the least rule that it breaks.
+/// The equations, or the first, counted from `first`, that breaks a rule, with the least rule that it breaks. What was
+/// written is given back as it is read, so that it doesn't stand beside all that is made of it.
 fn resolve_equations(
     alloc: Global,
     schema: &Schema,
     names: &Names,
     sorts: &[Sort],
-    equations: &[(Raw, Raw)],
+    equations: Vec<(Raw, Raw)>,
     first: u32,
 ) -> Result<Vec<Equation>, TheoryRefusal>
-    requires { first + length equations.now < 2 ^ 32 }
-    ensures accepted { IfOk result (λ _. first_fault (equation_fault schema.now names.now sorts.now) first equations.now
-        ≡ None) }
+    requires { first + length equations.items < 2 ^ 32 }
+    ensures accepted { IfOk result (λ _. first_fault (equation_fault schema.now names.now sorts.now) first
+        equations.items ≡ None) }
     ensures made { IfOk result (λ made. made.items ≡ map
         (λ e. equation_of (resolved schema.now names.now sorts.now e.0) (resolved schema.now names.now sorts.now e.1))
-        equations.now) }
+        equations.items) }
     ensures refused { IfErr result (λ refusal. (refusal ≡ TheoryRefusal.Memory)
-        ⊎ (first_fault (equation_fault schema.now names.now sorts.now) first equations.now ≡ Some refusal)) }
+        ⊎ (first_fault (equation_fault schema.now names.now sorts.now) first equations.items ≡ Some refusal)) }
 {
     let mut made = Vec::with_capacity(alloc, equations.len())?;
     let mut part = first;
-    for equation in equations {
-        match resolve_equation(alloc, schema, names, sorts, &equation.0, &equation.1) {
+    let mut waiting = equations;
+    waiting.reverse();
+    'waiting: while let Some((left, right)) = waiting.pop() {
+        match resolve_equation(alloc, schema, names, sorts, &left, &right) {
             Ok(equation) => made.push(equation)?,
             Err(rule) => return Err(in_part_of(part, rule)),
         }
         part += 1;
+        give_back(&mut waiting);
     }
     Ok(made)
+}
+
+/// How many items leave a list before its memory is given back.
+const GIVEN_BACK: usize = 4096;
+
+/// Gives back what a list no longer needs, each time that some thousand items have left it.
+fn give_back<T>(waiting: &mut Vec<T>)
+    ensures { waiting.new.items ≡ waiting.old.items }
+{
+    if waiting.len() % GIVEN_BACK == 0 {
+        waiting.shrink_to_fit();
+    }
 }

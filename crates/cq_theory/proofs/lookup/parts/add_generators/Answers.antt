@@ -7,7 +7,7 @@ use Rattle.cq_theory.proofs.lookup.parts.add_generators.Goals as goal
 
 pub returns-in_err-sort-clause-refused : goal.returns-in_err-sort-clause-refused
 returns-in_err-sort-clause-refused c =
-    let p = err_from_is_err_and c.from_residual.result c.from_residual.ensures.1 in
+    let p = err_from_is_err_and c.from_residual-in_err-sort.result c.from_residual-in_err-sort.ensures.1 in
     let within : c.loop-generator.generator-index < length c.args.parts.now = omega arith in
     rw (p.1, p.2)
     (part_refused (λ p. p.0) (generator_fault c.args.schema.now) c.args.parts.now c.loop-generator.generator-index c.loop-generator.names c.loop-generator.part _ c.generator-item.result _ within c.generator-item.is c.loop-generator.invariant.3 c.in_err-sort.ensures.refused)
