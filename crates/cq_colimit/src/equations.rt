@@ -34,6 +34,21 @@ fn obs_eqs_of(alloc: Global, first: Vec<ObsEq>, rest: Seq<ObsEq>) -> Result<Seq<
     Ok(Seq::from_vec(made))
 }
 
+/// Equations, and then those of the schema.
+fn appended(
+    alloc: Global,
+    equations: Equations,
+    path_eqs: Seq<PathEq>,
+    obs_eqs: Seq<ObsEq>,
+) -> Result<(Seq<PathEq>, Seq<ObsEq>), AllocError>
+    ensures path_eqs { IfOk result (λ made. made.0 ≡ equations.path_eqs.items ++ path_eqs) }
+    ensures obs_eqs { IfOk result (λ made. made.1 ≡ equations.obs_eqs.items ++ obs_eqs) }
+{
+    let path_eqs = path_eqs_of(alloc, equations.path_eqs, path_eqs)?;
+    let obs_eqs = obs_eqs_of(alloc, equations.obs_eqs, obs_eqs)?;
+    Ok((path_eqs, obs_eqs))
+}
+
 /// Puts equations before those of the schema.
 pub(crate) fn put_first(
     alloc: Global,
@@ -46,11 +61,9 @@ pub(crate) fn put_first(
 {
     schema.is_well_sorted();
     let mut schema = schema;
-    let Equations { path_eqs, obs_eqs } = equations;
-    let own = replace(&mut schema.path_eqs, Seq::from_vec(Vec::new(alloc)));
-    let path_eqs = path_eqs_of(alloc, path_eqs, own)?;
-    let own = replace(&mut schema.obs_eqs, Seq::from_vec(Vec::new(alloc)));
-    let obs_eqs = obs_eqs_of(alloc, obs_eqs, own)?;
+    let own_path_eqs = replace(&mut schema.path_eqs, Seq::from_vec(Vec::new(alloc)));
+    let own_obs_eqs = replace(&mut schema.obs_eqs, Seq::from_vec(Vec::new(alloc)));
+    let (path_eqs, obs_eqs) = appended(alloc, equations, own_path_eqs, own_obs_eqs)?;
     schema.path_eqs = path_eqs;
     schema.obs_eqs = obs_eqs;
     Ok(schema)

@@ -6,11 +6,11 @@ use Rattle.cq_colimit.proofs.equations.put_first.Goals as goal
 
 pub invariant_of-schema : goal.invariant_of-schema
 invariant_of-schema c =
-    let path_eqs : c.replace-own.result ≡ c.schema.inside.path_eqs = search rules in
-    let obs_eqs : c.replace-own-2.result ≡ c.schema.inside.obs_eqs = search rules in (
+    let path_eqs : c.replace-own_path_eqs.result ≡ c.schema.inside.path_eqs = search rules in
+    let obs_eqs : c.replace-own_obs_eqs.result ≡ c.schema.inside.obs_eqs = search rules in (
       first_whole _ c.args.schema c.schema.view_is c.schema.invariant.0 c.args.equations.path_eqs.items _ c.args.equations.obs_eqs.items _ c.requires.path_eqs c.requires.obs_eqs
-          (c.in_ok-path_eqs.ensures ∙ ap (λ (l : List PathEq). c.args.equations.path_eqs.items ++ l) path_eqs)
-          (c.in_ok-obs_eqs.ensures ∙ ap (λ (l : List ObsEq). c.args.equations.obs_eqs.items ++ l) obs_eqs),
+          (c.in_ok-path_eqs.ensures.path_eqs ∙ ap (λ (l : List PathEq). c.args.equations.path_eqs.items ++ l) path_eqs)
+          (c.in_ok-path_eqs.ensures.obs_eqs ∙ ap (λ (l : List ObsEq). c.args.equations.obs_eqs.items ++ l) obs_eqs),
       c.schema.invariant.1,
       c.schema.invariant.2,
       c.schema.invariant.3,
