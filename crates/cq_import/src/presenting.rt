@@ -19,9 +19,9 @@ use crate::generators::push_row_sorts;
 use crate::labels::Labels;
 use crate::refusal::CsvRefusal;
 use crate::tables::read_cells;
-use cq_base::{Seq, Source};
+use cq_base::{Name, Seq, Source};
 use cq_terms::name_generators;
-use cq_theory::{Presentation, Schema};
+use cq_theory::{Presentation, Schema, Sort};
 use std::alloc::{AllocError, Global};
 
 /// The most generators of a presentation.
@@ -49,6 +49,23 @@ pub fn find_starts(
     Ok(Some((starts, total)))
 }
 
+/// The generators of the records and of the labels, with their names.
+fn generators_of(context: &Context, labels: &Labels) -> Result<Vec<(Name, Sort)>, AllocError>
+    requires { length context.now.files.now < 2 ^ 32 }
+    ensures { IfOk result (λ generators. generators.items ≡ named
+        (flat_map (entity_sorts (sheets_in context.now)) (below (length context.now.files.now))
+        ++ map (λ u. Plain u.1) labels.now)) }
+{
+    let mut sorts = Vec::new(context.alloc);
+    push_row_sorts(context.files, &mut sorts)?;
+    labels.push_sorts(&mut sorts)?;
+    // There are at most 16,000,000.
+    if sorts.len() > 1 << 31 {
+        return Err(AllocError);
+    }
+    name_generators(context.alloc, sorts.as_slice())
+}
+
 /// The presentation of what was read.
 pub fn finish(context: &Context, made: Made) -> Result<Presentation, AllocError>
     requires { length context.now.files.now < 2 ^ 32 }
@@ -62,14 +79,7 @@ pub fn finish(context: &Context, made: Made) -> Result<Presentation, AllocError>
         equations,
         ..
     } = made;
-    let mut sorts = Vec::new(context.alloc);
-    push_row_sorts(context.files, &mut sorts)?;
-    labels.push_sorts(&mut sorts)?;
-    // There are at most 16,000,000.
-    if sorts.len() > 1 << 31 {
-        return Err(AllocError);
-    }
-    let generators = name_generators(context.alloc, sorts.as_slice())?;
+    let generators = generators_of(context, &labels)?;
     Ok(Presentation {
         generators: Seq::from_vec(generators),
         equations: Seq::from_vec(equations),
