@@ -3,6 +3,7 @@
 
 mod colimits;
 mod declarations;
+mod duties;
 mod environment;
 mod gluing;
 pub mod laws;

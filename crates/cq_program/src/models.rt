@@ -10,6 +10,7 @@ ghost use Rattle.cq_program.specs.Posing.{IsPosed, TellsConstants, Withholds, po
 ghost use Rattle.cq_program.specs.Meanings.{mapping, instance};
 ghost use Rattle.cq_program.specs.Checks.{a_mapping, an_identity, a_presentation};
 
+use crate::duties::unmet;
 use crate::environment::Meaning;
 use crate::gluing::{glued, summed};
 use crate::moves::{pulled, pushed};
@@ -18,7 +19,7 @@ use crate::queries::{answered, checked_query, read_backwards};
 use crate::reason::{ProgramRefusal, Reason};
 use crate::transforms::shared_transform;
 use cq_base::{Name, Place, Seq};
-use cq_check::{CheckRefusal, check_mapping};
+use cq_check::check_mapping;
 use cq_mapping::Mapping;
 use cq_model::{BuildRefusal, Instance, build};
 use cq_theory::value_text::value_text;
@@ -95,16 +96,7 @@ fn checked_mapping(
 {
     match check_mapping(alloc, &mapping, depth) {
         Ok(()) => Ok(shared_mapping(alloc, source, target, mapping)?),
-        Err(CheckRefusal::NotPreserved(duty)) => {
-            Err(ProgramRefusal::Broken(place, Reason::NotPreserved(duty)))
-        }
-        Err(CheckRefusal::Depth(duty)) => {
-            Err(ProgramRefusal::Broken(place, Reason::DutyDepth(duty)))
-        }
-        Err(CheckRefusal::TooManyRows(duty)) => {
-            Err(ProgramRefusal::Broken(place, Reason::DutyRows(duty)))
-        }
-        Err(CheckRefusal::Memory) => Err(ProgramRefusal::Memory),
+        Err(refusal) => Err(unmet(place, refusal)),
     }
 }
 

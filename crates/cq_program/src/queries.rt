@@ -13,6 +13,7 @@ ghost use Rattle.cq_parts.specs.Parts.{query_count};
 ghost use Rattle.cq_program.specs.Posing.{IsGrounded, IsPosed, Withholds, posed_as};
 ghost use Rattle.cq_program.specs.Program.{Stands};
 
+use crate::duties::unmet;
 use crate::environment::{Environment, Meaning};
 use crate::made::made;
 use crate::models::shared_instance;
@@ -20,7 +21,7 @@ use crate::posing::{Statement, arrow_refusal};
 use crate::reason::{ProgramRefusal, Reason};
 use crate::used::{instance_of, query_of};
 use cq_base::{Name, Place};
-use cq_check::{CheckRefusal, check_query};
+use cq_check::check_query;
 use cq_coeval::coeval;
 use cq_eval::{EvalRefusal, eval};
 use cq_model::Instance;
@@ -131,16 +132,7 @@ pub fn checked_query(
 {
     match check_query(alloc, &query, depth) {
         Ok(()) => Ok(shared_query(alloc, source, target, query)?),
-        Err(CheckRefusal::NotPreserved(duty)) => {
-            Err(ProgramRefusal::Broken(place, Reason::NotPreserved(duty)))
-        }
-        Err(CheckRefusal::Depth(duty)) => {
-            Err(ProgramRefusal::Broken(place, Reason::DutyDepth(duty)))
-        }
-        Err(CheckRefusal::TooManyRows(duty)) => {
-            Err(ProgramRefusal::Broken(place, Reason::DutyRows(duty)))
-        }
-        Err(CheckRefusal::Memory) => Err(ProgramRefusal::Memory),
+        Err(refusal) => Err(unmet(place, refusal)),
     }
 }
 

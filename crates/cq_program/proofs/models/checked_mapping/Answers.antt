@@ -1,17 +1,10 @@
 use Rattle.std.proofs.Common.{refl, inl, inr}
+use Rattle.cq_program.specs.Checks.{a_mapping}
 use Rattle.cq_program.proofs.models.checked_mapping.Goals as goal
 
-pub returns-in-Err-NotPreserved-clause-withholds : goal.returns-in-Err-NotPreserved-clause-withholds
-returns-in-Err-NotPreserved-clause-withholds c =
-    rw c.in-Err-NotPreserved.field-0-is
-    (refl, inl (c.in-Err-NotPreserved.duty, refl, c.in-Err-NotPreserved.ensures.not_preserved c.in-Err-NotPreserved.duty (cc)))
-
-pub returns-in-Err-Depth-clause-withholds : goal.returns-in-Err-Depth-clause-withholds
-returns-in-Err-Depth-clause-withholds c =
-    rw c.in-Err-Depth.field-0-is
-    (refl, inr (c.in-Err-Depth.duty, inl (refl, c.in-Err-Depth.ensures.deep c.in-Err-Depth.duty (cc))))
-
-pub returns-in-Err-TooManyRows-clause-withholds : goal.returns-in-Err-TooManyRows-clause-withholds
-returns-in-Err-TooManyRows-clause-withholds c =
-    rw c.in-Err-TooManyRows.field-0-is
-    (refl, inr (c.in-Err-TooManyRows.duty, inr (refl, c.in-Err-TooManyRows.ensures.many c.in-Err-TooManyRows.duty (cc))))
+pub returns-in-Err-clause-withholds : goal.returns-in-Err-clause-withholds
+returns-in-Err-clause-withholds c =
+    c.unmet.ensures c.args.depth (a_mapping c.args.source c.args.target c.args.mapping)
+    (λ n is. (n, refl, c.in-Err.ensures.not_preserved n (cc)))
+    (λ n is. (n, inl (refl, c.in-Err.ensures.deep n (cc))))
+    (λ n is. (n, inr (refl, c.in-Err.ensures.many n (cc))))
