@@ -18,6 +18,3 @@ pub use raw::Raw;
 pub use seq::{Seq, number_at};
 pub use shared::SharedTexts;
 pub use source::Source;
-
-#[cfg(test)]
-mod tests;

@@ -6,6 +6,3 @@ pub mod handing;
 
 pub use files::FileLists;
 pub use handing::{Handed, hand_over};
-
-#[cfg(test)]
-mod tests;

@@ -95,6 +95,7 @@ impl Closing {
 
     // Looks up a node.
     fn enter_one(&mut self, alloc: Global, nodes: &[Node], node: u64) -> Result<(), AllocError>
+        requires few { length nodes.now < 2 ^ 32 }
         requires arguments { HasEarlierArguments nodes.now }
         requires count { length self.old.classes.items ≡ length nodes.now }
         requires node { node < length nodes.now }
@@ -161,6 +162,7 @@ impl Closing {
 
     // Looks up anew the functions whose arguments were joined, each once, however many of them were.
     fn refresh(&mut self, alloc: Global, nodes: &[Node]) -> Result<(), AllocError>
+        requires few { length nodes.now < 2 ^ 32 }
         requires arguments { HasEarlierArguments nodes.now }
         requires count { length self.old.classes.items ≡ length nodes.now }
         requires stale { (a : ℕ) → Has self.old.stale.items a → a < length nodes.now }

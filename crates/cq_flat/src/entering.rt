@@ -1,5 +1,5 @@
 //! Nodes are looked up by their keys.
-ghost use Rattle.std.specs.Prelude.{◌≡◌, ◌<◌, ℕ, [], ◌∷◌, length, map, All, IfOk, OnOk, slice_index};
+ghost use Rattle.std.specs.Prelude.{◌≡◌, ◌<◌, ◌^◌, ℕ, [], ◌∷◌, length, map, All, IfOk, OnOk, slice_index};
 ghost use Rattle.cq_flat.specs.Keys.{key_of, con_key};
 ghost use Rattle.cq_flat.specs.Nodes.{HasEarlierArguments, HasArgumentsBelow};
 ghost use Rattle.cq_flat.specs.Partition.{Has};
@@ -66,6 +66,7 @@ pub fn enter(
     node: u64,
 ) -> Result<(), AllocError>
     requires arguments { HasEarlierArguments nodes.now }
+    requires few { length nodes.now < 2 ^ 32 }
     requires count { length classes.now ≡ length nodes.now }
     requires node { node < length nodes.now }
     ensures { OnOk result (Enters nodes.now (slice_index classes.now)
@@ -74,8 +75,8 @@ pub fn enter(
     let Some(key) = key(alloc, classes, &nodes[node as usize])? else {
         return Ok(());
     };
-    if let Some(earlier) = table.put(key, node)? {
-        pending.push((node, earlier))?;
+    if let Some(earlier) = table.put(key, node as u32)? {
+        pending.push((node, u64::from(earlier)))?;
     }
     Ok(())
 }
@@ -90,6 +91,7 @@ pub fn enter_all(
     entered: &[u64],
 ) -> Result<(), AllocError>
     requires arguments { HasEarlierArguments nodes.now }
+    requires few { length nodes.now < 2 ^ 32 }
     requires count { length classes.now ≡ length nodes.now }
     requires entered { (a : ℕ) → Has entered.now a → a < length nodes.now }
     ensures { OnOk result (Enters nodes.now (slice_index classes.now) (Has entered.now) table.old table.new

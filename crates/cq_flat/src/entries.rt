@@ -1,5 +1,5 @@
 //! The entries of functions.
-ghost use Rattle.std.specs.Prelude.{◌≡◌, ◌<◌, length, map, All, IfOk};
+ghost use Rattle.std.specs.Prelude.{◌≡◌, ◌<◌, ◌^◌, length, map, All, IfOk};
 ghost use Rattle.cq_flat.specs.Nodes.{HasEarlierArguments};
 ghost use Rattle.cq_flat.specs.Values.{entries_of, value_at};
 ghost use Rattle.cq_flat.specs.Entries.{AreValuesOf};
@@ -21,6 +21,7 @@ pub fn entries_of(
     classes: &[u32],
     values: &NodeValues,
 ) -> Result<Vec<Entry>, AllocError>
+    requires few { length nodes.now < 2 ^ 32 }
     requires arguments { HasEarlierArguments nodes.now }
     requires placed { ArePlaced values.now }
     requires values { AreValuesOf (length nodes.now) classes.now (values_in values.now) }
@@ -33,7 +34,7 @@ pub fn entries_of(
             continue;
         };
         let key = function_key(alloc, classes, *function, args.as_slice())?;
-        if table.put(key, node as u64)?.is_some() {
+        if table.put(key, node as u32)?.is_some() {
             continue;
         }
         entries.push(entry(alloc, values, node as u64, *function, args.as_slice())?)?;

@@ -96,8 +96,8 @@ impl Hash for Numbers {
 /// own, where a key takes no more room than a text.
 #[derive(Drop)]
 pub struct Table {
-    numbers: HashMap<Numbers, u64, Hashing>,
-    texts: HashMap<Name, u64, Hashing>,
+    numbers: HashMap<Numbers, u32, Hashing>,
+    texts: HashMap<Name, u32, Hashing>,
 }
 
 impl Model for Table {
@@ -123,7 +123,7 @@ impl Table {
     }
 
     /// Puts a node at a key, and gives the node that was there.
-    pub fn put(&mut self, key: Key, node: u64) -> Result<Option<u64>, AllocError>
+    pub fn put(&mut self, key: Key, node: u32) -> Result<Option<u32>, AllocError>
         ensures earlier { IfOk result (λ earlier. earlier ≡ found self.old key) }
         ensures put { OnOk result ((q : List ℕ) → found self.new q
             ≡ (if same_key key q then Some node else found self.old q)) }

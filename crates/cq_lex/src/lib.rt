@@ -14,6 +14,3 @@ pub mod token;
 pub use lexer::lex;
 pub use refusal::LexRefusal;
 pub use token::{Kind, Mark, Token};
-
-#[cfg(test)]
-mod tests;

@@ -67,6 +67,7 @@ pub fn ranks(alloc: Global, entities: usize, sources: &[u32]) -> Result<Vec<u32>
 pub fn push_leaves(list: &mut NodeList, types: &[u32]) -> Result<(), AllocError>
     ensures { OnOk result (AddsLeaves list.old list.new types.now) }
 {
+    // Most nodes are leaves, and lists that grow by doubling leave holes in the memory.
     list.nodes.reserve_exact(types.len())?;
     list.types.reserve_exact(types.len())?;
     for kind in types {

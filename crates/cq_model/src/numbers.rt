@@ -31,7 +31,7 @@ fn row_entities(alloc: Global, tables: &Tables, rows: &[u64]) -> Result<Vec<u32>
     requires { All (λ row. row < made_of tables.now) rows.now }
     ensures { IfOk result (λ members. members.items ≡ row_entities tables.now rows.now) }
 {
-    let mut members = Vec::new(alloc);
+    let mut members = Vec::with_capacity(alloc, rows.len())?;
     for row in rows {
         members.push(tables.entity(*row))?;
     }
@@ -47,7 +47,7 @@ fn rows_in_groups(
     requires { All (λ group. All (λ place. place < length rows.now) group) groups.now }
     ensures { IfOk result (λ order. order ≡ map (map (slice_index rows.now)) groups.now) }
 {
-    let mut order = Vec::new(alloc);
+    let mut order = Vec::with_capacity(alloc, groups.len())?;
     for group in groups {
         order.push(rows_in_group(alloc, rows, group.as_slice())?)?;
     }
@@ -59,7 +59,7 @@ fn rows_in_group(alloc: Global, rows: &[u64], places: &[u32]) -> Result<Seq<u64>
     requires { All (λ place. place < length rows.now) places.now }
     ensures { IfOk result (λ group. group ≡ map (slice_index rows.now) places.now) }
 {
-    let mut group = Vec::new(alloc);
+    let mut group = Vec::with_capacity(alloc, places.len())?;
     for place in places {
         group.push(rows[*place as usize])?;
     }

@@ -7,6 +7,3 @@ mod plan;
 mod tables;
 
 pub use tables::Tables;
-
-#[cfg(test)]
-mod tests;

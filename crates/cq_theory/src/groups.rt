@@ -53,13 +53,19 @@ pub fn empty_groups<T: Drop>(alloc: Global, count: usize) -> Result<Vec<Vec<T>>,
     Ok(groups)
 }
 
-/// The same lists, each as a list of its own.
+/// The same list, without the room that a list has which may still grow.
+fn exact<T: Drop>(group: Vec<T>) -> Seq<T>
+    ensures { result ≡ group.items }
+{
+    let mut group = group;
+    group.shrink_to_fit();
+    Seq::from_vec(group)
+}
+
+/// The same lists, each as a list of its own that takes no more memory than it needs.
 pub fn sealed<T: Drop>(alloc: Global, groups: Vec<Vec<T>>) -> Result<Seq<Seq<T>>, AllocError>
     ensures { IfOk result (λ lists. lists ≡ map (λ group. group.items) groups.items) }
 {
-    let lists: Vec<Seq<T>> = groups
-        .into_iter()
-        .map(|group| Seq::from_vec(group))
-        .collect(alloc)?;
+    let lists: Vec<Seq<T>> = groups.into_iter().map(|group| exact(group)).collect(alloc)?;
     Ok(Seq::from_vec(lists))
 }

@@ -1,7 +1,7 @@
 use Rattle.std.proofs.Common.{◌≡◌, refl, sym, ◌∙◌, ap, Some}
-use Rattle.cq_tables.specs.declared.tests.TheConstants.{KEYS}
+use Rattle.cq_low_tests.specs.declared.tables.TheConstants.{KEYS}
 use Rattle.cq_tables.proofs.Reading.{step_given}
-use Rattle.cq_tables.proofs.tests.fill.Goals as goal
+use Rattle.cq_low_tests.proofs.tables.fill.Goals as goal
 
 pub cell-requires-clause-key : goal.cell-requires-clause-key
 cell-requires-clause-key c =

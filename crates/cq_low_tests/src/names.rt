@@ -1,5 +1,5 @@
 //! Names at their limit, texts that are shared, and a table of names.
-use crate::{Name, NameRefusal, Names, NamesRefusal, SharedTexts};
+use cq_base::{Name, NameRefusal, Names, NamesRefusal, SharedTexts};
 use std::alloc::AllocError;
 use std::test::Fail;
 

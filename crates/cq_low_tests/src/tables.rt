@@ -2,7 +2,7 @@
 ghost use Rattle.std.specs.Prelude.{◌≡◌, ◌<◌, true};
 ghost use Rattle.cq_tables.specs.Content.{entities_of, keys_of, made_of, live_of};
 
-use crate::Tables;
+use cq_tables::Tables;
 use std::alloc::{AllocError, Global};
 use std::process::Abort;
 use std::test::Fail;

@@ -1,5 +1,5 @@
 //! A file's tokens and refusals, written out.
-use crate::{Kind, LexRefusal, Token, lex};
+use cq_lex::{Kind, LexRefusal, Token, lex};
 use std::alloc::{AllocError, Global};
 use std::process::Abort;
 use std::test::Fail;

@@ -1,7 +1,7 @@
 use Rattle.std.proofs.Common.{◌≡◌, ◌<◌}
-use Rattle.cq_tables.specs.declared.tests.TheConstants.{KEYS}
+use Rattle.cq_low_tests.specs.declared.tables.TheConstants.{KEYS}
 use Rattle.cq_tables.specs.Content.{entities_of, keys_of}
-use Rattle.cq_tables.proofs.tests.tables_are_as_a_plain_list_of_cells.Given as goal
+use Rattle.cq_low_tests.proofs.tables.tables_are_as_a_plain_list_of_cells.Given as goal
 
 abbrev pub invariant-loop-turn : goal.invariant-loop-turn
 invariant-loop-turn g l = record {

@@ -1,6 +1,6 @@
 //! Exporters that fail.
 
-use crate::{FileLists, Handed, hand_over};
+use cq_export::{FileLists, Handed, hand_over};
 use cq_io::{Exporter, Format, MemExporter};
 use std::alloc::{AllocError, Global};
 use std::process::Abort;

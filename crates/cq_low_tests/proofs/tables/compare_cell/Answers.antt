@@ -1,7 +1,7 @@
 use Rattle.std.proofs.Common.{◌≡◌, refl, sym, ◌∙◌, arith}
-use Rattle.cq_tables.specs.declared.tests.TheConstants.{KEYS}
+use Rattle.cq_low_tests.specs.declared.tables.TheConstants.{KEYS}
 use Rattle.cq_tables.proofs.Reading.{step_given}
-use Rattle.cq_tables.proofs.tests.compare_cell.Goals as goal
+use Rattle.cq_low_tests.proofs.tables.compare_cell.Goals as goal
 
 pub cell-requires-clause-key : goal.cell-requires-clause-key
 cell-requires-clause-key g c =

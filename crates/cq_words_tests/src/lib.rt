@@ -1,5 +1,0 @@
-//! Tests of lines of words.
-#![tactic(auto)]
-
-#[cfg(test)]
-mod tests;
