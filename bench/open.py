@@ -167,8 +167,9 @@ fn push_cells(
 }
 
 pub fn generators(alloc: Global, rows: u64, texts: u64) -> Result<PresentationParts, AllocError> {
-    let mut generators = Vec::new(alloc);
-    let mut equations = Vec::new(alloc);
+    let rows_here = rows as usize;
+    let mut generators = Vec::with_capacity(alloc, rows_here)?;
+    let mut equations = Vec::with_capacity(alloc, rows_here.wrapping_mul(ATTRIBUTES.len()))?;
     let bytes = file(alloc, rows, texts)?;
     let mut reader = Reader { source: Source::new(alloc, bytes.as_slice())?, rest: bytes.len() };
     drop(bytes);

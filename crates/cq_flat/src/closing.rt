@@ -87,7 +87,7 @@ impl Closing {
             classes,
             following,
             uses: Lists::new(alloc),
-            table: Table::new(alloc),
+            table: Table::new(alloc, count),
             pending: equations,
             stale: Vec::new(alloc),
         })

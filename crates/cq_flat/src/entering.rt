@@ -76,7 +76,7 @@ pub fn enter(
         return Ok(());
     };
     if let Some(earlier) = table.put(key, node as u32)? {
-        pending.push((node, u64::from(earlier)))?;
+        pending.push((node, earlier as u64))?;
     }
     Ok(())
 }

@@ -27,7 +27,7 @@ pub fn entries_of(
     requires values { AreValuesOf (length nodes.now) classes.now (values_in values.now) }
     ensures { IfOk result (λ entries. entries.items ≡ entries_of nodes.now (values_in values.now)) }
 {
-    let mut table = Table::new(alloc);
+    let mut table = Table::new(alloc, 0);
     let mut entries = Vec::new(alloc);
     for (node, content) in nodes.iter().enumerate() {
         let Node::Fun(function, args) = content else {

@@ -2,6 +2,7 @@
 ghost use Rattle.std.specs.Prelude.{◌≡◌, ℕ, List, [], ◌∷◌, Some, IfOk, OnOk, nat_eq, if◌then◌else◌};
 ghost use Rattle.std.specs.Cmp.Lexicographic.{pointwise, nat_list_eq_equiv};
 ghost use Rattle.std.specs.Cmp.{partial_equiv_from_equiv};
+ghost use Rattle.cq_flat.specs.Keys.{found};
 
 use cq_base::{Hashing, Name};
 use smallvec::SmallVec;
@@ -98,6 +99,8 @@ impl Hash for Numbers {
 pub struct Table {
     numbers: HashMap<Numbers, u32, Hashing>,
     texts: HashMap<Name, u32, Hashing>,
+    // How many texts there may be, as far as is known.
+    most: usize,
 }
 
 impl Model for Table {
@@ -112,13 +115,15 @@ impl Model for Table {
 impl Table {
     ghost use Rattle.cq_flat.specs.Keys.{found, same_key};
 
-    /// No nodes. A table grows with its keys, of which there may be far fewer than nodes.
-    pub fn new(alloc: Global) -> Table
+    /// No nodes. A table grows with its keys, of which there may be far fewer than nodes; `most` texts are expected
+    /// at most.
+    pub fn new(alloc: Global, most: usize) -> Table
         ensures { result ≡ [] }
     {
         Table {
             numbers: HashMap::with_hasher(alloc, Hashing::new()),
             texts: HashMap::with_hasher(alloc, Hashing::new()),
+            most,
         }
     }
 
@@ -130,7 +135,21 @@ impl Table {
     {
         match key.content {
             Content::Numbers(numbers) => Ok(self.numbers.insert(numbers, node)?),
-            Content::Text(text) => Ok(self.texts.insert(text, node)?),
+            Content::Text(text) => {
+                make_room(&mut self.texts, self.most)?;
+                Ok(self.texts.insert(text, node)?)
+            }
         }
     }
+}
+
+// Where one in eight texts was another one, the rest are taken to be so too: room for all of them at once leaves fewer
+// holes in the memory than a table that doubles.
+fn make_room(texts: &mut HashMap<Name, u32, Hashing>, most: usize) -> Result<(), AllocError>
+    ensures { OnOk result ((text : List ℕ) → found texts.new.entries text ≡ found texts.old.entries text) }
+{
+    if texts.len() == most / 8 {
+        texts.reserve(most - texts.len())?;
+    }
+    Ok(())
 }

@@ -1,5 +1,5 @@
 //! The values of nodes, and the labels of nulls.
-ghost use Rattle.std.specs.Prelude.{◌≡◌, ◌<◌, ◌^◌, ℕ, length, All, IfOk, OnOk, slice_index_or, if◌then◌else◌, ◌==◌};
+ghost use Rattle.std.specs.Prelude.{◌≡◌, ◌<◌, ◌≤◌, ◌^◌, ℕ, length, All, IfOk, OnOk, slice_index_or, if◌then◌else◌, ◌==◌};
 ghost use Rattle.cq_flat.specs.Constants.{constant_at, constants_at};
 ghost use Rattle.cq_flat.specs.Labels.{AreApart, AreClassValues};
 ghost use Rattle.cq_flat.specs.Places.{values_in, ArePlaced, IsNewValue};
@@ -31,7 +31,7 @@ pub fn values_of(
     let count = classes.len() as u32;
     let mut placed = Vec::with_capacity(alloc, classes.len())?;
     let mut nulls = Vec::new(alloc);
-    let mut values = NodeValues::with_room(alloc, classes.len())?;
+    let mut values = NodeValues::with_room(alloc, classes.len(), count_classes(classes))?;
     for (node, class) in classes.iter().enumerate() {
         let place = place_at(placed.as_slice(), count, *class);
         if place < count {
@@ -45,6 +45,19 @@ pub fn values_of(
         values.different.push(value)?;
     }
     Ok((values, nulls))
+}
+
+// How many nodes are the first ones of their classes, by whose numbers classes go.
+fn count_classes(classes: &[u32]) -> usize
+    ensures { result ≤ length classes.now }
+{
+    let mut count = 0;
+    for (node, class) in classes.iter().enumerate() {
+        if *class as usize == node {
+            count += 1;
+        }
+    }
+    count
 }
 
 // The value of a class, of whose constants the least one stands at this place, if it has any. Else

@@ -15,14 +15,18 @@ pub struct NodeValues {
 }
 
 impl NodeValues {
-    /// No values, with room for the places of this many.
-    pub fn with_room(alloc: Global, count: usize) -> Result<NodeValues, AllocError>
+    /// No values, with room for so many nodes and so many different values.
+    pub fn with_room(
+        alloc: Global,
+        count: usize,
+        different: usize,
+    ) -> Result<NodeValues, AllocError>
         ensures places { IfOk result (λ made. made.places.items ≡ []) }
         ensures different { IfOk result (λ made. made.different.items ≡ []) }
     {
         Ok(NodeValues {
             places: Vec::with_capacity(alloc, count)?,
-            different: Vec::new(alloc),
+            different: Vec::with_capacity(alloc, different)?,
         })
     }
 
