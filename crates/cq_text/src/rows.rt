@@ -96,10 +96,29 @@ fn push_rows(
     ensures { OnOk result (text.new.items ≡ text.old.items
         ++ flat_map (row_line instance.now entity) (below (count_of instance.now.tables entity))) }
 {
-    for row in 0..instance.count(entity) {
+    let start = text.len();
+    let count = instance.count(entity);
+    for row in 0..count {
+        make_room(text, start, row, count);
         push_row(instance, entity, row, attributes, keys, text)?;
     }
     Ok(())
+}
+
+/// How many rows of an entity tell how long the others are.
+const MEASURED: u32 = 1024;
+
+/// After some rows, of `count` whose lines begin at `start`, makes room for the others, since a text that grows by
+/// doubling takes up to three times its memory. Where there isn't so much, the text grows as it goes.
+fn make_room(text: &mut Vec<u8>, start: usize, row: u32, count: u32)
+    ensures { text.new.items ≡ text.old.items }
+{
+    if row == MEASURED {
+        // The numbers and names of later rows are longer.
+        let bytes = text.len().saturating_sub(start) / MEASURED as usize;
+        let each = bytes.saturating_add(bytes / 16).saturating_add(2);
+        let _made = text.reserve_exact(each.saturating_mul(count.saturating_sub(row) as usize));
+    }
 }
 
 fn push_row(
