@@ -1,5 +1,5 @@
 //! Transforms that go one after the other.
-use crate::given::{Content, Keys, ent_term, instance, one};
+use crate::given::{Keys, ent_term, instance, one};
 use cq_base::Seq;
 use cq_model::{Image, Instance, Transform};
 use cq_theory::Value;
@@ -8,20 +8,16 @@ use std::alloc::Global;
 use std::process::Abort;
 
 /// Two rows, from each of which the foreign key leads to itself.
-static TWO: Content = Content {
-    generators: &[("a", "E"), ("b", "E")],
-    equations: &[(("a", &["k"]), ("a", &[])), (("b", &["k"]), ("b", &[]))],
-};
+static TWO: &str = "
+    typeside T = literal { types s }
+    schema S = literal : T { entities E foreign_keys k : E -> E attributes x : E -> s }
+    instance I = literal : S { generators a b : E equations k(a) = a k(b) = b }";
 
 /// Three such rows.
-static THREE: Content = Content {
-    generators: &[("p", "E"), ("q", "E"), ("r", "E")],
-    equations: &[
-        (("p", &["k"]), ("p", &[])),
-        (("q", &["k"]), ("q", &[])),
-        (("r", &["k"]), ("r", &[])),
-    ],
-};
+static THREE: &str = "
+    typeside T = literal { types s }
+    schema S = literal : T { entities E foreign_keys k : E -> E attributes x : E -> s }
+    instance I = literal : S { generators p q r : E equations k(p) = p k(q) = q k(r) = r }";
 
 /// The images of generators, and where rows and nulls go.
 struct Way {
@@ -149,10 +145,7 @@ struct Stages {
 }
 
 /// Two ways, and the ends of both.
-type Course = (
-    (&'static Way, &'static Way),
-    (&'static Content, &'static Content),
-);
+type Course = ((&'static Way, &'static Way), (&'static str, &'static str));
 
 fn stages_of(rt: &impl Abort, alloc: Global, course: Course) -> Stages {
     let (ways, ends) = course;
@@ -189,12 +182,12 @@ fn is_whole(rt: &impl Abort, alloc: Global, course: Course, whole: &Way) -> bool
 
 #[test]
 fn up_and_down(rt: HostRuntime) {
-    let course = ((&UP, &DOWN), (&THREE, &TWO));
+    let course = ((&UP, &DOWN), (THREE, TWO));
     assert!(rt; is_whole(&rt, rt.alloc(), course, &UP_AND_DOWN));
 }
 
 #[test]
 fn down_and_up(rt: HostRuntime) {
-    let course = ((&DOWN, &UP), (&TWO, &THREE));
+    let course = ((&DOWN, &UP), (TWO, THREE));
     assert!(rt; is_whole(&rt, rt.alloc(), course, &DOWN_AND_UP));
 }

@@ -1,9 +1,13 @@
-//! Instances over one schema, from lists of words.
+//! Theories and presentations over them, read from texts of the language.
 ghost use Rattle.std.specs.Prelude.{IfOk};
 ghost use Rattle.cq_theory.specs.Presentation.{IsPresentation};
 
-use cq_base::{Name, Raw, Seq};
+use cq_base::Seq;
+use cq_lex::lex;
 use cq_model::{Instance, build};
+use cq_parse::parse;
+use cq_parts::{instance_parts, schema_parts, typeside_parts};
+use cq_syntax::{Body, InstanceExp, InstanceLit, Program, SchemaExp, SchemaLit, TypesideLit};
 use cq_theory::{
     EntTerm, Presentation, PresentationParts, Schema, SchemaParts, TheoryRefusal, Typeside,
     TypesideParts,
@@ -15,17 +19,17 @@ use std::rc::Rc;
 /// A generator, and the foreign keys that are followed from it.
 pub(crate) type Keys = (u32, &'static [u32]);
 
-/// A word, and what is applied to it, one after the other.
-type Words = (&'static str, &'static [&'static str]);
+/// The most parts of each kind of a typeside and of a schema.
+const FEW: usize = 99;
 
-/// Generators with their sorts, and equations.
-pub(crate) struct Content {
-    pub(crate) generators: &'static [(&'static str, &'static str)],
-    pub(crate) equations: &'static [(Words, Words)],
-}
+/// The most generators, and the most equations, of an instance.
+const MANY: usize = 1_000_000;
 
-fn name(rt: &impl Abort, alloc: Global, text: &str) -> Name {
-    Name::new(alloc, text).expect(rt, "a name")
+/// A schema with a presentation over it.
+#[derive(Drop)]
+pub(crate) struct Given {
+    pub(crate) schema: Rc<Schema>,
+    pub(crate) presentation: Presentation,
 }
 
 /// A list of one item.
@@ -35,84 +39,56 @@ pub(crate) fn one<T: Drop>(rt: &impl Abort, alloc: Global, item: T) -> Seq<T> {
     Seq::from_vec(items)
 }
 
-fn one_name(rt: &impl Abort, alloc: Global, text: &str) -> Seq<Name> {
-    one(rt, alloc, name(rt, alloc, text))
+/// The program of a text.
+fn program(rt: &impl Abort, alloc: Global, text: &[u8]) -> Program {
+    assert!(rt; text.len() <= 1 << 23);
+    let tokens = lex(alloc, text).ok().expect(rt, "tokens");
+    parse(alloc, tokens.as_slice()).ok().expect(rt, "a program")
 }
 
-fn pair(rt: &impl Abort, alloc: Global, (left, right): (&str, &str)) -> (Name, Name) {
-    (name(rt, alloc, left), name(rt, alloc, right))
-}
-
-fn pairs(rt: &impl Abort, alloc: Global, texts: &[(&str, &str)]) -> Seq<(Name, Name)> {
-    let mut pairs = Vec::new(alloc);
-    for text in texts {
-        pairs.push(pair(rt, alloc, *text)).expect(rt, "memory");
+/// The first typeside of a program.
+fn typeside_literal(program: &Program) -> Option<&TypesideLit> {
+    for decl in program.decls.as_slice() {
+        if let Body::Typeside(literal) = &decl.body {
+            return Some(literal);
+        }
     }
-    Seq::from_vec(pairs)
+    None
 }
 
-/// One foreign key, or one attribute, and its two ends.
-fn edge(rt: &impl Abort, alloc: Global, text: &str, ends: (&str, &str)) -> Seq<(Name, Name, Name)> {
-    let (from, to) = pair(rt, alloc, ends);
-    one(rt, alloc, (name(rt, alloc, text), from, to))
-}
-
-fn raw(rt: &impl Abort, alloc: Global, (word, applied): Words) -> Raw {
-    let mut term = Raw::Word(name(rt, alloc, word));
-    for text in applied {
-        term = Raw::App(name(rt, alloc, text), one(rt, alloc, term));
+/// The first schema of a program.
+fn schema_literal(program: &Program) -> Option<&SchemaLit> {
+    for decl in program.decls.as_slice() {
+        if let Body::Schema(SchemaExp::Literal(literal)) = &decl.body {
+            return Some(literal);
+        }
     }
-    term
+    None
 }
 
-fn equation(rt: &impl Abort, alloc: Global, (left, right): (Words, Words)) -> (Raw, Raw) {
-    (raw(rt, alloc, left), raw(rt, alloc, right))
-}
-
-fn equations(rt: &impl Abort, alloc: Global, listed: &[(Words, Words)]) -> Seq<(Raw, Raw)> {
-    let mut equations = Vec::new(alloc);
-    for sides in listed {
-        equations
-            .push(equation(rt, alloc, *sides))
-            .expect(rt, "memory");
+/// The first instance of a program.
+fn instance_literal(program: &Program) -> Option<&InstanceLit> {
+    for decl in program.decls.as_slice() {
+        if let Body::Instance(InstanceExp::Literal(literal)) = &decl.body {
+            return Some(literal);
+        }
     }
-    Seq::from_vec(equations)
-}
-
-/// A type with two constants, and a function from it to itself.
-fn typeside_parts(rt: &impl Abort, alloc: Global) -> TypesideParts {
-    let args = one_name(rt, alloc, "s");
-    let (function, result) = pair(rt, alloc, ("h", "s"));
-    TypesideParts {
-        types: one_name(rt, alloc, "s"),
-        literals: None,
-        constants: pairs(rt, alloc, &[("Al", "s"), ("Bo", "s")]),
-        functions: one(rt, alloc, (function, args, result)),
-    }
+    None
 }
 
 /// The typeside of these parts, if they are few.
 fn new_typeside(alloc: Global, parts: TypesideParts) -> Result<Typeside, TheoryRefusal> {
-    if parts.types.len() > 9 || parts.constants.len() > 9 || parts.functions.len() > 9 {
+    if parts.types.len() > FEW || parts.constants.len() > FEW || parts.functions.len() > FEW {
         return Err(TheoryRefusal::Memory);
     }
     Typeside::new(alloc, parts)
 }
 
-fn typeside(rt: &impl Abort, alloc: Global) -> Rc<Typeside> {
-    let made = new_typeside(alloc, typeside_parts(rt, alloc)).expect(rt, "a typeside");
+fn typeside(rt: &impl Abort, alloc: Global, program: &Program) -> Rc<Typeside> {
+    let literal = typeside_literal(program).expect(rt, "a typeside");
+    let parts = typeside_parts(alloc, literal).expect(rt, "memory");
+    let made = new_typeside(alloc, parts).expect(rt, "a typeside");
     Rc::new(alloc, made).expect(rt, "memory")
-}
-
-/// An entity with a foreign key to itself, and an attribute.
-fn schema_parts(rt: &impl Abort, alloc: Global) -> SchemaParts {
-    SchemaParts {
-        entities: one_name(rt, alloc, "E"),
-        keys: edge(rt, alloc, "k", ("E", "E")),
-        path_eqs: Seq::from_vec(Vec::new(alloc)),
-        attributes: edge(rt, alloc, "x", ("E", "s")),
-        obs_eqs: Seq::from_vec(Vec::new(alloc)),
-    }
 }
 
 /// The schema of these parts, if they are few.
@@ -121,22 +97,24 @@ fn new_schema(
     typeside: Rc<Typeside>,
     parts: SchemaParts,
 ) -> Result<Schema, TheoryRefusal> {
-    if parts.entities.len() > 9 || parts.keys.len() > 9 || parts.path_eqs.len() > 9 {
+    if parts.entities.len() > FEW || parts.keys.len() > FEW || parts.path_eqs.len() > FEW {
         return Err(TheoryRefusal::Memory);
     }
-    if parts.attributes.len() > 9 || parts.obs_eqs.len() > 9 {
+    if parts.attributes.len() > FEW || parts.obs_eqs.len() > FEW {
         return Err(TheoryRefusal::Memory);
     }
     Schema::new(alloc, typeside, parts)
 }
 
-fn schema(rt: &impl Abort, alloc: Global) -> Rc<Schema> {
-    let typeside = typeside(rt, alloc);
-    let made = new_schema(alloc, typeside, schema_parts(rt, alloc)).expect(rt, "a schema");
+/// The first schema of a program, over its first typeside.
+fn schema(rt: &impl Abort, alloc: Global, program: &Program) -> Rc<Schema> {
+    let literal = schema_literal(program).expect(rt, "a schema");
+    let parts = schema_parts(alloc, literal).expect(rt, "memory");
+    let made = new_schema(alloc, typeside(rt, alloc, program), parts).expect(rt, "a schema");
     Rc::new(alloc, made).expect(rt, "memory")
 }
 
-/// The presentation of these parts, if they are few.
+/// The presentation of these parts, if they aren't too many.
 fn new_presentation(
     alloc: Global,
     schema: &Schema,
@@ -144,26 +122,47 @@ fn new_presentation(
 ) -> Result<Presentation, TheoryRefusal>
     ensures { IfOk result (λ made. IsPresentation schema.now made) }
 {
-    if parts.generators.len() > 9 || parts.equations.len() > 9 {
+    if parts.generators.len() > MANY || parts.equations.len() > MANY {
         return Err(TheoryRefusal::Memory);
     }
     Presentation::new(alloc, schema, parts)
 }
 
-fn presentation(rt: &impl Abort, alloc: Global, schema: &Schema, content: &Content) -> Presentation
+/// The first instance of a program, as a presentation over a schema.
+fn presentation(rt: &impl Abort, alloc: Global, schema: &Schema, program: &Program) -> Presentation
     ensures { IsPresentation schema.now result }
 {
-    let parts = PresentationParts {
-        generators: pairs(rt, alloc, content.generators),
-        equations: equations(rt, alloc, content.equations),
-    };
+    let literal = instance_literal(program).expect(rt, "an instance");
+    let parts = instance_parts(alloc, literal).expect(rt, "memory");
     new_presentation(alloc, schema, parts).expect(rt, "a presentation")
 }
 
-/// The instance with this content.
-pub(crate) fn instance(rt: &impl Abort, alloc: Global, content: &Content) -> Instance {
-    let schema = schema(rt, alloc);
-    let presentation = presentation(rt, alloc, &schema, content);
+/// The schema and the presentation of a program.
+fn given_by(rt: &impl Abort, alloc: Global, program: &Program) -> Given
+    ensures { IsPresentation result.schema.value result.presentation }
+{
+    let schema = schema(rt, alloc, program);
+    let presentation = presentation(rt, alloc, &schema, program);
+    Given {
+        schema,
+        presentation,
+    }
+}
+
+/// The first schema and the first instance of a text.
+pub(crate) fn given_in(rt: &impl Abort, alloc: Global, text: &str) -> Given
+    ensures { IsPresentation result.schema.value result.presentation }
+{
+    let program = program(rt, alloc, text.as_bytes());
+    given_by(rt, alloc, &program)
+}
+
+/// The instance of a text.
+pub(crate) fn instance(rt: &impl Abort, alloc: Global, text: &str) -> Instance {
+    let Given {
+        schema,
+        presentation,
+    } = given_in(rt, alloc, text);
     build(alloc, schema, presentation, 8)
         .ok()
         .expect(rt, "an instance")

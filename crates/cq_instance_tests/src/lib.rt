@@ -1,4 +1,4 @@
-//! Tests of instances: what terms mean in them, and transforms that go one after the other.
+//! Tests of rows, steps, instances and transforms, over theories that are read from texts of the language.
 #![tactic(auto)]
 
 #[cfg(test)]
@@ -7,3 +7,7 @@ mod composites;
 mod given;
 #[cfg(test)]
 mod meanings;
+#[cfg(test)]
+mod rows;
+#[cfg(test)]
+mod steps;

@@ -1,5 +1,5 @@
 //! The rows and the values that terms mean.
-use crate::given::{Content, Keys, ent_term, instance, one};
+use crate::given::{Keys, ent_term, instance, one};
 use cq_model::Instance;
 use cq_steps::side::Side;
 use cq_steps::sorts::is_ground;
@@ -9,15 +9,13 @@ use std::alloc::Global;
 use std::process::Abort;
 
 /// Two rows, a and a.k, of which only the second one's cell is known. The generator c is a, and m has no value.
-static CONTENT: Content = Content {
-    generators: &[("a", "E"), ("c", "E"), ("m", "s")],
-    equations: &[
-        (("a", &["k", "k"]), ("a", &["k"])),
-        (("c", &[]), ("a", &[])),
-        (("a", &["k", "x"]), ("Al", &[])),
-        (("Al", &["h"]), ("Bo", &[])),
-    ],
-};
+static CONTENT: &str = "
+    typeside T = literal { types s constants Al Bo : s functions h : s -> s }
+    schema S = literal : T { entities E foreign_keys k : E -> E attributes x : E -> s }
+    instance I = literal : S {
+      generators a c : E m : s
+      equations k(k(a)) = k(a) c = a x(k(a)) = Al h(Al) = Bo
+    }";
 
 /// What stands within a term of a type: a generator, a constant, or the attribute of a term.
 #[derive(Clone, Copy)]
@@ -128,7 +126,7 @@ fn try_rows(rt: &impl Abort, alloc: Global, instance: &Instance) {
 #[test]
 fn rows_of_terms(rt: HostRuntime) {
     let alloc = rt.alloc();
-    let instance = instance(&rt, alloc, &CONTENT);
+    let instance = instance(&rt, alloc, CONTENT);
     try_rows(&rt, alloc, &instance);
 }
 
@@ -169,6 +167,6 @@ fn try_values(rt: &impl Abort, alloc: Global, instance: &Instance) {
 #[test]
 fn values_of_terms(rt: HostRuntime) {
     let alloc = rt.alloc();
-    let instance = instance(&rt, alloc, &CONTENT);
+    let instance = instance(&rt, alloc, CONTENT);
     try_values(&rt, alloc, &instance);
 }

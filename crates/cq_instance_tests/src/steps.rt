@@ -1,16 +1,26 @@
 //! Lists of steps over a schema of employees and departments.
-use cq_base::{Name, Raw, Seq};
+use crate::given::{Keys, ent_term, given_in, one};
+use cq_base::Seq;
 use cq_steps::{Rule, Step, check_steps};
-use cq_theory::{
-    EntTerm, Equation, ObsPart, Presentation, Schema, SchemaParts, Sort, TheoryRefusal, TypeTerm,
-    Typeside, TypesideParts,
-};
+use cq_theory::{Equation, TypeTerm};
 use std::alloc::Global;
 use std::process::Abort;
-use std::rc::Rc;
 
-/// A generator, and the foreign keys that are followed from it.
-type Keys = (u32, &'static [u32]);
+/// A department's secretary works in it, and its size is the successor of its size. The employee c is the secretary of
+/// the departments m and d.
+static DEPARTMENTS: &str = "
+    typeside T = literal { types n functions succ : n -> n }
+    schema S = literal : T {
+      entities Emp Dep
+      foreign_keys worksIn : Emp -> Dep secretary : Dep -> Emp
+      path_equations secretary.worksIn = Dep
+      attributes size : Dep -> n
+      observation_equations forall d. size(d) = succ(size(d))
+    }
+    instance I = literal : S {
+      generators c : Emp m d : Dep
+      equations secretary(m) = c secretary(d) = c
+    }";
 
 /// A type term: so many functions, around the attribute of an entity term.
 type Height = (usize, Keys);
@@ -37,127 +47,6 @@ enum Named {
     Given(u64),
     Path(Keys),
     Obs(Keys),
-}
-
-fn name(rt: &impl Abort, alloc: Global, text: &str) -> Name {
-    Name::new(alloc, text).expect(rt, "a name")
-}
-
-fn names(rt: &impl Abort, alloc: Global, texts: &[&str]) -> Seq<Name> {
-    let mut names = Vec::new(alloc);
-    for text in texts {
-        names.push(name(rt, alloc, text)).expect(rt, "memory");
-    }
-    Seq::from_vec(names)
-}
-
-/// A list of one item.
-fn one<T: Drop>(rt: &impl Abort, alloc: Global, item: T) -> Seq<T> {
-    let mut items = Vec::new(alloc);
-    items.push(item).expect(rt, "memory");
-    Seq::from_vec(items)
-}
-
-/// A foreign key, or an attribute, and its two ends.
-fn edge(rt: &impl Abort, alloc: Global, edge: (&str, &str, &str)) -> (Name, Name, Name) {
-    let (text, from, to) = edge;
-    (
-        name(rt, alloc, text),
-        name(rt, alloc, from),
-        name(rt, alloc, to),
-    )
-}
-
-fn edges(rt: &impl Abort, alloc: Global, texts: &[(&str, &str, &str)]) -> Seq<(Name, Name, Name)> {
-    let mut edges = Vec::new(alloc);
-    for text in texts {
-        edges.push(edge(rt, alloc, *text)).expect(rt, "memory");
-    }
-    Seq::from_vec(edges)
-}
-
-fn applied(rt: &impl Abort, alloc: Global, function: &str, arg: Raw) -> Raw {
-    Raw::App(name(rt, alloc, function), one(rt, alloc, arg))
-}
-
-/// The typeside of these parts, if they are few.
-fn new_typeside(alloc: Global, parts: TypesideParts) -> Result<Typeside, TheoryRefusal> {
-    if parts.types.len() > 9 || parts.constants.len() > 9 || parts.functions.len() > 9 {
-        return Err(TheoryRefusal::Memory);
-    }
-    Typeside::new(alloc, parts)
-}
-
-/// The schema of these parts, if they are few.
-fn new_schema(
-    alloc: Global,
-    typeside: Rc<Typeside>,
-    parts: SchemaParts,
-) -> Result<Schema, TheoryRefusal> {
-    if parts.entities.len() > 9 || parts.keys.len() > 9 || parts.path_eqs.len() > 9 {
-        return Err(TheoryRefusal::Memory);
-    }
-    if parts.attributes.len() > 9 || parts.obs_eqs.len() > 9 {
-        return Err(TheoryRefusal::Memory);
-    }
-    Schema::new(alloc, typeside, parts)
-}
-
-/// Numbers with a successor.
-fn typeside_parts(rt: &impl Abort, alloc: Global) -> TypesideParts {
-    let args = names(rt, alloc, &["n"]);
-    let succ = (name(rt, alloc, "succ"), args, name(rt, alloc, "n"));
-    TypesideParts {
-        types: names(rt, alloc, &["n"]),
-        literals: None,
-        constants: Seq::from_vec(Vec::new(alloc)),
-        functions: one(rt, alloc, succ),
-    }
-}
-
-fn typeside(rt: &impl Abort, alloc: Global) -> Rc<Typeside> {
-    let made = new_typeside(alloc, typeside_parts(rt, alloc)).expect(rt, "a typeside");
-    Rc::new(alloc, made).expect(rt, "memory")
-}
-
-fn size(rt: &impl Abort, alloc: Global) -> Raw {
-    applied(rt, alloc, "size", Raw::Word(name(rt, alloc, "d")))
-}
-
-/// A size is the successor of itself.
-fn sizes(rt: &impl Abort, alloc: Global) -> ObsPart {
-    ObsPart {
-        variable: name(rt, alloc, "d"),
-        entity: None,
-        left: size(rt, alloc),
-        right: applied(rt, alloc, "succ", size(rt, alloc)),
-    }
-}
-
-/// A department's secretary works in it, and its size is the successor of its size.
-fn schema_parts(rt: &impl Abort, alloc: Global) -> SchemaParts {
-    let around = names(rt, alloc, &["secretary", "worksIn"]);
-    let keys = [("worksIn", "Emp", "Dep"), ("secretary", "Dep", "Emp")];
-    SchemaParts {
-        entities: names(rt, alloc, &["Emp", "Dep"]),
-        keys: edges(rt, alloc, &keys),
-        path_eqs: one(rt, alloc, (around, names(rt, alloc, &["Dep"]))),
-        attributes: edges(rt, alloc, &[("size", "Dep", "n")]),
-        obs_eqs: one(rt, alloc, sizes(rt, alloc)),
-    }
-}
-
-fn schema(rt: &impl Abort, alloc: Global) -> Schema {
-    let typeside = typeside(rt, alloc);
-    new_schema(alloc, typeside, schema_parts(rt, alloc)).expect(rt, "a schema")
-}
-
-fn ent_term(rt: &impl Abort, alloc: Global, (generator, path): Keys) -> EntTerm {
-    let path = Vec::from_slice(alloc, path).expect(rt, "memory");
-    EntTerm {
-        generator,
-        path: Seq::from_vec(path),
-    }
 }
 
 fn type_term(rt: &impl Abort, alloc: Global, (height, keys): Height) -> TypeTerm {
@@ -193,39 +82,6 @@ fn rule(rt: &impl Abort, alloc: Global, named: Named) -> Rule {
     }
 }
 
-fn generator(rt: &impl Abort, alloc: Global, text: &str, entity: u32) -> (Name, Sort) {
-    (name(rt, alloc, text), Sort::Entity(entity))
-}
-
-fn generators(rt: &impl Abort, alloc: Global, texts: &[(&str, u32)]) -> Seq<(Name, Sort)> {
-    let mut generators = Vec::new(alloc);
-    for (text, entity) in texts {
-        generators
-            .push(generator(rt, alloc, text, *entity))
-            .expect(rt, "memory");
-    }
-    Seq::from_vec(generators)
-}
-
-fn equations(rt: &impl Abort, alloc: Global, listed: &[Sides]) -> Seq<Equation> {
-    let mut equations = Vec::new(alloc);
-    for sides in listed {
-        equations
-            .push(equation(rt, alloc, *sides))
-            .expect(rt, "memory");
-    }
-    Seq::from_vec(equations)
-}
-
-/// An employee c and departments m and d, whose secretary is c.
-fn presentation(rt: &impl Abort, alloc: Global) -> Presentation {
-    let given = [Sides::Ent(M_SECRETARY, C), Sides::Ent(D_SECRETARY, C)];
-    Presentation {
-        generators: generators(rt, alloc, &[("c", 0), ("m", 1), ("d", 1)]),
-        equations: equations(rt, alloc, &given),
-    }
-}
-
 fn step(rt: &impl Abort, alloc: Global, (named, from, sides): Entry) -> Step {
     let from = Vec::from_slice(alloc, from).expect(rt, "memory");
     Step {
@@ -248,16 +104,15 @@ fn steps(rt: &impl Abort, alloc: Global, earlier: &[Entry], last: &[Entry]) -> V
     steps
 }
 
-fn is_right_over(rt: &impl Abort, alloc: Global, schema: &Schema, steps: &[Step]) -> bool {
-    let presentation = presentation(rt, alloc);
-    check_steps(alloc, schema, &presentation, steps).expect(rt, "memory")
+fn is_right_over(rt: &impl Abort, alloc: Global, steps: &[Step]) -> bool {
+    let given = given_in(rt, alloc, DEPARTMENTS);
+    check_steps(alloc, &given.schema, &given.presentation, steps).expect(rt, "memory")
 }
 
 /// Whether these entries are a right list.
 fn is_right(rt: &impl Abort, alloc: Global, earlier: &[Entry], last: &[Entry]) -> bool {
     let steps = steps(rt, alloc, earlier, last);
-    let schema = schema(rt, alloc);
-    is_right_over(rt, alloc, &schema, steps.as_slice())
+    is_right_over(rt, alloc, steps.as_slice())
 }
 
 /// Stops at the first of these entries that is told wrongly behind the earlier ones.

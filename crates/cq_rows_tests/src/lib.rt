@@ -1,5 +1,0 @@
-//! Tests of rows that are made stage by stage.
-#![tactic(auto)]
-
-#[cfg(test)]
-mod tests;
