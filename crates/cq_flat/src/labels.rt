@@ -1,5 +1,6 @@
 //! The values of nodes, and the labels of nulls.
-ghost use Rattle.std.specs.Prelude.{◌≡◌, ◌<◌, ◌≤◌, ◌^◌, ℕ, length, All, IfOk, OnOk, slice_index_or, if◌then◌else◌, ◌==◌};
+ghost use Rattle.std.specs.Prelude.{◌≡◌, ◌<◌, ◌≤◌, ◌^◌, ℕ, length, All, IfOk, OnOk, slice_index_or, ◌==◌};
+ghost use Rattle.std.specs.Prelude.{if◌then◌else◌};
 ghost use Rattle.cq_flat.specs.Constants.{constant_at, constants_at};
 ghost use Rattle.cq_flat.specs.Labels.{AreApart, AreClassValues};
 ghost use Rattle.cq_flat.specs.Places.{values_in, ArePlaced, IsNewValue};
