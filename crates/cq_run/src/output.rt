@@ -9,7 +9,6 @@ use crate::files::files_of;
 use crate::summary::summary;
 use cq_export::FileLists;
 use cq_program::Named;
-use cq_text::transcript;
 use std::alloc::{AllocError, Global};
 
 /// How instances are written: as their transcripts, or as a summary.
@@ -61,7 +60,6 @@ fn transcripts(alloc: Global, instances: &[Named]) -> Result<Vec<u8>, AllocError
 fn push_transcript(alloc: Global, named: &Named, text: &mut Vec<u8>) -> Result<(), AllocError>
     ensures { OnOk result (text.new.items ≡ text.old.items ++ transcript_of (listed_as named.now)) }
 {
-    let own = transcript(alloc, &named.name, &named.schema, &named.instance)?;
-    text.extend_from_slice(own.as_slice())?;
+    cq_text::push_transcript(alloc, &named.name, &named.schema, &named.instance, text)?;
     Ok(())
 }

@@ -26,12 +26,27 @@ pub fn transcript(
     ensures { IfOk result (λ text. text.items ≡ transcript_of name.now schema.now instance.now) }
 {
     let mut text = Vec::new(alloc);
-    push_first_line(name, schema, &mut text)?;
-    push_tables(alloc, instance, &mut text)?;
-    push_nulls(instance, &mut text)?;
-    push_entries(instance, &mut text)?;
-    text.extend_from_slice(b"end\n")?;
+    push_transcript(alloc, name, schema, instance, &mut text)?;
     Ok(text)
+}
+
+/// Appends the transcript of an instance to a text, so that a file's transcripts are made in one place. The only refusal
+/// is want of memory, after which a part of it may stand there.
+pub fn push_transcript(
+    alloc: Global,
+    name: &Name,
+    schema: &Name,
+    instance: &Instance,
+    text: &mut Vec<u8>,
+) -> Result<(), AllocError>
+    ensures { OnOk result (text.new.items ≡ text.old.items ++ transcript_of name.now schema.now instance.now) }
+{
+    push_first_line(name, schema, text)?;
+    push_tables(alloc, instance, text)?;
+    push_nulls(instance, text)?;
+    push_entries(instance, text)?;
+    text.extend_from_slice(b"end\n")?;
+    Ok(())
 }
 
 fn push_first_line(name: &Name, schema: &Name, text: &mut Vec<u8>) -> Result<(), AllocError>

@@ -12,7 +12,7 @@ mod plan;
 mod rows;
 mod spelling;
 
-pub use instances::transcript;
+pub use instances::{push_transcript, transcript};
 pub use literals::literal;
 pub use pieces::push_number;
 pub use spelling::content;
