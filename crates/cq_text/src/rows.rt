@@ -117,7 +117,7 @@ fn make_room(text: &mut Vec<u8>, start: usize, row: u32, count: u32)
         // The numbers and names of later rows are longer.
         let bytes = text.len().saturating_sub(start) / MEASURED as usize;
         let each = bytes.saturating_add(bytes / 16).saturating_add(2);
-        let _made = text.reserve_exact(each.saturating_mul(count.saturating_sub(row) as usize));
+        let _made = text.reserve(each.saturating_mul(count.saturating_sub(row) as usize));
     }
 }
 
