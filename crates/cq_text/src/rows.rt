@@ -114,9 +114,9 @@ fn make_room(text: &mut Vec<u8>, start: usize, row: u32, count: u32)
     ensures { text.new.items ≡ text.old.items }
 {
     if row == MEASURED {
-        // The numbers and names of later rows are longer.
+        // Later rows have longer numbers and names: 200,000 has two digits more than 1,024.
         let bytes = text.len().saturating_sub(start) / MEASURED as usize;
-        let each = bytes.saturating_add(bytes / 16).saturating_add(2);
+        let each = bytes.saturating_add(bytes / 16).saturating_add(4);
         let _made = text.reserve(each.saturating_mul(count.saturating_sub(row) as usize));
     }
 }
