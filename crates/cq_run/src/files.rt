@@ -30,8 +30,9 @@ fn push_files(alloc: Global, named: &Named, lists: &mut FileLists) -> Result<(),
     ensures cql { OnOk result (map file_of lists.new.cql.items ≡ map file_of lists.old.cql.items
         ++ cql_files (listed_as named.now)) }
 {
-    push_csv(alloc, named, &mut lists.csv)?;
+    // The literal is the longest text, and finds the most room where it is made first.
     push_cql(alloc, named, &mut lists.cql)?;
+    push_csv(alloc, named, &mut lists.csv)?;
     Ok(())
 }
 
