@@ -30,8 +30,8 @@ pub fn transcript(
     Ok(text)
 }
 
-/// Appends the transcript of an instance to a text, so that a file's transcripts are made in one place. The only refusal
-/// is want of memory, after which a part of it may stand there.
+/// Appends the transcript of an instance to a text, so that a file's transcripts are made in one text. The only
+/// refusal is want of memory, after which a part of it may stand there.
 pub fn push_transcript(
     alloc: Global,
     name: &Name,
