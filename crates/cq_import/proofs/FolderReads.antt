@@ -16,7 +16,8 @@ use Rattle.cq_import.specs.declared.refusal.CsvRefusal.{CsvRefusal}
 use Rattle.cq_import.specs.declared.refusal.CsvRefusal.TheVariants as refusal
 use Rattle.cq_import.specs.Columns.{columns, header, header_with}
 use Rattle.cq_import.specs.Faults.{Fault, Absent, ReadFault, TooLong, Refuses, or_else, told}
-use Rattle.cq_import.specs.Folders.{AreRead, FolderData, IsRead, IsRefused, IsUnread, Keeps, Raises, Stops, name_of}
+use Rattle.cq_io.specs.FolderData.{FolderData}
+use Rattle.cq_import.specs.Folders.{AreRead, IsRead, IsRefused, IsUnread, Keeps, Raises, Stops, name_of}
 use Rattle.cq_import.specs.Imports.{IfAbsent, IfReadFault, IfTooLong, most_bytes, name_at}
 use Rattle.cq_import.specs.Records.{Record, records_of}
 use Rattle.cq_import.specs.Rows.{id_of, is_row, row_fault, rows_fault, same_record, sheet_fault}

@@ -5,6 +5,7 @@ use Rattle.std.specs.declared.alloc.Global.{Global}
 use Rattle.cq_base.specs.declared.name.Name.{Name}
 use Rattle.cq_io.specs.Content.{File, find_file}
 use Rattle.cq_io.specs.Counts.{Rose}
+use Rattle.cq_io.specs.FolderData.{FolderData}
 use Rattle.cq_io.specs.Reads.{IsLonger}
 use Rattle.cq_theory.specs.SchemaData.{SchemaData as Schema}
 use Rattle.cq_import.specs.declared.entity_file.EntityFile.{EntityFile}
@@ -15,14 +16,6 @@ use Rattle.cq_import.specs.Faults.{Refuses}
 use Rattle.cq_import.specs.Imports.{IfAbsent, IfReadFault, IfTooLong, file_of, most_bytes}
 use Rattle.cq_import.specs.Records.{records_of}
 use Rattle.cq_import.specs.Rows.{sheet_fault}
-
--- what is known of a folder
-pub record FolderData : Type 0 where
-  pub files : Option (List File)
-  pub absences : ℕ
-  pub faults : ℕ
-  pub overruns : ℕ
-  pub steady : Bool
 
 -- reading leaves the files, no count falls, and a steady folder stays so and never fails
 pub record Keeps (old new : FolderData) : Type 0 where

@@ -4,10 +4,10 @@ use Rattle.std.specs.Prelude.{position, unwrap_or, slice_get}
 use Rattle.std.specs.Map.{lookup}
 use Rattle.cq_theory.specs.declared.typeside.Fun.{Fun as Function}
 use Rattle.cq_theory.specs.declared.term.TypeTerm.{TypeTerm}
-use Rattle.cq_theory.specs.declared.term.TypeTerm.TheVariants as term
 use Rattle.cq_theory.specs.declared.value.Value.{Value}
 use Rattle.cq_theory.specs.declared.value.Value.TheOpen.{Value-F, Const, Null, Fun}
 use Rattle.cq_theory.specs.declared.value.Value.TheFolds.{fold-Value}
+use Rattle.cq_theory.specs.ValueTerms as values
 use Rattle.cq_theory.specs.TypesideData.{TypesideData as Typeside}
 use Rattle.cq_import.specs.declared.labels.Trouble.{Trouble}
 use Rattle.cq_import.specs.declared.labels.Trouble.TheVariants.{Wrong, Full}
@@ -86,11 +86,13 @@ uses_step T (Fun f args) type = uses_args args (function_types (slice_get T.func
 abbrev pub uses_in : Typeside → Value → ℕ → List Use
 uses_in T = fold-Value (ℕ → List Use) (uses_step T)
 
--- a value as a term, in which a null stands as its generator; the generators of the labels are those from `first` on
+-- the generator of a label, where those of the labels are those from `first` on
+abbrev pub generator_of_label : ℕ → Labels → ℕ → ℕ
+generator_of_label first labels label = first + place_of_label labels label
+
+-- a value as a term, in which a null stands as its generator
 abbrev pub value_term_step : ℕ → Labels → Value-F TypeTerm → TypeTerm
-value_term_step first labels (Const c) = term.Const c
-value_term_step first labels (Null label) = term.Gen (first + place_of_label labels label)
-value_term_step first labels (Fun f args) = term.Fun f args
+value_term_step first labels = values.value_term_step (generator_of_label first labels)
 
 abbrev pub value_term : ℕ → Labels → Value → TypeTerm
-value_term first labels = fold-Value TypeTerm (value_term_step first labels)
+value_term first labels = values.value_term (generator_of_label first labels)

@@ -33,38 +33,10 @@ pub fn read_entries_file<F: Folder>(
     folder: &mut F,
     dir: &Name,
 ) -> Result<EntriesFile, CsvRefusal>
-    ensures keeps { Keeps
-        (record {
-          files = F.files folder.old;
-          absences = F.absences folder.old;
-          faults = F.faults folder.old;
-          overruns = F.overruns folder.old;
-          steady = F.steady folder.old;
-        })
-        (record {
-          files = F.files folder.new;
-          absences = F.absences folder.new;
-          faults = F.faults folder.new;
-          overruns = F.overruns folder.new;
-          steady = F.steady folder.new;
-        }) }
-    ensures raises { Raises
-        (record {
-          files = F.files folder.old;
-          absences = F.absences folder.old;
-          faults = F.faults folder.old;
-          overruns = F.overruns folder.old;
-          steady = F.steady folder.old;
-        })
-        (record {
-          files = F.files folder.new;
-          absences = F.absences folder.new;
-          faults = F.faults folder.new;
-          overruns = F.overruns folder.new;
-          steady = F.steady folder.new;
-        }) result }
-    ensures read { IfOk result (IsEntriesRead dir.now (F.files folder.old)) }
-    ensures refused { IfErr result (IsEntriesRefused dir.now (F.files folder.old)) }
+    ensures keeps { Keeps (F.state folder.old) (F.state folder.new) }
+    ensures raises { Raises (F.state folder.old) (F.state folder.new) result }
+    ensures read { IfOk result (IsEntriesRead dir.now (F.state folder.old).files) }
+    ensures refused { IfErr result (IsEntriesRefused dir.now (F.state folder.old).files) }
 {
     let name = file_name(alloc, dir, "entries-2")?;
     match read_text(folder, name) {

@@ -32,38 +32,10 @@ pub fn file_name(alloc: Global, dir: &Name, file: &str) -> Result<String, AllocE
 
 /// Reads a file of at most 64 MiB.
 pub fn read_text<F: Folder>(folder: &mut F, name: String) -> Result<(String, Vec<u8>), CsvRefusal>
-    ensures keeps { Keeps
-        (record {
-          files = F.files folder.old;
-          absences = F.absences folder.old;
-          faults = F.faults folder.old;
-          overruns = F.overruns folder.old;
-          steady = F.steady folder.old;
-        })
-        (record {
-          files = F.files folder.new;
-          absences = F.absences folder.new;
-          faults = F.faults folder.new;
-          overruns = F.overruns folder.new;
-          steady = F.steady folder.new;
-        }) }
-    ensures raises { Raises
-        (record {
-          files = F.files folder.old;
-          absences = F.absences folder.old;
-          faults = F.faults folder.old;
-          overruns = F.overruns folder.old;
-          steady = F.steady folder.old;
-        })
-        (record {
-          files = F.files folder.new;
-          absences = F.absences folder.new;
-          faults = F.faults folder.new;
-          overruns = F.overruns folder.new;
-          steady = F.steady folder.new;
-        }) result }
-    ensures read { IfOk result (IsReadText (F.files folder.old) (string_bytes name)) }
-    ensures unread { IfErr result (IsUnread (F.files folder.old) (string_bytes name)) }
+    ensures keeps { Keeps (F.state folder.old) (F.state folder.new) }
+    ensures raises { Raises (F.state folder.old) (F.state folder.new) result }
+    ensures read { IfOk result (IsReadText (F.state folder.old).files (string_bytes name)) }
+    ensures unread { IfErr result (IsUnread (F.state folder.old).files (string_bytes name)) }
 {
     match folder.read(name.as_str(), LONGEST_FILE) {
         Ok(text) => Ok((name, text)),
@@ -107,38 +79,10 @@ fn read_entity_file<F: Folder>(
 ) -> Result<EntityFile, CsvRefusal>
     requires entity { entity < length schema.now.entities }
     requires columns { columns.now ≡ columns_of schema.now entity }
-    ensures keeps { Keeps
-        (record {
-          files = F.files folder.old;
-          absences = F.absences folder.old;
-          faults = F.faults folder.old;
-          overruns = F.overruns folder.old;
-          steady = F.steady folder.old;
-        })
-        (record {
-          files = F.files folder.new;
-          absences = F.absences folder.new;
-          faults = F.faults folder.new;
-          overruns = F.overruns folder.new;
-          steady = F.steady folder.new;
-        }) }
-    ensures raises { Raises
-        (record {
-          files = F.files folder.old;
-          absences = F.absences folder.old;
-          faults = F.faults folder.old;
-          overruns = F.overruns folder.old;
-          steady = F.steady folder.old;
-        })
-        (record {
-          files = F.files folder.new;
-          absences = F.absences folder.new;
-          faults = F.faults folder.new;
-          overruns = F.overruns folder.new;
-          steady = F.steady folder.new;
-        }) result }
-    ensures read { IfOk result (IsRead dir.now schema.now (F.files folder.old) entity) }
-    ensures refused { IfErr result (IsRefused dir.now schema.now (F.files folder.old) entity) }
+    ensures keeps { Keeps (F.state folder.old) (F.state folder.new) }
+    ensures raises { Raises (F.state folder.old) (F.state folder.new) result }
+    ensures read { IfOk result (IsRead dir.now schema.now (F.state folder.old).files entity) }
+    ensures refused { IfErr result (IsRefused dir.now schema.now (F.state folder.old).files entity) }
 {
     let entities = schema.entities.as_slice();
     let name = file_name(alloc, dir, entities[entity].as_str())?;
@@ -157,39 +101,12 @@ pub fn read_files<F: Folder>(
     columns: &[Vec<Column>],
 ) -> Result<Vec<EntityFile>, CsvRefusal>
     requires { AreColumns schema.now columns.now }
-    ensures keeps { Keeps
-        (record {
-          files = F.files folder.old;
-          absences = F.absences folder.old;
-          faults = F.faults folder.old;
-          overruns = F.overruns folder.old;
-          steady = F.steady folder.old;
-        })
-        (record {
-          files = F.files folder.new;
-          absences = F.absences folder.new;
-          faults = F.faults folder.new;
-          overruns = F.overruns folder.new;
-          steady = F.steady folder.new;
-        }) }
-    ensures raises { Raises
-        (record {
-          files = F.files folder.old;
-          absences = F.absences folder.old;
-          faults = F.faults folder.old;
-          overruns = F.overruns folder.old;
-          steady = F.steady folder.old;
-        })
-        (record {
-          files = F.files folder.new;
-          absences = F.absences folder.new;
-          faults = F.faults folder.new;
-          overruns = F.overruns folder.new;
-          steady = F.steady folder.new;
-        }) result }
+    ensures keeps { Keeps (F.state folder.old) (F.state folder.new) }
+    ensures raises { Raises (F.state folder.old) (F.state folder.new) result }
     ensures count { IfOk result (λ made. length made.items ≡ length schema.now.entities) }
-    ensures read { IfOk result (λ made. AreRead dir.now schema.now (F.files folder.old) made.items) }
-    ensures refused { IfErr result (λ r. (r ≡ CsvRefusal.Memory) ⊎ Stops dir.now schema.now (F.files folder.old) r) }
+    ensures read { IfOk result (λ made. AreRead dir.now schema.now (F.state folder.old).files made.items) }
+    ensures refused { IfErr result (λ r. (r ≡ CsvRefusal.Memory)
+        ⊎ Stops dir.now schema.now (F.state folder.old).files r) }
 {
     let mut made = Vec::new(alloc);
     for entity in 0..schema.entities.len() {

@@ -36,22 +36,22 @@ pub fn import<F: Folder>(
 ) -> Result<Presentation, CsvRefusal>
     // Where the folder tells its files, the answer is decided by them, but for a read that fails and want of memory;
     // where it tells none, there are files over which it is.
-    ensures answer { OfFiles (F.files folder.old) (λ files. IsImport files dir.now schema.now result) }
+    ensures answer { OfFiles (F.state folder.old).files (λ files. IsImport files dir.now schema.now result) }
     ensures presentation { IfOk result (IsPresentation schema.now) }
-    ensures files { F.files folder.new ≡ F.files folder.old }
+    ensures files { (F.state folder.new).files ≡ (F.state folder.old).files }
 
     // No count falls, and a read that is refused has raised its count.
-    ensures absences { F.absences folder.old ≤ F.absences folder.new }
-    ensures faults { F.faults folder.old ≤ F.faults folder.new }
-    ensures overruns { F.overruns folder.old ≤ F.overruns folder.new }
-    ensures absent { IfAbsent result (Rose (F.absences folder.old) (F.absences folder.new)) }
-    ensures failed { IfReadFault result (Rose (F.faults folder.old) (F.faults folder.new)) }
-    ensures too_long { IfTooLong result (Rose (F.overruns folder.old) (F.overruns folder.new)) }
+    ensures absences { (F.state folder.old).absences ≤ (F.state folder.new).absences }
+    ensures faults { (F.state folder.old).faults ≤ (F.state folder.new).faults }
+    ensures overruns { (F.state folder.old).overruns ≤ (F.state folder.new).overruns }
+    ensures absent { IfAbsent result (Rose (F.state folder.old).absences (F.state folder.new).absences) }
+    ensures failed { IfReadFault result (Rose (F.state folder.old).faults (F.state folder.new).faults) }
+    ensures too_long { IfTooLong result (Rose (F.state folder.old).overruns (F.state folder.new).overruns) }
 
     // A steady folder stays so, and never fails.
-    ensures steady { F.steady folder.new ≡ F.steady folder.old }
-    ensures fails { IfReadFault result (F.steady folder.old ≡ false) }
-    ensures calm { F.steady folder.old ≡ true → F.faults folder.new ≡ F.faults folder.old }
+    ensures steady { (F.state folder.new).steady ≡ (F.state folder.old).steady }
+    ensures fails { IfReadFault result ((F.state folder.old).steady ≡ false) }
+    ensures calm { (F.state folder.old).steady ≡ true → (F.state folder.new).faults ≡ (F.state folder.old).faults }
 {
     schema.is_well_sorted();
     let Ok(columns) = columns(alloc, schema) else {

@@ -30,38 +30,10 @@ fn import_rest<F: Folder>(
 ) -> Result<Presentation, CsvRefusal>
     requires columns { AreColumns schema.now columns.now }
     requires count { length files.now ≡ length schema.now.entities }
-    requires read { AreRead dir.now schema.now (F.files folder.old) files.now }
-    ensures keeps { Keeps
-        (record {
-          files = F.files folder.old;
-          absences = F.absences folder.old;
-          faults = F.faults folder.old;
-          overruns = F.overruns folder.old;
-          steady = F.steady folder.old;
-        })
-        (record {
-          files = F.files folder.new;
-          absences = F.absences folder.new;
-          faults = F.faults folder.new;
-          overruns = F.overruns folder.new;
-          steady = F.steady folder.new;
-        }) }
-    ensures raises { Raises
-        (record {
-          files = F.files folder.old;
-          absences = F.absences folder.old;
-          faults = F.faults folder.old;
-          overruns = F.overruns folder.old;
-          steady = F.steady folder.old;
-        })
-        (record {
-          files = F.files folder.new;
-          absences = F.absences folder.new;
-          faults = F.faults folder.new;
-          overruns = F.overruns folder.new;
-          steady = F.steady folder.new;
-        }) result }
-    ensures answer { OfFiles2 (F.files folder.old) dir.now
+    requires read { AreRead dir.now schema.now (F.state folder.old).files files.now }
+    ensures keeps { Keeps (F.state folder.old) (F.state folder.new) }
+    ensures raises { Raises (F.state folder.old) (F.state folder.new) result }
+    ensures answer { OfFiles2 (F.state folder.old).files dir.now
         (λ told text. IsImport2Over told text dir.now schema.now result) }
     ensures presentation { IfOk result (IsPresentation schema.now) }
 {
@@ -98,23 +70,23 @@ pub fn import2<F: Folder>(
 ) -> Result<Presentation, CsvRefusal>
     // Where the folder tells its files, the answer is decided by them, but for a read that fails and want of memory;
     // where it tells none, there are files over which it is.
-    ensures answer { OfFiles2 (F.files folder.old) dir.now
+    ensures answer { OfFiles2 (F.state folder.old).files dir.now
         (λ told text. IsImport2Over told text dir.now schema.now result) }
     ensures presentation { IfOk result (IsPresentation schema.now) }
-    ensures files { F.files folder.new ≡ F.files folder.old }
+    ensures files { (F.state folder.new).files ≡ (F.state folder.old).files }
 
     // No count falls, and a read that is refused has raised its count.
-    ensures absences { F.absences folder.old ≤ F.absences folder.new }
-    ensures faults { F.faults folder.old ≤ F.faults folder.new }
-    ensures overruns { F.overruns folder.old ≤ F.overruns folder.new }
-    ensures absent { IfAbsent result (Rose (F.absences folder.old) (F.absences folder.new)) }
-    ensures failed { IfReadFault result (Rose (F.faults folder.old) (F.faults folder.new)) }
-    ensures too_long { IfTooLong result (Rose (F.overruns folder.old) (F.overruns folder.new)) }
+    ensures absences { (F.state folder.old).absences ≤ (F.state folder.new).absences }
+    ensures faults { (F.state folder.old).faults ≤ (F.state folder.new).faults }
+    ensures overruns { (F.state folder.old).overruns ≤ (F.state folder.new).overruns }
+    ensures absent { IfAbsent result (Rose (F.state folder.old).absences (F.state folder.new).absences) }
+    ensures failed { IfReadFault result (Rose (F.state folder.old).faults (F.state folder.new).faults) }
+    ensures too_long { IfTooLong result (Rose (F.state folder.old).overruns (F.state folder.new).overruns) }
 
     // A steady folder stays so, and never fails.
-    ensures steady { F.steady folder.new ≡ F.steady folder.old }
-    ensures fails { IfReadFault result (F.steady folder.old ≡ false) }
-    ensures calm { F.steady folder.old ≡ true → F.faults folder.new ≡ F.faults folder.old }
+    ensures steady { (F.state folder.new).steady ≡ (F.state folder.old).steady }
+    ensures fails { IfReadFault result ((F.state folder.old).steady ≡ false) }
+    ensures calm { (F.state folder.old).steady ≡ true → (F.state folder.new).faults ≡ (F.state folder.old).faults }
 {
     schema.is_well_sorted();
     let Ok(columns) = columns(alloc, schema) else {

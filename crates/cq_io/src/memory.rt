@@ -32,9 +32,11 @@ impl MemFolder {
         files: Vec<(String, Vec<u8>)>,
         failing: Vec<u64>,
     ) -> Result<MemFolder, AllocError>
-        ensures files { IfOk result (λ folder. ⟦<MemFolder as Folder>⟧.files folder ≡ Some (map file_of files.items)) }
-        ensures steady { IfOk result (λ folder. ⟦<MemFolder as Folder>⟧.steady folder ≡ is_empty failing.items) }
-        ensures faults { IfOk result (λ folder. ⟦<MemFolder as Folder>⟧.faults folder ≡ 0) }
+        ensures files { IfOk result (λ folder. (⟦<MemFolder as Folder>⟧.state folder).files
+            ≡ Some (map file_of files.items)) }
+        ensures steady { IfOk result (λ folder. (⟦<MemFolder as Folder>⟧.state folder).steady
+            ≡ is_empty failing.items) }
+        ensures faults { IfOk result (λ folder. (⟦<MemFolder as Folder>⟧.state folder).faults ≡ 0) }
     {
         Ok(MemFolder {
             alloc,
@@ -49,15 +51,13 @@ impl MemFolder {
 }
 
 impl Folder for MemFolder {
-    ghost files = { λ s. Some (map file_of s.files.items) };
-
-    ghost faults = { λ s. s.faults };
-
-    ghost absences = { λ s. s.absences };
-
-    ghost overruns = { λ s. s.overruns };
-
-    ghost steady = { λ s. is_empty s.failing.items };
+    ghost state = { λ s. record {
+      files = Some (map file_of s.files.items);
+      absences = s.absences;
+      faults = s.faults;
+      overruns = s.overruns;
+      steady = is_empty s.failing.items;
+    } };
 
     fn read(&mut self, name: &str, limit: u64) -> Result<Vec<u8>, ReadRefusal> {
         let number = self.reads;

@@ -30,9 +30,9 @@ pub struct DirFolder<R> {
 impl<R: Files> DirFolder<R> {
     /// The working directory, of which nothing was read yet.
     pub fn new(rt: R, alloc: Global) -> DirFolder<R>
-        ensures faults { ⟦<DirFolder<R> as Folder>⟧.faults result ≡ 0 }
-        ensures absences { ⟦<DirFolder<R> as Folder>⟧.absences result ≡ 0 }
-        ensures overruns { ⟦<DirFolder<R> as Folder>⟧.overruns result ≡ 0 }
+        ensures faults { (⟦<DirFolder<R> as Folder>⟧.state result).faults ≡ 0 }
+        ensures absences { (⟦<DirFolder<R> as Folder>⟧.state result).absences ≡ 0 }
+        ensures overruns { (⟦<DirFolder<R> as Folder>⟧.state result).overruns ≡ 0 }
     {
         DirFolder {
             rt,
@@ -45,15 +45,13 @@ impl<R: Files> DirFolder<R> {
 }
 
 impl<R: Files> Folder for DirFolder<R> {
-    ghost files = { λ _. None };
-
-    ghost faults = { λ s. s.faults };
-
-    ghost absences = { λ s. s.absences };
-
-    ghost overruns = { λ s. s.overruns };
-
-    ghost steady = { λ _. false };
+    ghost state = { λ s. record {
+      files = None;
+      absences = s.absences;
+      faults = s.faults;
+      overruns = s.overruns;
+      steady = false;
+    } };
 
     fn read(&mut self, name: &str, limit: u64) -> Result<Vec<u8>, ReadRefusal> {
         let answer = read_file(&self.rt, self.alloc, name, limit);

@@ -1,31 +1,31 @@
 //! Instances: the models of presentations, with their rows, cells, nulls and entries.
 #![tactic(auto)]
 
-pub mod application;
-pub mod building;
-pub mod canonical;
-pub mod cell_index;
-pub mod digests;
-pub mod edges;
+mod application;
+mod building;
+mod canonical;
+mod cell_index;
+mod digests;
+mod edges;
 mod entries;
-pub mod equations;
+mod equations;
 mod given;
-pub mod groups;
-pub mod instance;
-pub mod key_index;
+mod groups;
+mod instance;
+mod key_index;
 pub mod laws;
-pub mod leaves;
+mod leaves;
 mod moving;
-pub mod nodes;
-pub mod nulls;
-pub mod numbers;
-pub mod places;
-pub mod reading;
+mod nodes;
+mod nulls;
+mod numbers;
+mod places;
+mod reading;
 mod standing;
 mod terms;
 pub mod transform;
 pub mod values;
-pub mod walk;
+mod walk;
 
 pub use building::{BuildRefusal, build};
 pub use cell_index::CellIndex;

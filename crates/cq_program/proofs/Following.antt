@@ -6,7 +6,8 @@ use Rattle.cq_base.specs.declared.name.Name.{Name}
 use Rattle.cq_io.specs.Counts.{Rose}
 use Rattle.cq_syntax.specs.declared.program.Decl.{Decl}
 use Rattle.cq_syntax.specs.declared.program.Program.{Program}
-use Rattle.cq_import.specs.Folders.{FolderData, Keeps}
+use Rattle.cq_io.specs.FolderData.{FolderData}
+use Rattle.cq_import.specs.Folders.{Keeps}
 use Rattle.cq_program.specs.declared.reason.ProgramRefusal.{ProgramRefusal}
 use Rattle.cq_program.specs.declared.reason.ProgramRefusal.TheVariants as program_refusal
 use Rattle.cq_program.specs.declared.reason.ReadCause.{ReadCause}

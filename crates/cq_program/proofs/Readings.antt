@@ -12,7 +12,8 @@ use Rattle.cq_import.specs.declared.refusal.CsvRefusal.TheVariants as refusal
 use Rattle.cq_import.specs.Faults as fault
 use Rattle.cq_import.specs.Faults.{Fault, told}
 use Rattle.cq_import.specs.Entries.{IsImport2Over, OfFiles2, entries_text}
-use Rattle.cq_import.specs.Folders.{FolderData, Keeps, Raises}
+use Rattle.cq_io.specs.FolderData.{FolderData}
+use Rattle.cq_import.specs.Folders.{Keeps, Raises}
 use Rattle.cq_import.specs.Imports.{IsImport, OfFiles, IfAbsent, IfReadFault, IfTooLong}
 use Rattle.cq_program.specs.declared.reason.Reason.{Reason}
 use Rattle.cq_program.specs.declared.reason.ReadCause.{ReadCause}

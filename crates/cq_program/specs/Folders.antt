@@ -10,7 +10,7 @@ use Rattle.cq_import.specs.declared.refusal.CsvRefusal.TheVariants as refusal
 use Rattle.cq_import.specs.Entries.{IsNext2, OfFiles2, fault2_over, imported2_over}
 use Rattle.cq_import.specs.Faults as fault
 use Rattle.cq_import.specs.Faults.{Fault, told}
-use Rattle.cq_import.specs.Folders.{FolderData}
+use Rattle.cq_io.specs.FolderData.{FolderData}
 use Rattle.cq_import.specs.Imports.{IsNext, OfFiles, fault_of, imported}
 use Rattle.cq_program.specs.declared.reason.Reason.{Reason}
 use Rattle.cq_program.specs.declared.reason.Reason.TheVariants as reason

@@ -33,7 +33,7 @@ use Rattle.cq_program.specs.declared.posing.Statement.{Statement}
 use Rattle.cq_program.specs.declared.posing.Statement.TheVariants as statement
 use Rattle.cq_import.specs.Faults as fault
 use Rattle.cq_import.specs.Faults.{Fault}
-use Rattle.cq_import.specs.Folders.{FolderData}
+use Rattle.cq_io.specs.FolderData.{FolderData}
 use Rattle.cq_program.specs.declared.stating.Stated.{Stated as TheStated}
 use Rattle.cq_program.specs.declared.stating.Stated.TheVariants as stated
 use Rattle.cq_program.specs.Folders.{Told, TellsFault, LacksFile, Raised, rule_of, unread_fault}

@@ -68,38 +68,9 @@ pub fn meaning<F: Folder>(
 ) -> Result<Vec<Named>, ProgramRefusal>
     requires few { HasFewParts program.now }
     requires depth { depth ≤ 64 }
-    ensures means { IfOk result (λ named. Means (F.files folder.old) program.now (map listed_as named.items)) }
-    ensures keeps { Keeps
-        (record {
-          files = F.files folder.old;
-          absences = F.absences folder.old;
-          faults = F.faults folder.old;
-          overruns = F.overruns folder.old;
-          steady = F.steady folder.old;
-        })
-        (record {
-          files = F.files folder.new;
-          absences = F.absences folder.new;
-          faults = F.faults folder.new;
-          overruns = F.overruns folder.new;
-          steady = F.steady folder.new;
-        }) }
-    ensures refuses { IfErr result (RefusesProgram depth
-        (record {
-          files = F.files folder.old;
-          absences = F.absences folder.old;
-          faults = F.faults folder.old;
-          overruns = F.overruns folder.old;
-          steady = F.steady folder.old;
-        })
-        (record {
-          files = F.files folder.new;
-          absences = F.absences folder.new;
-          faults = F.faults folder.new;
-          overruns = F.overruns folder.new;
-          steady = F.steady folder.new;
-        })
-        program.now) }
+    ensures means { IfOk result (λ named. Means (F.state folder.old).files program.now (map listed_as named.items)) }
+    ensures keeps { Keeps (F.state folder.old) (F.state folder.new) }
+    ensures refuses { IfErr result (RefusesProgram depth (F.state folder.old) (F.state folder.new) program.now) }
 {
     let env = declare_all(alloc, program, folder, depth)?;
     Ok(instances_of(alloc, env)?)
@@ -114,39 +85,10 @@ fn declare_all<F: Folder>(
 ) -> Result<Environment, ProgramRefusal>
     requires few { HasFewParts program.now }
     requires depth { depth ≤ 64 }
-    ensures follows { IfOk result (λ env. Follow (F.files folder.old) [] program.now.decls
+    ensures follows { IfOk result (λ env. Follow (F.state folder.old).files [] program.now.decls
         (environment_of env.entries.items)) }
-    ensures keeps { Keeps
-        (record {
-          files = F.files folder.old;
-          absences = F.absences folder.old;
-          faults = F.faults folder.old;
-          overruns = F.overruns folder.old;
-          steady = F.steady folder.old;
-        })
-        (record {
-          files = F.files folder.new;
-          absences = F.absences folder.new;
-          faults = F.faults folder.new;
-          overruns = F.overruns folder.new;
-          steady = F.steady folder.new;
-        }) }
-    ensures refuses { IfErr result (RefusesProgram depth
-        (record {
-          files = F.files folder.old;
-          absences = F.absences folder.old;
-          faults = F.faults folder.old;
-          overruns = F.overruns folder.old;
-          steady = F.steady folder.old;
-        })
-        (record {
-          files = F.files folder.new;
-          absences = F.absences folder.new;
-          faults = F.faults folder.new;
-          overruns = F.overruns folder.new;
-          steady = F.steady folder.new;
-        })
-        program.now) }
+    ensures keeps { Keeps (F.state folder.old) (F.state folder.new) }
+    ensures refuses { IfErr result (RefusesProgram depth (F.state folder.old) (F.state folder.new) program.now) }
 {
     let mut env = Environment::new(alloc);
     for decl in program.decls.as_slice() {
@@ -167,39 +109,11 @@ fn declare<F: Folder>(
     requires room { length env.entries.items < 2 ^ 32 - 1 }
     requires settled { AreSettled (environment_of env.entries.items) }
     requires depth { depth ≤ 64 }
-    ensures declares { IfOk result (λ after. AddsDecl (F.files folder.old) (environment_of env.entries.items) decl.now
-        (environment_of after.entries.items)) }
+    ensures declares { IfOk result (λ after. AddsDecl (F.state folder.old).files
+        (environment_of env.entries.items) decl.now (environment_of after.entries.items)) }
     ensures settled { IfOk result (λ after. AreSettled (environment_of after.entries.items)) }
-    ensures keeps { Keeps
-        (record {
-          files = F.files folder.old;
-          absences = F.absences folder.old;
-          faults = F.faults folder.old;
-          overruns = F.overruns folder.old;
-          steady = F.steady folder.old;
-        })
-        (record {
-          files = F.files folder.new;
-          absences = F.absences folder.new;
-          faults = F.faults folder.new;
-          overruns = F.overruns folder.new;
-          steady = F.steady folder.new;
-        }) }
-    ensures refuses { IfErr result (RefusesDecl depth
-        (record {
-          files = F.files folder.old;
-          absences = F.absences folder.old;
-          faults = F.faults folder.old;
-          overruns = F.overruns folder.old;
-          steady = F.steady folder.old;
-        })
-        (record {
-          files = F.files folder.new;
-          absences = F.absences folder.new;
-          faults = F.faults folder.new;
-          overruns = F.overruns folder.new;
-          steady = F.steady folder.new;
-        })
+    ensures keeps { Keeps (F.state folder.old) (F.state folder.new) }
+    ensures refuses { IfErr result (RefusesDecl depth (F.state folder.old) (F.state folder.new)
         (environment_of env.entries.items) decl.now) }
 {
     let meaning = judge(alloc, &env, decl, folder, depth)?;
@@ -219,40 +133,12 @@ fn judge<F: Folder>(
     requires few { part_count decl.now.body < 2 ^ 32 }
     requires settled { AreSettled (environment_of env.now.entries.items) }
     requires depth { depth ≤ 64 }
-    ensures declares { IfOk result (λ meaning. Declares (F.files folder.old) (environment_of env.now.entries.items)
-        decl.now (meant meaning)) }
+    ensures declares { IfOk result (λ meaning. Declares (F.state folder.old).files
+        (environment_of env.now.entries.items) decl.now (meant meaning)) }
     ensures settled { IfOk result (λ meaning. WillSettle (environment_of env.now.entries.items) decl.now.name
         (meant meaning)) }
-    ensures keeps { Keeps
-        (record {
-          files = F.files folder.old;
-          absences = F.absences folder.old;
-          faults = F.faults folder.old;
-          overruns = F.overruns folder.old;
-          steady = F.steady folder.old;
-        })
-        (record {
-          files = F.files folder.new;
-          absences = F.absences folder.new;
-          faults = F.faults folder.new;
-          overruns = F.overruns folder.new;
-          steady = F.steady folder.new;
-        }) }
-    ensures refuses { IfErr result (RefusesDecl depth
-        (record {
-          files = F.files folder.old;
-          absences = F.absences folder.old;
-          faults = F.faults folder.old;
-          overruns = F.overruns folder.old;
-          steady = F.steady folder.old;
-        })
-        (record {
-          files = F.files folder.new;
-          absences = F.absences folder.new;
-          faults = F.faults folder.new;
-          overruns = F.overruns folder.new;
-          steady = F.steady folder.new;
-        })
+    ensures keeps { Keeps (F.state folder.old) (F.state folder.new) }
+    ensures refuses { IfErr result (RefusesDecl depth (F.state folder.old) (F.state folder.new)
         (environment_of env.now.entries.items) decl.now) }
 {
     let stated = state(alloc, env, decl)?;

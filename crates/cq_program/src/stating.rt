@@ -173,39 +173,10 @@ pub fn read_stated<F: Folder>(
     folder: &mut F,
 ) -> Result<Statement, ProgramRefusal>
     requires stated { IsStated stated }
-    ensures reads { IfOk result (λ s. Reads (F.files folder.old) (stated_as stated) (posed_as s)) }
+    ensures reads { IfOk result (λ s. Reads (F.state folder.old).files (stated_as stated) (posed_as s)) }
     ensures well_sorted { IfOk result IsPosed }
-    ensures keeps { Keeps
-        (record {
-          files = F.files folder.old;
-          absences = F.absences folder.old;
-          faults = F.faults folder.old;
-          overruns = F.overruns folder.old;
-          steady = F.steady folder.old;
-        })
-        (record {
-          files = F.files folder.new;
-          absences = F.absences folder.new;
-          faults = F.faults folder.new;
-          overruns = F.overruns folder.new;
-          steady = F.steady folder.new;
-        }) }
-    ensures refuses { IfErr result (RefusesReading place
-        (record {
-          files = F.files folder.old;
-          absences = F.absences folder.old;
-          faults = F.faults folder.old;
-          overruns = F.overruns folder.old;
-          steady = F.steady folder.old;
-        })
-        (record {
-          files = F.files folder.new;
-          absences = F.absences folder.new;
-          faults = F.faults folder.new;
-          overruns = F.overruns folder.new;
-          steady = F.steady folder.new;
-        })
-        (stated_as stated)) }
+    ensures keeps { Keeps (F.state folder.old) (F.state folder.new) }
+    ensures refuses { IfErr result (RefusesReading place (F.state folder.old) (F.state folder.new) (stated_as stated)) }
 {
     match stated {
         Stated::AtOnce(statement) => Ok(statement),
@@ -220,39 +191,11 @@ fn read_folder<F: Folder>(
     files: FolderImport,
     folder: &mut F,
 ) -> Result<Statement, ProgramRefusal>
-    ensures reads { IfOk result (λ s. Reads (F.files folder.old)
+    ensures reads { IfOk result (λ s. Reads (F.state folder.old).files
         (a_folder files.format files.name files.schema.value files.dir) (posed_as s)) }
     ensures well_sorted { IfOk result IsPosed }
-    ensures keeps { Keeps
-        (record {
-          files = F.files folder.old;
-          absences = F.absences folder.old;
-          faults = F.faults folder.old;
-          overruns = F.overruns folder.old;
-          steady = F.steady folder.old;
-        })
-        (record {
-          files = F.files folder.new;
-          absences = F.absences folder.new;
-          faults = F.faults folder.new;
-          overruns = F.overruns folder.new;
-          steady = F.steady folder.new;
-        }) }
-    ensures refuses { IfErr result (RefusesReading place
-        (record {
-          files = F.files folder.old;
-          absences = F.absences folder.old;
-          faults = F.faults folder.old;
-          overruns = F.overruns folder.old;
-          steady = F.steady folder.old;
-        })
-        (record {
-          files = F.files folder.new;
-          absences = F.absences folder.new;
-          faults = F.faults folder.new;
-          overruns = F.overruns folder.new;
-          steady = F.steady folder.new;
-        })
+    ensures keeps { Keeps (F.state folder.old) (F.state folder.new) }
+    ensures refuses { IfErr result (RefusesReading place (F.state folder.old) (F.state folder.new)
         (a_folder files.format files.name files.schema.value files.dir)) }
 {
     match import_files(alloc, &files, folder) {
@@ -267,39 +210,11 @@ fn import_files<F: Folder>(
     files: &FolderImport,
     folder: &mut F,
 ) -> Result<Presentation, CsvRefusal>
-    ensures answer { OfFolder (F.files folder.old) files.now.format files.now.dir files.now.schema.value
+    ensures answer { OfFolder (F.state folder.old).files files.now.format files.now.dir files.now.schema.value
         (λ c. IsImportOf c result) }
     ensures presentation { IfOk result (IsPresentation files.now.schema.value) }
-    ensures keeps { Keeps
-        (record {
-          files = F.files folder.old;
-          absences = F.absences folder.old;
-          faults = F.faults folder.old;
-          overruns = F.overruns folder.old;
-          steady = F.steady folder.old;
-        })
-        (record {
-          files = F.files folder.new;
-          absences = F.absences folder.new;
-          faults = F.faults folder.new;
-          overruns = F.overruns folder.new;
-          steady = F.steady folder.new;
-        }) }
-    ensures raises { Raises
-        (record {
-          files = F.files folder.old;
-          absences = F.absences folder.old;
-          faults = F.faults folder.old;
-          overruns = F.overruns folder.old;
-          steady = F.steady folder.old;
-        })
-        (record {
-          files = F.files folder.new;
-          absences = F.absences folder.new;
-          faults = F.faults folder.new;
-          overruns = F.overruns folder.new;
-          steady = F.steady folder.new;
-        }) result }
+    ensures keeps { Keeps (F.state folder.old) (F.state folder.new) }
+    ensures raises { Raises (F.state folder.old) (F.state folder.new) result }
 {
     match files.format {
         Format::First => import(alloc, folder, &files.dir, &files.schema),

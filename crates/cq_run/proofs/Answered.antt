@@ -1,6 +1,7 @@
 -- From what became of the file to the answer.
 use Rattle.std.proofs.Common.{◌≡◌, ◌∙◌, ◌≤◌, ℕ, List, Some, Err, IfSome, inl, inr, map, refl, sym, subst, arith}
-use Rattle.cq_import.specs.Folders.{FolderData, Keeps}
+use Rattle.cq_io.specs.FolderData.{FolderData}
+use Rattle.cq_import.specs.Folders.{Keeps}
 use Rattle.cq_io.specs.Counts.{Rose}
 use Rattle.cq_io.specs.Reads.{IsReadOf}
 use Rattle.cq_io.specs.declared.folder.ReadRefusal.{ReadRefusal}

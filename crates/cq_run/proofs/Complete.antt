@@ -7,7 +7,7 @@ use Rattle.cq_io.specs.Account.{Account}
 use Rattle.cq_io.specs.declared.format.Format.{Format}
 use Rattle.cq_io.specs.Content.{File, find_file}
 use Rattle.cq_io.specs.Writes.{LacksRoom}
-use Rattle.cq_import.specs.Folders.{FolderData}
+use Rattle.cq_io.specs.FolderData.{FolderData}
 use Rattle.cq_program.proofs.Breaches.{means_is_there}
 use Rattle.cq_program.specs.Folders.{Raised, Told}
 use Rattle.cq_program.specs.Program as program

@@ -13,7 +13,7 @@ use Rattle.cq_syntax.specs.Program.{IsProgram, FitsLimits}
 use Rattle.cq_parse.specs.declared.refusal.ParseRefusal.{ParseRefusal}
 use Rattle.cq_parse.specs.declared.refusal.ParseRefusal.TheVariants as grammatical
 use Rattle.cq_parse.specs.Parsed.{IsRefused, RefusedWith}
-use Rattle.cq_import.specs.Folders.{FolderData}
+use Rattle.cq_io.specs.FolderData.{FolderData}
 use Rattle.cq_program.specs.Folders.{Told}
 use Rattle.cq_program.specs.Lines.{reason_line}
 use Rattle.cq_program.specs.Posing.{RefusesProgram}

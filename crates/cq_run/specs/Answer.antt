@@ -1,7 +1,7 @@
 -- What reading and judging a text gives, before anything is written.
 use Rattle.std.specs.Prelude.{◌≡◌, ℕ, List, map}
 use Rattle.cq_export.specs.Held.{files_held}
-use Rattle.cq_import.specs.Folders.{FolderData}
+use Rattle.cq_io.specs.FolderData.{FolderData}
 use Rattle.cq_program.specs.Folders.{Told}
 use Rattle.cq_program.specs.Named.{listed_as}
 use Rattle.cq_program.specs.Program.{Listing}

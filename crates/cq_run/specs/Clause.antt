@@ -7,7 +7,7 @@ use Rattle.cq_example.specs.Text.{text_of}
 use Rattle.cq_export.specs.Handing.{HandsOver}
 use Rattle.cq_export.specs.declared.handing.Handed.{Handed}
 use Rattle.cq_export.specs.declared.handing.Handed.TheVariants as handed
-use Rattle.cq_import.specs.Folders.{FolderData}
+use Rattle.cq_io.specs.FolderData.{FolderData}
 use Rattle.cq_io.specs.Account.{Account}
 use Rattle.cq_io.specs.Content.{File, find_file}
 use Rattle.cq_io.specs.Counts.{Rose}

@@ -11,7 +11,7 @@ use Rattle.cq_syntax.specs.Program.{IsProgram, FitsLimits}
 use Rattle.cq_parse.specs.declared.refusal.ParseRefusal.{ParseRefusal}
 use Rattle.cq_parse.specs.declared.refusal.ParseRefusal.TheVariants as grammatical
 use Rattle.cq_parse.specs.Parsed.{RefusedWith}
-use Rattle.cq_import.specs.Folders.{FolderData}
+use Rattle.cq_io.specs.FolderData.{FolderData}
 use Rattle.cq_program.specs.declared.reason.ReadCause.{ReadCause}
 use Rattle.cq_program.specs.declared.reason.Reason.{Reason}
 use Rattle.cq_program.specs.Folders.{Raised, Told}

@@ -33,23 +33,8 @@ const EXAMPLE_DEPTH: u32 = 16;
 /// Reads the file or makes the text of the example, and judges it with models made to the depth.
 pub fn answer_to<F: Folder>(alloc: Global, request: Request<'_>, folder: &mut F) -> Answer
     requires { IsInRange request }
-    ensures files { F.files folder.new ≡ F.files folder.old }
-    ensures answers { Answers (ask_of request.entry)
-        (record {
-          files = F.files folder.old;
-          absences = F.absences folder.old;
-          faults = F.faults folder.old;
-          overruns = F.overruns folder.old;
-          steady = F.steady folder.old;
-        })
-        (record {
-          files = F.files folder.new;
-          absences = F.absences folder.new;
-          faults = F.faults folder.new;
-          overruns = F.overruns folder.new;
-          steady = F.steady folder.new;
-        })
-        result }
+    ensures files { (F.state folder.new).files ≡ (F.state folder.old).files }
+    ensures answers { Answers (ask_of request.entry) (F.state folder.old) (F.state folder.new) result }
 {
     match request {
         Request::Run { file, depth, .. } => answer_to_file(alloc, file, depth, folder),
@@ -61,22 +46,9 @@ pub fn answer_to<F: Folder>(alloc: Global, request: Request<'_>, folder: &mut F)
 /// Reads the file, and judges its text.
 fn answer_to_file<F: Folder>(alloc: Global, file: &str, depth: u32, folder: &mut F) -> Answer
     requires { depth ≤ 64 }
-    ensures files { F.files folder.new ≡ F.files folder.old }
+    ensures files { (F.state folder.new).files ≡ (F.state folder.old).files }
     ensures answers { (ask : Ask) → file_asked ask ≡ Some file.now → depth_asked ask ≡ depth → Answers ask
-        (record {
-          files = F.files folder.old;
-          absences = F.absences folder.old;
-          faults = F.faults folder.old;
-          overruns = F.overruns folder.old;
-          steady = F.steady folder.old;
-        })
-        (record {
-          files = F.files folder.new;
-          absences = F.absences folder.new;
-          faults = F.faults folder.new;
-          overruns = F.overruns folder.new;
-          steady = F.steady folder.new;
-        })
+        (F.state folder.old) (F.state folder.new)
         result }
 {
     match folder.read(file, FILE_LIMIT) {
@@ -92,23 +64,8 @@ fn answer_to_file<F: Folder>(alloc: Global, file: &str, depth: u32, folder: &mut
 fn answer_to_example<F: Folder>(alloc: Global, size: u32, folder: &mut F) -> Answer
     requires some { 1 ≤ size }
     requires most { size ≤ 199999 }
-    ensures files { F.files folder.new ≡ F.files folder.old }
-    ensures answers { Answers (example size)
-        (record {
-          files = F.files folder.old;
-          absences = F.absences folder.old;
-          faults = F.faults folder.old;
-          overruns = F.overruns folder.old;
-          steady = F.steady folder.old;
-        })
-        (record {
-          files = F.files folder.new;
-          absences = F.absences folder.new;
-          faults = F.faults folder.new;
-          overruns = F.overruns folder.new;
-          steady = F.steady folder.new;
-        })
-        result }
+    ensures files { (F.state folder.new).files ≡ (F.state folder.old).files }
+    ensures answers { Answers (example size) (F.state folder.old) (F.state folder.new) result }
 {
     match example_text(alloc, size) {
         Ok(text) => judge(alloc, text.as_slice(), EXAMPLE_DEPTH, folder),

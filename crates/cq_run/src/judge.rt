@@ -25,37 +25,8 @@ use std::alloc::Global;
 pub fn judge<F: Folder>(alloc: Global, text: &[u8], depth: u32, folder: &mut F) -> Answer
     requires length { length text.now ≤ 2 ^ 23 }
     requires depth { depth ≤ 64 }
-    ensures judges { Judges depth
-        (record {
-          files = F.files folder.old;
-          absences = F.absences folder.old;
-          faults = F.faults folder.old;
-          overruns = F.overruns folder.old;
-          steady = F.steady folder.old;
-        })
-        (record {
-          files = F.files folder.new;
-          absences = F.absences folder.new;
-          faults = F.faults folder.new;
-          overruns = F.overruns folder.new;
-          steady = F.steady folder.new;
-        })
-        text.now result }
-    ensures keeps { Keeps
-        (record {
-          files = F.files folder.old;
-          absences = F.absences folder.old;
-          faults = F.faults folder.old;
-          overruns = F.overruns folder.old;
-          steady = F.steady folder.old;
-        })
-        (record {
-          files = F.files folder.new;
-          absences = F.absences folder.new;
-          faults = F.faults folder.new;
-          overruns = F.overruns folder.new;
-          steady = F.steady folder.new;
-        }) }
+    ensures judges { Judges depth (F.state folder.old) (F.state folder.new) text.now result }
+    ensures keeps { Keeps (F.state folder.old) (F.state folder.new) }
 {
     match lex(alloc, text) {
         Ok(tokens) => judge_tokens(alloc, tokens, depth, folder),
@@ -67,37 +38,8 @@ pub fn judge<F: Folder>(alloc: Global, text: &[u8], depth: u32, folder: &mut F) 
 fn judge_tokens<F: Folder>(alloc: Global, tokens: Vec<Token>, depth: u32, folder: &mut F) -> Answer
     requires end { EndsOnce tokens.items }
     requires depth { depth ≤ 64 }
-    ensures judges { JudgesTokens depth
-        (record {
-          files = F.files folder.old;
-          absences = F.absences folder.old;
-          faults = F.faults folder.old;
-          overruns = F.overruns folder.old;
-          steady = F.steady folder.old;
-        })
-        (record {
-          files = F.files folder.new;
-          absences = F.absences folder.new;
-          faults = F.faults folder.new;
-          overruns = F.overruns folder.new;
-          steady = F.steady folder.new;
-        })
-        tokens.items result }
-    ensures keeps { Keeps
-        (record {
-          files = F.files folder.old;
-          absences = F.absences folder.old;
-          faults = F.faults folder.old;
-          overruns = F.overruns folder.old;
-          steady = F.steady folder.old;
-        })
-        (record {
-          files = F.files folder.new;
-          absences = F.absences folder.new;
-          faults = F.faults folder.new;
-          overruns = F.overruns folder.new;
-          steady = F.steady folder.new;
-        }) }
+    ensures judges { JudgesTokens depth (F.state folder.old) (F.state folder.new) tokens.items result }
+    ensures keeps { Keeps (F.state folder.old) (F.state folder.new) }
 {
     match tree_of(alloc, tokens) {
         Ok(tree) => judge_program(alloc, &tree, depth, folder),
@@ -119,37 +61,8 @@ fn tree_of(alloc: Global, tokens: Vec<Token>) -> Result<Program, ParseRefusal>
 /// The same for a program.
 fn judge_program<F: Folder>(alloc: Global, program: &Program, depth: u32, folder: &mut F) -> Answer
     requires { depth ≤ 64 }
-    ensures judges { JudgesProgram depth
-        (record {
-          files = F.files folder.old;
-          absences = F.absences folder.old;
-          faults = F.faults folder.old;
-          overruns = F.overruns folder.old;
-          steady = F.steady folder.old;
-        })
-        (record {
-          files = F.files folder.new;
-          absences = F.absences folder.new;
-          faults = F.faults folder.new;
-          overruns = F.overruns folder.new;
-          steady = F.steady folder.new;
-        })
-        program.now result }
-    ensures keeps { Keeps
-        (record {
-          files = F.files folder.old;
-          absences = F.absences folder.old;
-          faults = F.faults folder.old;
-          overruns = F.overruns folder.old;
-          steady = F.steady folder.old;
-        })
-        (record {
-          files = F.files folder.new;
-          absences = F.absences folder.new;
-          faults = F.faults folder.new;
-          overruns = F.overruns folder.new;
-          steady = F.steady folder.new;
-        }) }
+    ensures judges { JudgesProgram depth (F.state folder.old) (F.state folder.new) program.now result }
+    ensures keeps { Keeps (F.state folder.old) (F.state folder.new) }
 {
     if !has_few_parts(program) {
         return Answer::Memory;

@@ -51,51 +51,27 @@ pub fn run<F: Folder, K: Sink>(
     spoiled: &mut Vec<Box<dyn Exporter>>,
     out: &mut K,
 ) -> Status
-    ensures files { F.files folder.new ≡ F.files folder.old }
+    ensures files { (F.state folder.new).files ≡ (F.state folder.old).files }
     ensures gives { RunGives (reads (map string_bytes words.now))
         (record {
-          folder = record {
-            files = F.files folder.old;
-            absences = F.absences folder.old;
-            faults = F.faults folder.old;
-            overruns = F.overruns folder.old;
-            steady = F.steady folder.old;
-          };
+          folder = F.state folder.old;
           out = record { held = K.held out.old; faults = K.faults out.old; spare = K.spare out.old };
           outlets = record { exporters = map account exporters.old.items; spoiled = map account spoiled.old.items };
         })
         (record {
-          folder = record {
-            files = F.files folder.new;
-            absences = F.absences folder.new;
-            faults = F.faults folder.new;
-            overruns = F.overruns folder.new;
-            steady = F.steady folder.new;
-          };
+          folder = F.state folder.new;
           out = record { held = K.held out.new; faults = K.faults out.new; spare = K.spare out.new };
           outlets = record { exporters = map account exporters.new.items; spoiled = map account spoiled.new.items };
         })
         result }
     ensures complete { Succeeds (reads (map string_bytes words.now))
         (record {
-          folder = record {
-            files = F.files folder.old;
-            absences = F.absences folder.old;
-            faults = F.faults folder.old;
-            overruns = F.overruns folder.old;
-            steady = F.steady folder.old;
-          };
+          folder = F.state folder.old;
           out = record { held = K.held out.old; faults = K.faults out.old; spare = K.spare out.old };
           outlets = record { exporters = map account exporters.old.items; spoiled = map account spoiled.old.items };
         })
         (record {
-          folder = record {
-            files = F.files folder.new;
-            absences = F.absences folder.new;
-            faults = F.faults folder.new;
-            overruns = F.overruns folder.new;
-            steady = F.steady folder.new;
-          };
+          folder = F.state folder.new;
           out = record { held = K.held out.new; faults = K.faults out.new; spare = K.spare out.new };
           outlets = record { exporters = map account exporters.new.items; spoiled = map account spoiled.new.items };
         })

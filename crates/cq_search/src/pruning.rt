@@ -7,13 +7,33 @@ use std::alloc::{AllocError, Global};
 pub fn pruned(alloc: Global, steps: Vec<Step>) -> Result<Vec<Step>, AllocError> {
     let used = used_steps(alloc, steps.as_slice())?;
     let numbers = new_numbers(alloc, used.as_slice())?;
+    kept_steps(alloc, steps, used.as_slice(), numbers.as_slice())
+}
+
+/// The steps that are used, with the new numbers of their premises.
+fn kept_steps(
+    alloc: Global,
+    steps: Vec<Step>,
+    used: &[bool],
+    numbers: &[u64],
+) -> Result<Vec<Step>, AllocError> {
     let mut kept = Vec::new(alloc);
     for (number, step) in steps.into_iter().enumerate() {
-        if is_among(used.as_slice(), number) {
-            kept.push(renumbered(alloc, step, numbers.as_slice())?)?;
+        if is_among(used, number) {
+            keep(alloc, &mut kept, step, numbers)?;
         }
     }
     Ok(kept)
+}
+
+fn keep(
+    alloc: Global,
+    kept: &mut Vec<Step>,
+    step: Step,
+    numbers: &[u64],
+) -> Result<(), AllocError> {
+    let step = renumbered(alloc, step, numbers)?;
+    kept.push(step)
 }
 
 /// For each step, whether the last one rests on it.

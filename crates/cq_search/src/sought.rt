@@ -1,5 +1,6 @@
 //! The search for a derivation of an equation.
 use crate::expanding::join_by_equations;
+use crate::graph::Graph;
 use crate::halt::Halt;
 use crate::listing::list_steps;
 use crate::putting::{graph_of, put_sides};
@@ -30,10 +31,20 @@ fn search(
     equation: &Equation,
 ) -> Result<Option<Vec<Step>>, Halt> {
     let mut graph = graph_of(alloc, schema, presentation)?;
-    let (left, right) = put_sides(alloc, &mut graph, schema, equation)?;
+    search_in(alloc, &mut graph, schema, equation)
+}
+
+/// The search in a graph of the presentation.
+fn search_in(
+    alloc: Global,
+    graph: &mut Graph,
+    schema: &Schema,
+    equation: &Equation,
+) -> Result<Option<Vec<Step>>, Halt> {
+    let (left, right) = put_sides(alloc, graph, schema, equation)?;
     graph.close()?;
-    if !join_by_equations(alloc, &mut graph, schema, left, right)? {
+    if !join_by_equations(alloc, graph, schema, left, right)? {
         return Ok(None);
     }
-    Ok(Some(list_steps(alloc, &graph, left, right)?))
+    Ok(Some(list_steps(alloc, graph, left, right)?))
 }

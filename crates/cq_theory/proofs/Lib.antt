@@ -1,3 +1,4 @@
+pub mod NamesBeside
 pub mod Derivations
 pub mod TypeTerms
 pub mod Constants

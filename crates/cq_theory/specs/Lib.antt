@@ -5,6 +5,7 @@ pub mod EntTerm
 pub mod TypeTerm
 pub mod Carried
 pub mod Value
+pub mod ValueTerms
 pub mod ValueText
 pub mod Term
 pub mod Sorts

@@ -22,7 +22,7 @@ use cq_base::{Name, Names};
 use std::alloc::Global;
 
 /// Adds the name of an entity to the table of the entities.
-#[tactic(auto, using(cq_base::proofs::Numbers::in_neither, cq_base::proofs::Numbers::in_first, cq_base::proofs::Numbers::in_second))]
+#[tactic(auto, using(crate::proofs::NamesBeside::in_two_lists))]
 fn declare_entity(
     typeside: &Typeside,
     table: &mut Names,
@@ -77,7 +77,7 @@ fn find_sort(typeside: &Typeside, entities: &Names, name: &Name) -> Option<Sort>
 }
 
 /// Adds the name of a foreign key to the table of the foreign keys.
-#[tactic(auto, using(cq_base::proofs::Numbers::in_neither, cq_base::proofs::Numbers::in_first, cq_base::proofs::Numbers::in_second))]
+#[tactic(auto, using(crate::proofs::NamesBeside::in_two_lists))]
 fn declare_key(
     typeside: &Typeside,
     table: &mut Names,
@@ -175,7 +175,7 @@ pub(crate) fn add_keys(
 }
 
 /// Adds the name of an attribute to the table of the attributes.
-#[tactic(auto, using(cq_base::proofs::Numbers::in_neither, cq_base::proofs::Numbers::in_first, cq_base::proofs::Numbers::in_second))]
+#[tactic(auto, using(crate::proofs::NamesBeside::in_two_lists))]
 fn declare_attribute(
     schema: &Schema,
     table: &mut Names,

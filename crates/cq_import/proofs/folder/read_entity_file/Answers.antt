@@ -20,8 +20,8 @@ returns-in-Ok-clause-read g c =
     let here = name_here S c.as_slice-entities.result.now c.args.entity c.index-entities-entity.result c.as_str.result.now entities c.requires.entity c.index-entities-entity.is c.as_str.ensures.text in
     let named = c.in_ok-name.ensures ∙ ap (file_name c.args.dir.now) here in
     let read = c.in-Ok.ensures.read in
-    read_passed (g.F.Folder.files c.args.folder.now) c.args.dir.now S c.args.entity _ c.in-Ok.text.items c.args.columns.now (read.named ∙ named) c.requires.columns read.short
-    (subst (λ n. IfSome (g.F.Folder.files c.args.folder.now) (λ told. find_file n told ≡ Some c.in-Ok.text.items)) (sym read.named) read.found) c.check_text.result c.check_text.ensures.named c.check_text.ensures.passed
+    read_passed (g.F.Folder.state c.args.folder.now).files c.args.dir.now S c.args.entity _ c.in-Ok.text.items c.args.columns.now (read.named ∙ named) c.requires.columns read.short
+    (subst (λ n. IfSome (g.F.Folder.state c.args.folder.now).files (λ told. find_file n told ≡ Some c.in-Ok.text.items)) (sym read.named) read.found) c.check_text.result c.check_text.ensures.named c.check_text.ensures.passed
 
 pub returns-in-Ok-clause-refused : goal.returns-in-Ok-clause-refused
 returns-in-Ok-clause-refused g c =
@@ -30,8 +30,8 @@ returns-in-Ok-clause-refused g c =
     let here = name_here S c.as_slice-entities.result.now c.args.entity c.index-entities-entity.result c.as_str.result.now entities c.requires.entity c.index-entities-entity.is c.as_str.ensures.text in
     let named = c.in_ok-name.ensures ∙ ap (file_name c.args.dir.now) here in
     let read = c.in-Ok.ensures.read in
-    read_refused (g.F.Folder.files c.args.folder.now) c.args.dir.now S c.args.entity _ c.in-Ok.text.items c.args.columns.now (read.named ∙ named) c.requires.columns read.short
-    (subst (λ n. IfSome (g.F.Folder.files c.args.folder.now) (λ told. find_file n told ≡ Some c.in-Ok.text.items)) (sym read.named) read.found) c.check_text.result c.check_text.ensures.refused
+    read_refused (g.F.Folder.state c.args.folder.now).files c.args.dir.now S c.args.entity _ c.in-Ok.text.items c.args.columns.now (read.named ∙ named) c.requires.columns read.short
+    (subst (λ n. IfSome (g.F.Folder.state c.args.folder.now).files (λ told. find_file n told ≡ Some c.in-Ok.text.items)) (sym read.named) read.found) c.check_text.result c.check_text.ensures.refused
 
 pub returns-in-Err-clause-refused : goal.returns-in-Err-clause-refused
 returns-in-Err-clause-refused g c =
@@ -39,4 +39,4 @@ returns-in-Err-clause-refused g c =
     let entities = c.as_slice-entities.ensures ∙ ap (λ (s : SchemaData). s.entities) c.schema.view_is in
     let here = name_here S c.as_slice-entities.result.now c.args.entity c.index-entities-entity.result c.as_str.result.now entities c.requires.entity c.index-entities-entity.is c.as_str.ensures.text in
     let named = c.in_ok-name.ensures ∙ ap (file_name c.args.dir.now) here in
-    inl (subst (λ n. IsUnread (g.F.Folder.files c.args.folder.now) n c.in-Err.refusal) named c.in-Err.ensures.unread)
+    inl (subst (λ n. IsUnread (g.F.Folder.state c.args.folder.now).files n c.in-Err.refusal) named c.in-Err.ensures.unread)

@@ -41,12 +41,12 @@ returns-in-Err-clause-refused g c =
       made = c.loop-entity.made.items;
       within = here;
       read = c.loop-entity.invariant.2;
-      refused = subst (λ n. IsRefused c.args.dir.now c.args.schema.now (g.F.Folder.files c.args.folder.now) n c.in-Err.refusal) (sym c.loop-entity.invariant.1) refused;
+      refused = subst (λ n. IsRefused c.args.dir.now c.args.schema.now (g.F.Folder.state c.args.folder.now).files n c.in-Err.refusal) (sym c.loop-entity.invariant.1) refused;
     })
 
 pub loop-entity-preserved : goal.loop-entity-preserved
 loop-entity-preserved g c =
-    let files = g.F.Folder.files c.args.folder.now in
+    let files = (g.F.Folder.state c.args.folder.now).files in
     let read = subst (λ f. IsRead c.args.dir.now c.args.schema.now f c.loop-entity.entity c.in-Ok.file) c.loop-entity.invariant.0.files c.in-Ok.ensures.read in
     let here = subst (λ n. IsRead c.args.dir.now c.args.schema.now files n c.in-Ok.file) (sym c.loop-entity.invariant.1) read in (
       keeps_then _ _ _ c.loop-entity.invariant.0 c.in-Ok.ensures.keeps,

@@ -13,9 +13,9 @@ returns-in-Ok-clause-raises g c =
 
 pub returns-in-Ok-clause-answer : goal.returns-in-Ok-clause-answer
 returns-in-Ok-clause-answer g c =
-    answer2_presents c.args.dir.now c.args.schema.now c.is_well_sorted.ensures c.args.files.now c.requires.count (g.F.Folder.files c.args.folder.now) c.requires.read c.in-Ok.entries c.in-Ok.ensures.read
+    answer2_presents c.args.dir.now c.args.schema.now c.is_well_sorted.ensures c.args.files.now c.requires.count (g.F.Folder.state c.args.folder.now).files c.requires.read c.in-Ok.entries c.in-Ok.ensures.read
     c.present_entries.result c.present_entries.ensures.passed c.present_entries.ensures.made c.present_entries.ensures.refused
 
 pub returns-in-Err-clause-answer : goal.returns-in-Err-clause-answer
 returns-in-Err-clause-answer g c =
-    answer2_unread c.args.dir.now c.args.schema.now c.is_well_sorted.ensures c.args.files.now c.requires.count (g.F.Folder.files c.args.folder.now) c.requires.read c.in-Err.refusal c.in-Err.ensures.refused
+    answer2_unread c.args.dir.now c.args.schema.now c.is_well_sorted.ensures c.args.files.now c.requires.count (g.F.Folder.state c.args.folder.now).files c.requires.read c.in-Err.refusal c.in-Err.ensures.refused

@@ -1,6 +1,6 @@
 use Rattle.std.proofs.Common.{◌<◌, length, arith}
 use Rattle.std.proofs.lemmas.Result.{err_from_is_err_and}
-use Rattle.cq_import.specs.Folders.{FolderData}
+use Rattle.cq_io.specs.FolderData.{FolderData}
 use Rattle.cq_program.proofs.Following.{refuses_at, follows_more}
 use Rattle.cq_program.proofs.Readings.{keeps_then}
 use Rattle.cq_program.proofs.declarations.declare_all.Goals as goal
@@ -10,9 +10,9 @@ returns-in_err-env-clause-keeps g c = keeps_then _ _ _ c.loop-decl.invariant.3 c
 
 pub returns-in_err-env-clause-refuses : goal.returns-in_err-env-clause-refuses
 returns-in_err-env-clause-refuses g c =
-    let old : FolderData = record { files = g.F.Folder.files c.args.folder.now; absences = g.F.Folder.absences c.args.folder.now; faults = g.F.Folder.faults c.args.folder.now; overruns = g.F.Folder.overruns c.args.folder.now; steady = g.F.Folder.steady c.args.folder.now } in
-    let mid : FolderData = record { files = g.F.Folder.files c.loop-decl.folder; absences = g.F.Folder.absences c.loop-decl.folder; faults = g.F.Folder.faults c.loop-decl.folder; overruns = g.F.Folder.overruns c.loop-decl.folder; steady = g.F.Folder.steady c.loop-decl.folder } in
-    let new : FolderData = record { files = g.F.Folder.files c.declare.new.folder; absences = g.F.Folder.absences c.declare.new.folder; faults = g.F.Folder.faults c.declare.new.folder; overruns = g.F.Folder.overruns c.declare.new.folder; steady = g.F.Folder.steady c.declare.new.folder } in
+    let old : FolderData = g.F.Folder.state c.args.folder.now in
+    let mid : FolderData = g.F.Folder.state c.loop-decl.folder in
+    let new : FolderData = g.F.Folder.state c.declare.new.folder in
     let p = err_from_is_err_and c.from_residual.result c.from_residual.ensures.1 in
     let inside : c.loop-decl.decl-index < length c.as_slice-decl-items.result.now = omega arith in
     rw (p.1, p.2)
@@ -22,7 +22,7 @@ returns-in_err-env-clause-refuses g c =
 pub loop-decl-preserved : goal.loop-decl-preserved
 loop-decl-preserved g c =
     let inside : c.loop-decl.decl-index < length c.as_slice-decl-items.result.now = omega arith in
-    let more = follows_more (g.F.Folder.files c.args.folder.now) (g.F.Folder.files c.loop-decl.folder) c.as_slice-decl-items.result.now c.loop-decl.decl-index c.decl-item.result
+    let more = follows_more (g.F.Folder.state c.args.folder.now).files (g.F.Folder.state c.loop-decl.folder).files c.as_slice-decl-items.result.now c.loop-decl.decl-index c.decl-item.result
     c.loop-decl.env.entries.items c.in_ok-env.env.entries.items
     c.loop-decl.invariant.3.files inside c.decl-item.is c.loop-decl.invariant.0 c.loop-decl.invariant.1 c.in_ok-env.ensures.declares in
     (more.0, more.1, c.in_ok-env.ensures.settled, keeps_then _ _ _ c.loop-decl.invariant.3 c.in_ok-env.ensures.keeps)

@@ -1,5 +1,5 @@
 use Rattle.std.proofs.lemmas.Result.{err_from_is_err_and}
-use Rattle.cq_import.specs.Folders.{FolderData}
+use Rattle.cq_io.specs.FolderData.{FolderData}
 use Rattle.cq_program.specs.Environment.{environment_of, meant}
 use Rattle.cq_program.specs.Posing.{posed_as, stated_as}
 use Rattle.cq_program.proofs.Following.{refuses_reading, refuses_result}
@@ -8,8 +8,8 @@ use Rattle.cq_program.proofs.declarations.judge.Goals as goal
 
 pub returns-in_err-statement-clause-refuses : goal.returns-in_err-statement-clause-refuses
 returns-in_err-statement-clause-refuses g c =
-    let old : FolderData = record { files = g.F.Folder.files c.args.folder.now; absences = g.F.Folder.absences c.args.folder.now; faults = g.F.Folder.faults c.args.folder.now; overruns = g.F.Folder.overruns c.args.folder.now; steady = g.F.Folder.steady c.args.folder.now } in
-    let new : FolderData = record { files = g.F.Folder.files c.read_stated.new.folder; absences = g.F.Folder.absences c.read_stated.new.folder; faults = g.F.Folder.faults c.read_stated.new.folder; overruns = g.F.Folder.overruns c.read_stated.new.folder; steady = g.F.Folder.steady c.read_stated.new.folder } in
+    let old : FolderData = g.F.Folder.state c.args.folder.now in
+    let new : FolderData = g.F.Folder.state c.read_stated.new.folder in
     let p = err_from_is_err_and c.from_residual-in_err-statement.result c.from_residual-in_err-statement.ensures.1 in
     rw (p.1, p.2)
     (refuses_reading c.args.depth old new (environment_of c.args.env.now.entries.items) c.args.decl.now (stated_as c.in_ok-stated.stated) c.in_err-statement.field-0.0
@@ -17,14 +17,14 @@ returns-in_err-statement-clause-refuses g c =
 
 pub returns-clause-refuses : goal.returns-clause-refuses
 returns-clause-refuses g c =
-    let old : FolderData = record { files = g.F.Folder.files c.args.folder.now; absences = g.F.Folder.absences c.args.folder.now; faults = g.F.Folder.faults c.args.folder.now; overruns = g.F.Folder.overruns c.args.folder.now; steady = g.F.Folder.steady c.args.folder.now } in
-    let new : FolderData = record { files = g.F.Folder.files c.read_stated.new.folder; absences = g.F.Folder.absences c.read_stated.new.folder; faults = g.F.Folder.faults c.read_stated.new.folder; overruns = g.F.Folder.overruns c.read_stated.new.folder; steady = g.F.Folder.steady c.read_stated.new.folder } in
+    let old : FolderData = g.F.Folder.state c.args.folder.now in
+    let new : FolderData = g.F.Folder.state c.read_stated.new.folder in
     refuses_result c.args.depth old new (environment_of c.args.env.now.entries.items) c.args.decl.now (stated_as c.in_ok-stated.stated) (posed_as c.in_ok-statement.statement)
     c.meaning_of.result c.in_ok-stated.ensures.stated c.in_ok-statement.ensures.reads c.meaning_of.ensures.withholds
 
 pub returns-clause-settled : goal.returns-clause-settled
 returns-clause-settled g c =
     let env = environment_of c.args.env.now.entries.items in
-    let grounded = grounded_reading env c.args.decl.now.name (g.F.Folder.files c.args.folder.now) (stated_as c.in_ok-stated.stated) (posed_as c.in_ok-statement.statement)
+    let grounded = grounded_reading env c.args.decl.now.name (g.F.Folder.state c.args.folder.now).files (stated_as c.in_ok-stated.stated) (posed_as c.in_ok-statement.statement)
     c.in_ok-stated.ensures.grounded c.in_ok-statement.ensures.reads in
     settled_result meant env c.args.decl.now.name (posed_as c.in_ok-statement.statement) c.meaning_of.result grounded c.meaning_of.ensures.stands c.meaning_of.ensures.modelled

@@ -11,7 +11,7 @@ use Rattle.cq_program.proofs.stating.import_files.Goals as goal
 
 pub returns-in-First-clause-answer : goal.returns-in-First-clause-answer
 returns-in-First-clause-answer g c =
-    let told = g.F.Folder.files c.args.folder.now in
+    let told = (g.F.Folder.state c.args.folder.now).files in
     let answer = answers_first told c.args.files.now.dir c.args.files.now.schema.value c.import.result
     (subst (λ (S : SchemaData). OfFiles told (λ each. IsImport each c.args.files.now.dir S c.import.result)) c.deref.ensures c.import.ensures.answer) in
     subst (λ (format : Format). OfFolder told format c.args.files.now.dir c.args.files.now.schema.value (λ content. IsImportOf content c.import.result)) (sym c.in-First.is) answer
@@ -35,7 +35,7 @@ returns-in-First-clause-raises g c =
 
 pub returns-in-Second-clause-answer : goal.returns-in-Second-clause-answer
 returns-in-Second-clause-answer g c =
-    let told = g.F.Folder.files c.args.folder.now in
+    let told = (g.F.Folder.state c.args.folder.now).files in
     let answer = answers_second told c.args.files.now.dir c.args.files.now.schema.value c.import2.result
     (subst (λ (S : SchemaData). OfFiles2 told c.args.files.now.dir (λ each text. IsImport2Over each text c.args.files.now.dir S c.import2.result)) c.deref-in-Second.ensures c.import2.ensures.answer) in
     subst (λ (format : Format). OfFolder told format c.args.files.now.dir c.args.files.now.schema.value (λ content. IsImportOf content c.import2.result)) (sym c.in-Second.is) answer

@@ -26,13 +26,13 @@ returns-in-Ok-clause-answers g c = λ ask is depth_is.
 pub returns-in-Err-Absent-clause-answers : goal.returns-in-Err-Absent-clause-answers
 returns-in-Err-Absent-clause-answers g c =
     let field = c.in-Err-Absent.field-0-is in
-    let told = subst (IsTold c.args.file.now (g.F.Folder.files c.args.folder.now)) field c.in-Err-Absent.ensures.told in
+    let told = subst (IsTold c.args.file.now (g.F.Folder.state c.args.folder.now).files) field c.in-Err-Absent.ensures.told in
     λ ask is depth_is. unread ask c.args.file.now _ _ Absent c.unread.result is told (c.in-Err-Absent.ensures.absent (ap Err field)) c.unread.ensures
 
 pub returns-in-Err-TooLong-clause-answers : goal.returns-in-Err-TooLong-clause-answers
 returns-in-Err-TooLong-clause-answers g c =
     let field = c.in-Err-TooLong.field-0-is in
-    let told = subst (IsTold c.args.file.now (g.F.Folder.files c.args.folder.now)) field c.in-Err-TooLong.ensures.told in
+    let told = subst (IsTold c.args.file.now (g.F.Folder.state c.args.folder.now).files) field c.in-Err-TooLong.ensures.told in
     λ ask is depth_is. unread ask c.args.file.now _ _ TooLong c.unread-in-Err-TooLong.result is told
     (c.in-Err-TooLong.ensures.too_long (ap Err field)) c.unread-in-Err-TooLong.ensures
 
