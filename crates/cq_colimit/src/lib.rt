@@ -1,5 +1,11 @@
 //! Colimits of schemas: several schemas over one typeside made one, in which listed entities are the same, and the
 //! mapping by which each of them goes into it.
+//!
+//! `placed` puts the parts in their places, `ends` looks up the pairs, `classes` makes their classes by a forest,
+//! `given` and `clashes` make the joined names and test them, `joining` joins. The joined symbols are looked up once
+//! without equations (`frames`), so that the images of the parts' equations (`images`) can be made in a well-sorted
+//! schema, and once with the added equations, before which the images are put (`equations`). Look-ups of names go by
+//! tables; each part, symbol and equation is visited a fixed number of times.
 #![tactic(auto)]
 
 pub(crate) mod added;

@@ -1,4 +1,7 @@
 //! Folders of CSV files as presentations.
+//!
+//! File by file the bytes are read and their records tested (`folder`, `entity_file`, `rows`, `ids`); when all files
+//! stand, the cells are read in order (`cells`, `labels`), and the presentation is made (`presenting`, `generators`).
 #![tactic(auto)]
 
 pub mod cells;

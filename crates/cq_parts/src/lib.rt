@@ -1,4 +1,8 @@
 //! What the literals of declarations give: their parts, the place of each part, and whether the parts can be counted.
+//!
+//! The parts of a literal (`parts`, for the blocks of queries `blocks`) and the place of each stand in the same order
+//! (`places`, `block_places`). This crate knows the tree and the types of parts, and nothing of instances, so it is
+//! proved beside the crates of models.
 #![tactic(auto)]
 
 mod block_places;

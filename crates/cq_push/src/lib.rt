@@ -1,4 +1,8 @@
 //! Coproducts and pushouts of instances.
+//!
+//! Presentations are glued part by part (`gluing`). A `Gluing` holds the sorts of the generators so far and the
+//! equations, and each further presentation is appended with its generators behind those (`shifting`). Coproducts and
+//! pushouts end in one call, which tests the limit on terms, names the generators and builds.
 #![tactic(auto)]
 
 pub mod coproducts;

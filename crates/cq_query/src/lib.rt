@@ -1,4 +1,7 @@
 //! Queries from a schema to a schema: what they keep, their frozen presentations and their duties.
+//!
+//! A query keeps, beside its blocks, what begins at each entity of its target. Contracts see the two schemas and the
+//! blocks; the lists stand in the type's invariant.
 #![tactic(auto)]
 
 mod assigned;

@@ -1,4 +1,8 @@
 //! Value texts are read back.
+//!
+//! `read_value` reads from the front by recursive descent, led by the type. The first byte tells a quoted text, a null
+//! or a word, and the types of a function's arguments say what is read next, so there is no backtracking. Words and
+//! functions are looked up in the typeside's tables; the whole costs the length of the text.
 #![tactic(auto)]
 
 pub mod built;
