@@ -29,7 +29,7 @@ fn image_entity(mapping: &Mapping, entity: u32) -> u32
 }
 
 /// The image of a path equation.
-fn image_path_eq(mapping: &Mapping, alloc: Global, equation: &PathEq) -> Result<PathEq, AllocError>
+fn image_path_eq(alloc: Global, mapping: &Mapping, equation: &PathEq) -> Result<PathEq, AllocError>
     ensures { IfOk result (λ made. made ≡ image_of_path_eq mapping.now equation.now) }
 {
     let left = mapping.image_path(alloc, equation.left.as_slice())?;
@@ -42,7 +42,7 @@ fn image_path_eq(mapping: &Mapping, alloc: Global, equation: &PathEq) -> Result<
 }
 
 /// The image of an observation equation.
-fn image_obs_eq(mapping: &Mapping, alloc: Global, equation: &ObsEq) -> Result<ObsEq, AllocError>
+fn image_obs_eq(alloc: Global, mapping: &Mapping, equation: &ObsEq) -> Result<ObsEq, AllocError>
     ensures { IfOk result (λ made. made ≡ image_of_obs_eq mapping.now equation.now) }
 {
     let left = mapping.image_term(alloc, &equation.left)?;
@@ -55,21 +55,21 @@ fn image_obs_eq(mapping: &Mapping, alloc: Global, equation: &ObsEq) -> Result<Ob
 }
 
 /// Appends the images of the path equations of a mapping's source.
-fn add_path_eqs(mapping: &Mapping, alloc: Global, made: &mut Vec<PathEq>) -> Result<(), AllocError>
+fn add_path_eqs(alloc: Global, mapping: &Mapping, made: &mut Vec<PathEq>) -> Result<(), AllocError>
     ensures { OnOk result (made.new.items ≡ made.old.items ++ path_eq_images mapping.now) }
 {
     for equation in mapping.source.path_eqs.as_slice() {
-        made.push(image_path_eq(mapping, alloc, equation)?)?;
+        made.push(image_path_eq(alloc, mapping, equation)?)?;
     }
     Ok(())
 }
 
 /// Appends the images of the observation equations of a mapping's source.
-fn add_obs_eqs(mapping: &Mapping, alloc: Global, made: &mut Vec<ObsEq>) -> Result<(), AllocError>
+fn add_obs_eqs(alloc: Global, mapping: &Mapping, made: &mut Vec<ObsEq>) -> Result<(), AllocError>
     ensures { OnOk result (made.new.items ≡ made.old.items ++ obs_eq_images mapping.now) }
 {
     for equation in mapping.source.obs_eqs.as_slice() {
-        made.push(image_obs_eq(mapping, alloc, equation)?)?;
+        made.push(image_obs_eq(alloc, mapping, equation)?)?;
     }
     Ok(())
 }
@@ -106,8 +106,8 @@ fn add_images(
 {
     let mapping = include(alloc, part, numbers, target)?;
     mapping.is_well_sorted();
-    add_path_eqs(&mapping, alloc, &mut made.path_eqs)?;
-    add_obs_eqs(&mapping, alloc, &mut made.obs_eqs)?;
+    add_path_eqs(alloc, &mapping, &mut made.path_eqs)?;
+    add_obs_eqs(alloc, &mapping, &mut made.obs_eqs)?;
     Ok(())
 }
 

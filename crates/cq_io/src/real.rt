@@ -75,14 +75,14 @@ fn read_file<R: Files>(
     ensures { IfOk result (λ bytes. vec_len bytes ≤ limit) }
 {
     match fs::open(rt, name) {
-        Ok(file) => read_up_to(file, alloc, limit),
+        Ok(file) => read_up_to(alloc, file, limit),
         Err(error) if error.kind() == ErrorKind::NotFound => Err(ReadRefusal::Absent),
         Err(_) => Err(ReadRefusal::Failed),
     }
 }
 
 /// Reads to the end, and no more than one byte past the limit. A read that a signal interrupts is tried again.
-fn read_up_to<S: Read + Drop>(source: S, alloc: Global, limit: u64) -> Result<Vec<u8>, ReadRefusal>
+fn read_up_to<S: Read + Drop>(alloc: Global, source: S, limit: u64) -> Result<Vec<u8>, ReadRefusal>
     ensures { IfOk result (λ bytes. vec_len bytes ≤ limit) }
 {
     let mut bytes = Vec::new(alloc);

@@ -24,14 +24,14 @@ impl Mapping {
         ensures { IfOk result (λ duties. duties.items ≡ duties_of self.now) }
     {
         let mut duties = Vec::new(alloc);
-        add_path_duties(self, alloc, self.source.path_eqs.as_slice(), &mut duties)?;
-        add_observation_duties(self, alloc, self.source.obs_eqs.as_slice(), &mut duties)?;
+        add_path_duties(alloc, self, self.source.path_eqs.as_slice(), &mut duties)?;
+        add_observation_duties(alloc, self, self.source.obs_eqs.as_slice(), &mut duties)?;
         Ok(duties)
     }
 }
 
 /// A path from the one generator.
-fn path_term(mapping: &Mapping, alloc: Global, path: &[u32]) -> Result<EntTerm, AllocError>
+fn path_term(alloc: Global, mapping: &Mapping, path: &[u32]) -> Result<EntTerm, AllocError>
     ensures { IfOk result (λ made. made ≡ record { generator = 0; path = path_image mapping.now path.now }) }
 {
     let path = mapping.image_path(alloc, path)?;
@@ -41,18 +41,18 @@ fn path_term(mapping: &Mapping, alloc: Global, path: &[u32]) -> Result<EntTerm, 
     })
 }
 
-fn path_duty(mapping: &Mapping, alloc: Global, equation: &PathEq) -> Result<Duty, AllocError>
+fn path_duty(alloc: Global, mapping: &Mapping, equation: &PathEq) -> Result<Duty, AllocError>
     ensures { IfOk result (λ made. made ≡ duty_of_path_eq mapping.now equation.now) }
 {
-    let left = path_term(mapping, alloc, equation.left.as_slice())?;
-    let right = path_term(mapping, alloc, equation.right.as_slice())?;
+    let left = path_term(alloc, mapping, equation.left.as_slice())?;
+    let right = path_term(alloc, mapping, equation.right.as_slice())?;
     Ok(Duty {
         schema_entity: image_of_entity(mapping, equation.entity),
         equation: Equation::Ent(left, right),
     })
 }
 
-fn observation_duty(mapping: &Mapping, alloc: Global, equation: &ObsEq) -> Result<Duty, AllocError>
+fn observation_duty(alloc: Global, mapping: &Mapping, equation: &ObsEq) -> Result<Duty, AllocError>
     ensures { IfOk result (λ made. made ≡ duty_of_observation mapping.now equation.now) }
 {
     let left = mapping.image_term(alloc, &equation.left)?;
@@ -64,29 +64,29 @@ fn observation_duty(mapping: &Mapping, alloc: Global, equation: &ObsEq) -> Resul
 }
 
 fn add_path_duties(
-    mapping: &Mapping,
     alloc: Global,
+    mapping: &Mapping,
     equations: &[PathEq],
     duties: &mut Vec<Duty>,
 ) -> Result<(), AllocError>
     ensures { OnOk result (duties.new.items ≡ duties.old.items ++ map (duty_of_path_eq mapping.now) equations.now) }
 {
     for equation in equations {
-        duties.push(path_duty(mapping, alloc, equation)?)?;
+        duties.push(path_duty(alloc, mapping, equation)?)?;
     }
     Ok(())
 }
 
 fn add_observation_duties(
-    mapping: &Mapping,
     alloc: Global,
+    mapping: &Mapping,
     equations: &[ObsEq],
     duties: &mut Vec<Duty>,
 ) -> Result<(), AllocError>
     ensures { OnOk result (duties.new.items ≡ duties.old.items ++ map (duty_of_observation mapping.now) equations.now) }
 {
     for equation in equations {
-        duties.push(observation_duty(mapping, alloc, equation)?)?;
+        duties.push(observation_duty(alloc, mapping, equation)?)?;
     }
     Ok(())
 }

@@ -24,7 +24,7 @@ impl Mapping {
     pub fn image_term(&self, alloc: Global, term: &TypeTerm) -> Result<TypeTerm, AllocError>
         ensures { IfOk result (λ made. made ≡ type_image self.now term.now) }
     {
-        make_image(self, alloc, term)
+        make_image(alloc, self, term)
     }
 }
 
@@ -53,8 +53,8 @@ fn push_key(mapping: &Mapping, key: u32, made: &mut Vec<u32>) -> Result<(), Allo
 
 /// The image of an entity term.
 pub(crate) fn image_of_ent(
-    mapping: &Mapping,
     alloc: Global,
+    mapping: &Mapping,
     term: &EntTerm,
 ) -> Result<EntTerm, AllocError>
     ensures { IfOk result (λ made. made ≡ ent_image mapping.now term.now) }
@@ -68,8 +68,8 @@ pub(crate) fn image_of_ent(
 
 /// The term of an attribute, with `at` in the variable's place.
 fn attribute_at(
-    mapping: &Mapping,
     alloc: Global,
+    mapping: &Mapping,
     attribute: u32,
     at: &EntTerm,
 ) -> Result<TypeTerm, AllocError>
@@ -84,21 +84,21 @@ fn attribute_at(
     }
 }
 
-fn make_image(mapping: &Mapping, alloc: Global, term: &TypeTerm) -> Result<TypeTerm, AllocError>
+fn make_image(alloc: Global, mapping: &Mapping, term: &TypeTerm) -> Result<TypeTerm, AllocError>
     ensures { IfOk result (λ made. made ≡ type_image mapping.now term.now) }
 {
     match term {
         TypeTerm::Gen(n) => Ok(TypeTerm::Gen(*n)),
         TypeTerm::Const(constant) => Ok(TypeTerm::Const(constant.clone()?)),
         TypeTerm::Att(attribute, term) => {
-            let at = image_of_ent(mapping, alloc, term)?;
-            let made = attribute_at(mapping, alloc, *attribute, &at)?;
+            let at = image_of_ent(alloc, mapping, term)?;
+            let made = attribute_at(alloc, mapping, *attribute, &at)?;
             Ok(made)
         }
         TypeTerm::Fun(function, args) => {
             let mut made = Vec::new(alloc);
             for arg in args.as_slice() {
-                made.push(make_image(mapping, alloc, arg)?)?;
+                made.push(make_image(alloc, mapping, arg)?)?;
             }
             Ok(TypeTerm::Fun(*function, Seq::from_vec(made)))
         }

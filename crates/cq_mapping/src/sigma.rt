@@ -37,7 +37,7 @@ impl Mapping {
         if has_long_image(self, presentation.equations.as_slice()) {
             return Err(SizeRefusal::TooLarge);
         }
-        let made = build_image(self, alloc, presentation)?;
+        let made = build_image(alloc, self, presentation)?;
         Ok(made)
     }
 }
@@ -52,8 +52,8 @@ fn image_of_sort(mapping: &Mapping, sort: Sort) -> Sort
 }
 
 fn image_generators(
-    mapping: &Mapping,
     alloc: Global,
+    mapping: &Mapping,
     generators: &[(Name, Sort)],
 ) -> Result<Vec<(Name, Sort)>, AllocError>
     ensures { IfOk result (λ made. made.items ≡ generator_images mapping.now generators.now) }
@@ -190,16 +190,16 @@ fn has_long_image(mapping: &Mapping, equations: &[Equation]) -> bool
 }
 
 fn image_of_equation(
-    mapping: &Mapping,
     alloc: Global,
+    mapping: &Mapping,
     equation: &Equation,
 ) -> Result<Equation, AllocError>
     ensures { IfOk result (λ made. made ≡ equation_image mapping.now equation.now) }
 {
     match equation {
         Equation::Ent(left, right) => {
-            let left = image_of_ent(mapping, alloc, left)?;
-            let right = image_of_ent(mapping, alloc, right)?;
+            let left = image_of_ent(alloc, mapping, left)?;
+            let right = image_of_ent(alloc, mapping, right)?;
             Ok(Equation::Ent(left, right))
         }
         Equation::Typ(left, right) => {
@@ -211,28 +211,28 @@ fn image_of_equation(
 }
 
 fn image_equations(
-    mapping: &Mapping,
     alloc: Global,
+    mapping: &Mapping,
     equations: &[Equation],
 ) -> Result<Vec<Equation>, AllocError>
     ensures { IfOk result (λ made. made.items ≡ map (equation_image mapping.now) equations.now) }
 {
     let mut made = Vec::new(alloc);
     for equation in equations {
-        made.push(image_of_equation(mapping, alloc, equation)?)?;
+        made.push(image_of_equation(alloc, mapping, equation)?)?;
     }
     Ok(made)
 }
 
 fn build_image(
-    mapping: &Mapping,
     alloc: Global,
+    mapping: &Mapping,
     presentation: &Presentation,
 ) -> Result<Presentation, AllocError>
     ensures { IfOk result (λ made. made ≡ sigma mapping.now presentation.now) }
 {
-    let generators = image_generators(mapping, alloc, presentation.generators.as_slice())?;
-    let equations = image_equations(mapping, alloc, presentation.equations.as_slice())?;
+    let generators = image_generators(alloc, mapping, presentation.generators.as_slice())?;
+    let equations = image_equations(alloc, mapping, presentation.equations.as_slice())?;
     Ok(Presentation {
         generators: Seq::from_vec(generators),
         equations: Seq::from_vec(equations),
