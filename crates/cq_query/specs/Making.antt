@@ -1,17 +1,8 @@
 -- What the blocks of a query are made of.
 use Rattle.std.specs.Prelude.{◌≡◌, ◌+◌, ◌<◌, ◌^◌, All, length}
 use Rattle.cq_theory.specs.SchemaData.{SchemaData as Schema}
-use Rattle.cq_theory.specs.Groups.{AreGroups, edge_sources, path_eq_sources, obs_eq_sources}
 use Rattle.cq_query.specs.declared.making.BlockParts.{BlockParts}
 use Rattle.cq_query.specs.declared.making.Making.{Making}
-use Rattle.cq_query.specs.declared.tables.Tables.{Tables}
-
--- the numbers of what begins at each entity of the target
-pub record AreTablesOf (T : Schema) (tables : Tables) : Type 0 where
-  pub keys : AreGroups (edge_sources T.keys) (length T.entities) tables.keys
-  pub attributes : AreGroups (edge_sources T.attributes) (length T.entities) tables.attributes
-  pub path_eqs : AreGroups (path_eq_sources T.path_eqs) (length T.entities) tables.path_eqs
-  pub obs_eqs : AreGroups (obs_eq_sources T.obs_eqs) (length T.entities) tables.obs_eqs
 
 -- the numbers of the parts are small, the blocks are those of entities of the target, and each variable and each clause stands in a block
 pub record AreBlockParts (T : Schema) (parts : BlockParts) : Type 0 where

@@ -1,12 +1,13 @@
 //! The blocks that the parts of a query give.
 ghost use Rattle.std.specs.Prelude.{ℕ, List, [], ◌≡◌, ◌++◌, ◌<◌, All, IfOk, OnOk, Some, length, map, option_copied};
 ghost use Rattle.std.specs.Prelude.{slice_get};
+ghost use Rattle.cq_theory.specs.Beginnings.{AreBeginningsOf};
 ghost use Rattle.cq_theory.specs.Canonical.{below};
 ghost use Rattle.cq_theory.specs.Resolved.{entity_term_in, resolved};
 ghost use Rattle.cq_theory.specs.Groups.{positions};
 ghost use Rattle.cq_query.specs.Assigned.{IsAssigned};
 ghost use Rattle.cq_query.specs.Index.{IsIndex};
-ghost use Rattle.cq_query.specs.Making.{AreTablesOf, IsMaking};
+ghost use Rattle.cq_query.specs.Making.{IsMaking};
 ghost use Rattle.cq_theory.specs.EntTerm.{alone as generator_alone};
 ghost use Rattle.cq_theory.specs.Groups.{edge_sources};
 ghost use Rattle.cq_query.specs.QueryParts.{names_of, sorts_of, type_made, entity_made, test_made, tests_made};
@@ -19,10 +20,9 @@ use crate::making::Making;
 use crate::parts::Clause;
 use crate::query::Block;
 use crate::scopes::Scope;
-use crate::tables::Tables;
 use cq_base::{Name, Raw, Seq};
 use cq_theory::lookup::{build, make_equation, type_term};
-use cq_theory::{Con, Edge, EntTerm, Equation, Schema, Term, TypeTerm, alone};
+use cq_theory::{Beginnings, Con, Edge, EntTerm, Equation, Schema, Term, TypeTerm, alone};
 use std::alloc::{AllocError, Global};
 
 /// The attributes and the foreign keys from an entity.
@@ -374,13 +374,13 @@ fn make_block_at(
     alloc: Global,
     making: &Making,
     index: &Index,
-    tables: &Tables,
+    beginnings: &Beginnings,
     entity: usize,
     tests: Vec<Equation>,
 ) -> Result<Block, AllocError>
     requires making { IsMaking making.now }
     requires index { IsIndex making.now.target.now making.now.clauses.now index.now }
-    requires tables { AreTablesOf making.now.target.now tables.now }
+    requires beginnings { AreBeginningsOf making.now.target.now beginnings.now }
     requires entity { entity < length making.now.target.now.entities }
     ensures { IfOk result (λ made. made ≡ record {
       vars = scope_or_none (slice_get making.now.scopes.now entity);
@@ -393,8 +393,8 @@ fn make_block_at(
           (positions (edge_sources making.now.target.now.keys) entity);
     }) }
 {
-    let attributes = tables.attributes.of(entity);
-    let keys = tables.keys.of(entity);
+    let attributes = beginnings.attributes.of(entity);
+    let keys = beginnings.keys.of(entity);
     let edges = Edges { attributes, keys };
     make_block(alloc, making, index, &edges, entity, tests)
 }
@@ -404,11 +404,11 @@ pub(crate) fn build_blocks(
     alloc: Global,
     making: &Making,
     index: &Index,
-    tables: &Tables,
+    beginnings: &Beginnings,
 ) -> Result<Vec<Block>, AllocError>
     requires making { IsMaking making.now }
     requires index { IsIndex making.now.target.now making.now.clauses.now index.now }
-    requires tables { AreTablesOf making.now.target.now tables.now }
+    requires beginnings { AreBeginningsOf making.now.target.now beginnings.now }
     ensures { IfOk result (λ made. made.items ≡ blocks_made making.now.source.now making.now.target.now
         making.now.entities.now making.now.scopes.now making.now.clauses.now) }
 {
@@ -422,7 +422,7 @@ pub(crate) fn build_blocks(
     let mut made = Vec::new(alloc);
     for tests in lists {
         let entity = made.len();
-        made.push(make_block_at(alloc, making, index, tables, entity, tests)?)?;
+        made.push(make_block_at(alloc, making, index, beginnings, entity, tests)?)?;
     }
     Ok(made)
 }

@@ -22,7 +22,6 @@ pub mod query;
 mod rows;
 mod scopes;
 mod sorts;
-mod tables;
 pub mod translation;
 
 pub use parts::{Clause, QueryParts};

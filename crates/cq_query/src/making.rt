@@ -1,6 +1,7 @@
 //! The blocks of a query, by its parts after the entities.
 ghost use Rattle.std.specs.Prelude.{ℕ, ◌≡◌, ◌⊎◌, IfOk, IfErr, Some, None, length};
-ghost use Rattle.cq_query.specs.Making.{AreBlockParts, AreTablesOf, IsMaking};
+ghost use Rattle.cq_theory.specs.Beginnings.{AreBeginningsOf};
+ghost use Rattle.cq_query.specs.Making.{AreBlockParts, IsMaking};
 ghost use Rattle.cq_query.specs.QueryParts.{scopes_of, blocks_made, clauses_and_rest_fault, variables_and_rest_fault};
 
 use crate::blocks::build_blocks;
@@ -10,9 +11,8 @@ use crate::missing::check_missing;
 use crate::parts::Clause;
 use crate::query::Block;
 use crate::scopes::{Scope, make_scopes};
-use crate::tables::{Tables, make_tables};
 use cq_base::Name;
-use cq_theory::{ArrowRefusal, Schema};
+use cq_theory::{ArrowRefusal, Beginnings, Schema};
 use std::alloc::Global;
 
 /// The entity of each block, and the variables and the clauses of the blocks, of which the first variable is part
@@ -38,23 +38,23 @@ pub(crate) struct Making<'a> {
 }
 
 /// The blocks that the clauses give.
-fn finish_blocks(alloc: Global, making: &Making) -> Result<(Vec<Block>, Tables), ArrowRefusal>
+fn finish_blocks(alloc: Global, making: &Making) -> Result<(Vec<Block>, Beginnings), ArrowRefusal>
     requires making { IsMaking making.now }
     ensures accepted { IfOk result (λ _. clauses_and_rest_fault making.now.source.now making.now.target.now
         making.now.entities.now making.now.scopes.now making.now.clauses.now making.now.first ≡ None) }
     ensures made { IfOk result (λ made. made.0.items ≡ blocks_made making.now.source.now making.now.target.now
         making.now.entities.now making.now.scopes.now making.now.clauses.now) }
-    ensures tables { IfOk result (λ made. AreTablesOf making.now.target.now made.1) }
+    ensures beginnings { IfOk result (λ made. AreBeginningsOf making.now.target.now made.1) }
     ensures refused { IfErr result (λ refusal. (refusal ≡ ArrowRefusal.Memory)
         ⊎ (clauses_and_rest_fault making.now.source.now making.now.target.now making.now.entities.now
         making.now.scopes.now making.now.clauses.now making.now.first ≡ Some refusal)) }
 {
     check_clauses(alloc, making)?;
-    let tables = make_tables(alloc, making.target)?;
+    let beginnings = Beginnings::of(alloc, making.target)?;
     let index = make_index(alloc, making.target, making.clauses)?;
-    check_missing(alloc, making, &index, &tables)?;
-    let blocks = build_blocks(alloc, making, &index, &tables)?;
-    Ok((blocks, tables))
+    check_missing(alloc, making, &index, &beginnings)?;
+    let blocks = build_blocks(alloc, making, &index, &beginnings)?;
+    Ok((blocks, beginnings))
 }
 
 /// The blocks that the variables and the clauses give.
@@ -63,14 +63,14 @@ pub(crate) fn make_blocks(
     source: &Schema,
     target: &Schema,
     parts: &BlockParts,
-) -> Result<(Vec<Block>, Tables), ArrowRefusal>
+) -> Result<(Vec<Block>, Beginnings), ArrowRefusal>
     requires parts { AreBlockParts target.now parts.now }
     ensures accepted { IfOk result (λ _. variables_and_rest_fault source.now target.now parts.now.entities.now
         parts.now.first parts.now.vars.now parts.now.clauses.now ≡ None) }
     ensures made { IfOk result (λ made. made.0.items ≡ blocks_made source.now target.now parts.now.entities.now
         (scopes_of source.now parts.now.entities.now (length target.now.entities) parts.now.vars.now)
         parts.now.clauses.now) }
-    ensures tables { IfOk result (λ made. AreTablesOf target.now made.1) }
+    ensures beginnings { IfOk result (λ made. AreBeginningsOf target.now made.1) }
     ensures refused { IfErr result (λ refusal. (refusal ≡ ArrowRefusal.Memory)
         ⊎ (variables_and_rest_fault source.now target.now parts.now.entities.now parts.now.first parts.now.vars.now
         parts.now.clauses.now ≡ Some refusal)) }

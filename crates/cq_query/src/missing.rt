@@ -2,11 +2,11 @@
 ghost use Rattle.std.specs.Prelude.{ℕ, List, ◌≡◌, ◌<◌, ◌⊎◌, IfOk, IfErr, Some, None, length, map, option_copied};
 ghost use Rattle.std.specs.Prelude.{slice_get};
 ghost use Rattle.std.specs.List.{list_any};
+ghost use Rattle.cq_theory.specs.Beginnings.{AreBeginningsOf};
 ghost use Rattle.cq_theory.specs.Canonical.{below};
 ghost use Rattle.cq_theory.specs.Resolve.{or_else};
 ghost use Rattle.cq_query.specs.Assigned.{IsAssigned};
 ghost use Rattle.cq_query.specs.Index.{IsIndex};
-ghost use Rattle.cq_query.specs.Making.{AreTablesOf};
 ghost use Rattle.cq_query.specs.QueryParts.{is_attribute as is_the_attribute, is_key as is_the_key};
 ghost use Rattle.cq_query.specs.QueryParts.{attribute_given as given_attribute, key_given as given_key};
 ghost use Rattle.cq_query.specs.QueryParts.{assigned_given as given_assigned, first_of, missing_attribute, missing_key};
@@ -18,10 +18,9 @@ use crate::index::{Index, find_attribute, has_key};
 use crate::making::Making;
 use crate::parts::Clause;
 use crate::scopes::Scope;
-use crate::tables::Tables;
 use cq_base::{Name, Raw};
 use cq_theory::lookup::missing;
-use cq_theory::{ArrowRefusal, Schema, Symbol};
+use cq_theory::{ArrowRefusal, Beginnings, Schema, Symbol};
 use std::alloc::Global;
 
 fn is_attribute(attribute: usize, symbol: Option<Symbol>) -> bool
@@ -268,19 +267,19 @@ fn check_entity(
     alloc: Global,
     making: &Making,
     index: &Index,
-    tables: &Tables,
+    beginnings: &Beginnings,
     entity: usize,
 ) -> Result<(), ArrowRefusal>
     requires index { IsIndex making.now.target.now making.now.clauses.now index.now }
-    requires tables { AreTablesOf making.now.target.now tables.now }
+    requires beginnings { AreBeginningsOf making.now.target.now beginnings.now }
     requires entity { entity < length making.now.target.now.entities }
     ensures accepted { IfOk result (λ _. missing_at
         making.now.target.now making.now.scopes.now making.now.clauses.now entity ≡ None) }
     ensures refused { IfErr result (λ refusal. (refusal ≡ ArrowRefusal.Memory)
         ⊎ (missing_at making.now.target.now making.now.scopes.now making.now.clauses.now entity ≡ Some refusal)) }
 {
-    let attributes = tables.attributes.of(entity);
-    let keys = tables.keys.of(entity);
+    let attributes = beginnings.attributes.of(entity);
+    let keys = beginnings.keys.of(entity);
     check_lists(alloc, making, index, attributes, keys)
 }
 
@@ -317,10 +316,10 @@ pub(crate) fn check_missing(
     alloc: Global,
     making: &Making,
     index: &Index,
-    tables: &Tables,
+    beginnings: &Beginnings,
 ) -> Result<(), ArrowRefusal>
     requires index { IsIndex making.now.target.now making.now.clauses.now index.now }
-    requires tables { AreTablesOf making.now.target.now tables.now }
+    requires beginnings { AreBeginningsOf making.now.target.now beginnings.now }
     ensures accepted { IfOk result (λ _. missing_part
         making.now.target.now making.now.scopes.now making.now.clauses.now ≡ None) }
     ensures refused { IfErr result (λ refusal. (refusal ≡ ArrowRefusal.Memory)
@@ -328,7 +327,7 @@ pub(crate) fn check_missing(
 {
     let target = making.target;
     for entity in 0..target.entities.len() {
-        check_entity(alloc, making, index, tables, entity)?;
+        check_entity(alloc, making, index, beginnings, entity)?;
     }
     Ok(())
 }

@@ -10,9 +10,10 @@ ghost use Rattle.cq_query.specs.IsQuery.{IsQuery};
 use crate::making::{BlockParts, make_blocks};
 use crate::owners::make_entities;
 use crate::parts::QueryParts;
-use crate::tables::Tables;
 use cq_base::{Name, Seq};
-use cq_theory::{ArrowRefusal, Edge, EntTerm, Equation, Groups, ObsEq, PathEq, Schema, TypeTerm};
+use cq_theory::{
+    ArrowRefusal, Beginnings, Edge, EntTerm, Equation, Groups, ObsEq, PathEq, Schema, TypeTerm,
+};
 use std::alloc::Global;
 use std::marker::Model;
 use std::rc::Rc;
@@ -111,13 +112,13 @@ impl Query {
             clauses: clauses.as_slice(),
         };
         match make_blocks(alloc, &source, &target, &parts) {
-            Ok((blocks, tables)) => {
-                let Tables {
+            Ok((blocks, beginnings)) => {
+                let Beginnings {
                     keys,
                     attributes,
                     path_eqs,
                     obs_eqs,
-                } = tables;
+                } = beginnings;
                 Ok(Query {
                     source,
                     target,

@@ -1,10 +1,9 @@
 //! The equations of the schema are put into a graph at one node of each class, until two nodes are equal.
 use crate::forest::Reason;
 use crate::graph::Graph;
-use crate::groups::Groups;
 use crate::halt::Halt;
 use crate::putting::{Wanted, put_key, put_path, put_type_term};
-use cq_theory::{ObsEq, PathEq, Schema};
+use cq_theory::{Beginnings, Groups, ObsEq, PathEq, Schema};
 use std::alloc::Global;
 
 /// How far the nodes were gone through: those before `expanded` to put the equations of the schema in, those before
@@ -26,7 +25,7 @@ pub fn join_by_equations(
     left: u64,
     right: u64,
 ) -> Result<bool, Halt> {
-    let groups = Groups::of(alloc, schema)?;
+    let beginnings = Beginnings::of(alloc, schema)?;
     let mut progress = Progress {
         expanded: 0,
         followed: 0,
@@ -35,7 +34,7 @@ pub fn join_by_equations(
         if graph.are_joined(left, right) {
             return Ok(true);
         }
-        match advance(alloc, graph, schema, &groups, progress)? {
+        match advance(alloc, graph, schema, &beginnings, progress)? {
             Some(next) => progress = next,
             None => return Ok(false),
         }
@@ -48,13 +47,13 @@ fn advance(
     alloc: Global,
     graph: &mut Graph,
     schema: &Schema,
-    groups: &Groups,
+    beginnings: &Beginnings,
     progress: Progress,
 ) -> Result<Option<Progress>, Halt> {
     let Progress { expanded, followed } = progress;
     let count = graph.terms.len();
     if expanded < count {
-        expand(alloc, graph, schema, groups, expanded)?;
+        expand(alloc, graph, schema, beginnings, expanded)?;
         graph.close()?;
         return Ok(Some(Progress {
             expanded: expanded + 1,
@@ -62,7 +61,7 @@ fn advance(
         }));
     }
     if followed < count {
-        follow(alloc, graph, schema, groups, followed)?;
+        follow(alloc, graph, schema, beginnings, followed)?;
         graph.close()?;
         return Ok(Some(Progress {
             expanded,
@@ -72,21 +71,36 @@ fn advance(
     Ok(None)
 }
 
+/// The numbers of what begins at an entity.
+fn of(groups: &Groups, entity: u32) -> &[usize] {
+    match groups.groups.as_slice().get(entity as usize) {
+        Some(numbers) => numbers.as_slice(),
+        None => &[],
+    }
+}
+
+fn counted(number: usize) -> Result<u32, Halt> {
+    match u32::try_from(number) {
+        Ok(number) => Ok(number),
+        Err(_) => Err(Halt::Absent),
+    }
+}
+
 /// Puts the equations of a node's entity in at the node, unless they were at another one of its class. Those that hold
 /// there already are left out.
 fn expand(
     alloc: Global,
     graph: &mut Graph,
     schema: &Schema,
-    groups: &Groups,
+    beginnings: &Beginnings,
     node: u64,
 ) -> Result<(), Halt> {
     let Some(entity) = graph.terms.entity(node) else {
         return Ok(());
     };
     if graph.classes.expand(node) {
-        put_path_eqs(alloc, graph, schema, groups.path_eqs(entity), node)?;
-        put_obs_eqs(alloc, graph, schema, groups.obs_eqs(entity), node)?;
+        put_path_eqs(alloc, graph, schema, of(&beginnings.path_eqs, entity), node)?;
+        put_obs_eqs(alloc, graph, schema, of(&beginnings.obs_eqs, entity), node)?;
     }
     Ok(())
 }
@@ -95,17 +109,17 @@ fn put_path_eqs(
     alloc: Global,
     graph: &mut Graph,
     schema: &Schema,
-    numbers: &[u32],
+    numbers: &[usize],
     node: u64,
 ) -> Result<(), Halt> {
     for number in numbers {
-        let Some(equation) = schema.path_eqs.as_slice().get(*number as usize) else {
+        let Some(equation) = schema.path_eqs.as_slice().get(*number) else {
             return Err(Halt::Absent);
         };
         let (left, right) = path_sides(alloc, graph, schema, equation, node, Wanted::AnyEqual)?;
         if !graph.are_joined(left, right) {
             let sides = path_sides(alloc, graph, schema, equation, node, Wanted::Itself)?;
-            graph.equate(sides.0, sides.1, Reason::Path(*number, node))?;
+            graph.equate(sides.0, sides.1, Reason::Path(counted(*number)?, node))?;
         }
     }
     Ok(())
@@ -135,17 +149,17 @@ fn put_obs_eqs(
     alloc: Global,
     graph: &mut Graph,
     schema: &Schema,
-    numbers: &[u32],
+    numbers: &[usize],
     node: u64,
 ) -> Result<(), Halt> {
     for number in numbers {
-        let Some(equation) = schema.obs_eqs.as_slice().get(*number as usize) else {
+        let Some(equation) = schema.obs_eqs.as_slice().get(*number) else {
             return Err(Halt::Absent);
         };
         let (left, right) = obs_sides(alloc, graph, schema, equation, node, Wanted::AnyEqual)?;
         if !graph.are_joined(left, right) {
             let sides = obs_sides(alloc, graph, schema, equation, node, Wanted::Itself)?;
-            graph.equate(sides.0, sides.1, Reason::Obs(*number, node))?;
+            graph.equate(sides.0, sides.1, Reason::Obs(counted(*number)?, node))?;
         }
     }
     Ok(())
@@ -169,15 +183,15 @@ fn follow(
     alloc: Global,
     graph: &mut Graph,
     schema: &Schema,
-    groups: &Groups,
+    beginnings: &Beginnings,
     node: u64,
 ) -> Result<(), Halt> {
     let Some(entity) = graph.terms.entity(node) else {
         return Ok(());
     };
     if graph.classes.follow(node) {
-        for key in groups.keys(entity) {
-            put_key(alloc, graph, schema, node, *key, Wanted::AnyEqual)?;
+        for key in of(&beginnings.keys, entity) {
+            put_key(alloc, graph, schema, node, counted(*key)?, Wanted::AnyEqual)?;
         }
     }
     Ok(())

@@ -5,7 +5,6 @@ mod classes;
 mod expanding;
 mod forest;
 mod graph;
-mod groups;
 mod halt;
 mod listing;
 mod needed;

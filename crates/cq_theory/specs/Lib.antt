@@ -29,3 +29,4 @@ pub mod SchemaParts
 pub mod Routes
 pub mod ArrowRefusals
 pub mod Groups
+pub mod Beginnings

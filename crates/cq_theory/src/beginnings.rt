@@ -1,5 +1,6 @@
 //! What begins at each entity of a schema: its foreign keys, attributes and equations.
 ghost use Rattle.std.specs.Prelude.{◌≡◌, ◌<◌, All, IfOk, length};
+ghost use Rattle.cq_theory.specs.Beginnings.{AreBeginningsOf};
 ghost use Rattle.cq_theory.specs.Groups.{AreGroups};
 ghost use Rattle.cq_theory.specs.Groups.{edge_sources as sources_of_edges, path_eq_sources as sources_of_path_eqs};
 ghost use Rattle.cq_theory.specs.Groups.{obs_eq_sources as sources_of_obs_eqs};
@@ -7,6 +8,34 @@ ghost use Rattle.cq_theory.specs.Groups.{obs_eq_sources as sources_of_obs_eqs};
 use crate::groups::Groups;
 use crate::schema::{Edge, ObsEq, PathEq, Schema};
 use std::alloc::{AllocError, Global};
+
+/// The foreign keys, attributes, path equations and observation equations that begin at each entity of a schema, and
+/// the place of each among those of its entity.
+#[derive(Drop)]
+pub struct Beginnings {
+    pub keys: Groups,
+    pub attributes: Groups,
+    pub path_eqs: Groups,
+    pub obs_eqs: Groups,
+}
+
+impl Beginnings {
+    /// What begins at each entity of a schema.
+    pub fn of(alloc: Global, schema: &Schema) -> Result<Beginnings, AllocError>
+        ensures { IfOk result (AreBeginningsOf schema.now) }
+    {
+        let keys = keys_by_entity(alloc, schema)?;
+        let attributes = attributes_by_entity(alloc, schema)?;
+        let path_eqs = path_equations_by_entity(alloc, schema)?;
+        let obs_eqs = observation_equations_by_entity(alloc, schema)?;
+        Ok(Beginnings {
+            keys,
+            attributes,
+            path_eqs,
+            obs_eqs,
+        })
+    }
+}
 
 fn edge_sources(alloc: Global, edges: &[Edge]) -> Result<Vec<u32>, AllocError>
     ensures { IfOk result (λ sources. sources.items ≡ sources_of_edges edges.now) }

@@ -32,7 +32,8 @@ pub mod value;
 pub mod value_text;
 
 pub use beginnings::{
-    attributes_by_entity, keys_by_entity, observation_equations_by_entity, path_equations_by_entity,
+    Beginnings, attributes_by_entity, keys_by_entity, observation_equations_by_entity,
+    path_equations_by_entity,
 };
 pub use constant::{Con, is_reserved};
 pub use groups::{Groups, empty_groups, sealed};

@@ -8,18 +8,18 @@ use Rattle.cq_theory.proofs.Grouped.{group_within, group_read}
 use Rattle.cq_query.proofs.blocks.make_block_at.Goals as goal
 
 pub of-attributes-requires : goal.of-attributes-requires
-of-attributes-requires c = group_within _ _ c.args.entity _ c.requires.tables.attributes c.requires.entity
+of-attributes-requires c = group_within _ _ c.args.entity _ c.requires.beginnings.attributes c.requires.entity
 
 pub of-keys-requires : goal.of-keys-requires
-of-keys-requires c = group_within _ _ c.args.entity _ c.requires.tables.keys c.requires.entity
+of-keys-requires c = group_within _ _ c.args.entity _ c.requires.beginnings.keys c.requires.entity
 
 pub make_block-requires-clause-entity : goal.make_block-requires-clause-entity
 make_block-requires-clause-entity c = omega (arith, c.requires.entity, c.requires.making.scopes)
 
 pub returns : goal.returns
 returns c =
-    let attributes = group_read _ _ c.args.entity _ c.requires.tables.attributes c.requires.entity _ c.of-attributes.ensures in
-    let keys = group_read _ _ c.args.entity _ c.requires.tables.keys c.requires.entity _ c.of-keys.ensures in
+    let attributes = group_read _ _ c.args.entity _ c.requires.beginnings.attributes c.requires.entity _ c.of-attributes.ensures in
+    let keys = group_read _ _ c.args.entity _ c.requires.beginnings.keys c.requires.entity _ c.of-keys.ensures in
     let both : (c.of-attributes.result.now, c.of-keys.result.now) ≡ (positions (edge_sources c.args.making.now.target.now.attributes) c.args.entity, positions (edge_sources c.args.making.now.target.now.keys) c.args.entity)
     = λ i. (attributes i, keys i) in
     let With : List ℕ × List ℕ → Block = λ l. record {

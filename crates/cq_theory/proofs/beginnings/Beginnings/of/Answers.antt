@@ -1,4 +1,4 @@
-use Rattle.cq_query.proofs.tables.make_tables.Goals as goal
+use Rattle.cq_theory.proofs.beginnings.Beginnings.of.Goals as goal
 
 pub returns : goal.returns
 returns c = record {
