@@ -45,8 +45,8 @@ mod places;
 mod reading;
 mod standing;
 mod terms;
-pub mod transform;
-pub mod values;
+mod transform;
+mod values;
 mod walk;
 
 pub use building::{BuildRefusal, build};
@@ -57,3 +57,4 @@ pub use key_index::KeyIndex;
 pub use moving::MoveRefusal;
 pub use standing::Standing;
 pub use transform::{Image, Transform};
+pub use values::copied;

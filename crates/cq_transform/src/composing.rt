@@ -13,8 +13,7 @@ ghost use Rattle.cq_transform.specs.Transforms.{GoesFrom};
 use crate::putting::put_image;
 use crate::sizes::is_long;
 use cq_base::{Seq, number_at};
-use cq_model::values::copied;
-use cq_model::{Image, Instance, Transform};
+use cq_model::{Image, Instance, Transform, copied};
 use cq_theory::{Con, SizeRefusal, Value};
 use std::alloc::{AllocError, Global};
 

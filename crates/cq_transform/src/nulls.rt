@@ -17,8 +17,7 @@ ghost use Rattle.cq_transform.specs.Nulls.{AreAttributesClosed, IsStandingOf, Is
 use crate::entries::find_entries;
 use crate::found::{open_label, put, values_of};
 use cq_base::{Seq, number_at};
-use cq_model::values::copied;
-use cq_model::{Instance, Standing};
+use cq_model::{Instance, Standing, copied};
 use cq_theory::{Con, Sort, TypeTerm, Value};
 use std::alloc::{AllocError, Global};
 
