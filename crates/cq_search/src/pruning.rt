@@ -32,8 +32,8 @@ fn keep(
     step: Step,
     numbers: &[u64],
 ) -> Result<(), AllocError> {
-    let step = renumbered(alloc, step, numbers)?;
-    kept.push(step)
+    kept.push(renumbered(alloc, step, numbers)?)?;
+    Ok(())
 }
 
 /// For each step, whether the last one rests on it.
