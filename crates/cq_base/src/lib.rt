@@ -1,6 +1,7 @@
 //! Names, places in a file, terms as they are written, and lists that contracts see as their items.
 #![tactic(auto)]
 
+pub mod escapes;
 pub mod hashing;
 pub mod name;
 pub mod names;
@@ -10,6 +11,7 @@ pub mod seq;
 pub mod shared;
 pub mod source;
 
+pub use escapes::unescape;
 pub use hashing::Hashing;
 pub use name::{Name, NameRefusal};
 pub use names::{Names, NamesRefusal};

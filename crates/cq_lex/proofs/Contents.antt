@@ -6,7 +6,8 @@ use Rattle.std.specs.List.{prefix_len}
 use Rattle.cq_lex.specs.declared.token.Kind.TheVariants as kinds
 use Rattle.cq_lex.specs.declared.fault.Fault.{Fault}
 use Rattle.cq_lex.specs.declared.fault.Fault.TheVariants as faults
-use Rattle.cq_lex.specs.Bytes.{escape, is_plain}
+use Rattle.cq_base.specs.Escapes.{unescape}
+use Rattle.cq_lex.specs.Bytes.{is_plain}
 use Rattle.cq_lex.specs.Front.{Content, Closed, Wrong, Open, behind, content, Next, at_text, Gives, Names}
 
 pub append_nil : {A : Type 0} (xs : List A) → xs ++ [] ≡ xs
@@ -39,11 +40,11 @@ module _ (whole : Content) (front : List ℕ) (b : ℕ) (after : List ℕ) (so_f
   unfolding content
   breaks_off q s e = so_far ∙ rw (q, s, e) refl
 
-  pub is_wrong : (e : ℕ) (rest : List ℕ) → nat_eq b 34 ≡ false → nat_eq b 92 ≡ true → after ≡ e ∷ rest → escape e ≡ None → whole ≡ Wrong after
+  pub is_wrong : (e : ℕ) (rest : List ℕ) → nat_eq b 34 ≡ false → nat_eq b 92 ≡ true → after ≡ e ∷ rest → unescape e ≡ None → whole ≡ Wrong after
   unfolding content
   is_wrong e rest q s is n = so_far ∙ rw (q, s, is, n) refl
 
-  pub escapes : (e : ℕ) (rest : List ℕ) (c : ℕ) → nat_eq b 34 ≡ false → nat_eq b 92 ≡ true → after ≡ e ∷ rest → escape e ≡ Some c → whole ≡ behind (front ++ c ∷ []) (content false rest)
+  pub escapes : (e : ℕ) (rest : List ℕ) (c : ℕ) → nat_eq b 34 ≡ false → nat_eq b 92 ≡ true → after ≡ e ∷ rest → unescape e ≡ Some c → whole ≡ behind (front ++ c ∷ []) (content false rest)
   unfolding content
   escapes e rest c q s is n = so_far ∙ rw (q, s, is, n) (behind_one front c (content false rest))
 

@@ -12,7 +12,8 @@ use Rattle.cq_lex.specs.declared.token.Mark.{Mark}
 use Rattle.cq_lex.specs.declared.token.Mark.TheVariants as marks
 use Rattle.cq_lex.specs.declared.refusal.LexRefusal.{LexRefusal}
 use Rattle.cq_lex.specs.Place.{place_behind, stays_on_line}
-use Rattle.cq_lex.specs.Bytes.{is_blank, is_word_byte, quote, backslash, escape, mark_bytes}
+use Rattle.cq_base.specs.Escapes.{unescape}
+use Rattle.cq_lex.specs.Bytes.{is_blank, is_word_byte, quote, backslash, mark_bytes}
 use Rattle.cq_lex.specs.Front.{Cause, BadByte, OpenText, OpenComment, LongName, Gap, Next, Fails, Closed, Wrong, Open, content, behind_block, mark_of, at_word, at_text, at_block, at_slash, at_minus, at_mark, front}
 use Rattle.cq_lex.specs.Tokens.{Begins, IsRun, NeverEnds, IsGap, blank, line_comment, block_comment, Writes, Spells, CannotMake, stray, wrong_escape, open_text, open_escape, no_utf8, long_text, long_word, open_comment}
 use Rattle.cq_lex.proofs.Runs.{run_len, fits, too_long, utf8_false, and_left}
@@ -137,7 +138,7 @@ open_escape_front : {written text : List ℕ} → Writes written text → conten
 unfolding content
 open_escape_front w = reads_written w (backslash ∷ [])
 
-wrong_front : {written text : List ℕ} (e : ℕ) (after : List ℕ) → Writes written text → escape e ≡ None → content false (written ++ backslash ∷ e ∷ after) ≡ Wrong (e ∷ after)
+wrong_front : {written text : List ℕ} (e : ℕ) (after : List ℕ) → Writes written text → unescape e ≡ None → content false (written ++ backslash ∷ e ∷ after) ≡ Wrong (e ∷ after)
 unfolding content
 wrong_front e after w none = reads_written w (backslash ∷ e ∷ after) ∙ rw none refl
 

@@ -2,7 +2,8 @@
 use Rattle.std.proofs.Common.{◌≡◌, ℕ, List, [], ◌∷◌, ◌++◌, Bool, true, false, refl, sym, ap, subst, append_assoc, inl, inr, ◌⊎◌, arith}
 use Rattle.std.proofs.lemmas.Bool.Decides.{nat_tests}
 use Rattle.std.specs.Prelude.{◌≢◌, Option, Some, None, nat_eq, if◌then◌else◌}
-use Rattle.cq_lex.specs.Bytes.{quote, backslash, escape}
+use Rattle.cq_base.specs.Escapes.{unescape}
+use Rattle.cq_lex.specs.Bytes.{quote, backslash}
 use Rattle.cq_lex.specs.Front.{Content, Closed, Wrong, Open, behind, behind_escape, content}
 use Rattle.cq_lex.specs.Tokens.{Writes, nothing, itself, escaped}
 use Rattle.cq_lex.proofs.Contents.{is_other}
@@ -17,7 +18,7 @@ byte_differs a b e h = grind (arith, nat_tests)
 abbrev pub IsContent : List ℕ → Content → Type 0
 IsContent bs (Closed content rest) = (written : List ℕ) × (bs ≡ written ++ quote ∷ rest) × Writes written content
 IsContent bs (Wrong at) =
-    (written : List ℕ) × (content : List ℕ) × (e : ℕ) × (rest : List ℕ) × (bs ≡ written ++ backslash ∷ e ∷ rest) × (at ≡ e ∷ rest) × Writes written content × (escape e ≡ None)
+    (written : List ℕ) × (content : List ℕ) × (e : ℕ) × (rest : List ℕ) × (bs ≡ written ++ backslash ∷ e ∷ rest) × (at ≡ e ∷ rest) × Writes written content × (unescape e ≡ None)
 IsContent bs Open = (written : List ℕ) × (content : List ℕ) × Writes written content × ((bs ≡ written) ⊎ (bs ≡ written ++ backslash ∷ []))
 
 -- the bytes with the backslash before them
@@ -35,7 +36,7 @@ goes_on b bs (Wrong at) q s (written, content, e, rest, split, is, w, none) = (b
 goes_on b bs Open q s (written, content, w, inl split) = (b ∷ written, b ∷ content, itself q s w, inl (ap (λ z. b ∷ z) split))
 goes_on b bs Open q s (written, content, w, inr split) = (b ∷ written, b ∷ content, itself q s w, inr (ap (λ z. b ∷ z) split))
 
-after_escape : (e : ℕ) (bs : List ℕ) (o : Option ℕ) (c : Content) → escape e ≡ o → IsContent bs c → IsContent (backslash ∷ e ∷ bs) (behind_escape o (e ∷ bs) c)
+after_escape : (e : ℕ) (bs : List ℕ) (o : Option ℕ) (c : Content) → unescape e ≡ o → IsContent bs c → IsContent (backslash ∷ e ∷ bs) (behind_escape o (e ∷ bs) c)
 after_escape e bs None c none h = ([], [], e, bs, refl, refl, nothing, none)
 after_escape e bs (Some b) (Closed content rest) is (written, split, w) = (backslash ∷ e ∷ written, ap (λ z. backslash ∷ e ∷ z) split, escaped is w)
 after_escape e bs (Some b) (Wrong at) is (written, content, e', rest, split, same, w, none) = (backslash ∷ e ∷ written, b ∷ content, e', rest, ap (λ z. backslash ∷ e ∷ z) split, same, escaped is w, none)
@@ -48,7 +49,7 @@ read_content false [] = ([], [], nothing, inl refl)
 read_content true [] = ([], [], nothing, inr refl)
 read_content false (b ∷ bs) =
     choose (IsContent (b ∷ bs)) (nat_eq b quote) _ _ (λ q. ([], ap (λ z. z ∷ bs) (byte_is b quote q), nothing)) (λ q. choose (IsContent (b ∷ bs)) (nat_eq b backslash) _ _ (λ s. subst (λ z. IsContent (z ∷ bs) (content true bs)) (sym (byte_is b backslash s)) (read_content true bs)) (λ s. goes_on b bs (content false bs) (byte_differs b quote q) (byte_differs b backslash s) (read_content false bs)))
-read_content true (b ∷ bs) = after_escape b bs (escape b) (content false bs) refl (read_content false bs)
+read_content true (b ∷ bs) = after_escape b bs (unescape b) (content false bs) refl (read_content false bs)
 
 pub is_content : (bs : List ℕ) → IsContent bs (content false bs)
 is_content bs = read_content false bs

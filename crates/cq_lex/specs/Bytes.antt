@@ -1,5 +1,5 @@
--- The bytes that blanks, words, marks and escapes are made of.
-use Rattle.std.specs.Prelude.{ℕ, List, [], ◌∷◌, Bool, Option, Some, None, nat_eq, if◌then◌else◌, ◌||◌, ◌&&◌, not}
+-- The bytes that blanks, words and marks are made of.
+use Rattle.std.specs.Prelude.{ℕ, List, [], ◌∷◌, Bool, nat_eq, ◌||◌, ◌&&◌, not}
 use Rattle.std.specs.Char.{is_ascii_alphanumeric}
 use Rattle.cq_lex.specs.declared.token.Mark.{Mark}
 use Rattle.cq_lex.specs.declared.token.Mark.TheVariants as marks
@@ -29,16 +29,6 @@ star = 42
 -- a byte of a text that stands for itself
 abbrev pub is_plain : ℕ → Bool
 is_plain b = not (nat_eq b quote) && not (nat_eq b backslash)
-
--- what a byte stands for behind a backslash: `"` and `\` for themselves, `n` for LF, `t` for a tab, `r` for CR
-abbrev pub escape : ℕ → Option ℕ
-escape b =
-    if nat_eq b 34 then Some 34
-    else (if nat_eq b 92 then Some 92
-    else (if nat_eq b 110 then Some 10
-    else (if nat_eq b 116 then Some 9
-    else (if nat_eq b 114 then Some 13
-    else None))))
 
 -- how a mark is spelled: { } ( ) [ ] : ; , . = + ->
 abbrev pub mark_bytes : Mark → List ℕ

@@ -15,7 +15,8 @@ use Rattle.cq_lex.specs.declared.fault.Fault.TheVariants as faults
 use Rattle.cq_lex.specs.declared.fronts.Front.{Front}
 use Rattle.cq_lex.specs.declared.fronts.Front.TheVariants as fronts
 use Rattle.cq_lex.specs.Place.{place_behind, stays_on_line}
-use Rattle.cq_lex.specs.Bytes.{is_blank, is_word_byte, quote, backslash, escape}
+use Rattle.cq_base.specs.Escapes.{unescape}
+use Rattle.cq_lex.specs.Bytes.{is_blank, is_word_byte, quote, backslash}
 
 -- the four faults
 pub data Cause : Type 0 where
@@ -51,7 +52,7 @@ unfoldable pub content : Bool → List ℕ → Content
 content escaping [] = Open
 content false (b ∷ bs) =
     if nat_eq b quote then Closed [] bs else (if nat_eq b backslash then content true bs else behind (b ∷ []) (content false bs))
-content true (b ∷ bs) = behind_escape (escape b) (b ∷ bs) (content false bs)
+content true (b ∷ bs) = behind_escape (unescape b) (b ∷ bs) (content false bs)
 
 -- the bytes behind the next `*/`
 abbrev pub behind_block : List ℕ → Option (List ℕ)

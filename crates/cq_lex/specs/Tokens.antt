@@ -9,7 +9,8 @@ use Rattle.cq_lex.specs.declared.token.Mark.{Mark}
 use Rattle.cq_lex.specs.declared.refusal.LexRefusal.{LexRefusal}
 use Rattle.cq_lex.specs.declared.refusal.LexRefusal.TheVariants as refusals
 use Rattle.cq_lex.specs.Place.{place_behind, stays_on_line}
-use Rattle.cq_lex.specs.Bytes.{is_blank, is_word_byte, quote, backslash, slash, star, escape, mark_bytes}
+use Rattle.cq_base.specs.Escapes.{unescape}
+use Rattle.cq_lex.specs.Bytes.{is_blank, is_word_byte, quote, backslash, slash, star, mark_bytes}
 
 -- the bytes begin with these
 abbrev pub Begins : List ℕ → List ℕ → Type 0
@@ -41,7 +42,7 @@ pub data Writes : List ℕ → List ℕ → Type 0 where
   nothing : Writes [] []
   itself : {b : ℕ} {bytes content : List ℕ} → b ≢ quote → b ≢ backslash
       → Writes bytes content → Writes (b ∷ bytes) (b ∷ content)
-  escaped : {e b : ℕ} {bytes content : List ℕ} → escape e ≡ Some b
+  escaped : {e b : ℕ} {bytes content : List ℕ} → unescape e ≡ Some b
       → Writes bytes content → Writes (backslash ∷ e ∷ bytes) (b ∷ content)
 
 -- the bytes spell a token of this kind, where `after` follows
@@ -77,7 +78,7 @@ pub data CannotMake (before : List ℕ) : List ℕ → LexRefusal → Type 0 whe
       → (Begins (slash ∷ star ∷ []) (b ∷ bytes) → ⊥)
       → CannotMake before (b ∷ bytes) (refusals.BadByte (place_behind before))
   -- a wrong byte behind a backslash, all before it being well written
-  wrong_escape : {written content : List ℕ} (e : ℕ) (after : List ℕ) → Writes written content → escape e ≡ None
+  wrong_escape : {written content : List ℕ} (e : ℕ) (after : List ℕ) → Writes written content → unescape e ≡ None
       → CannotMake before (quote ∷ written ++ backslash ∷ e ∷ after)
       (refusals.BadByte (place_behind (before ++ (quote ∷ written ++ backslash ∷ []))))
   -- the file ends in a text, maybe right behind a backslash

@@ -1,4 +1,4 @@
-//! The bytes that blanks, words, marks and escapes are made of.
+//! The bytes that blanks, words and marks are made of.
 ghost use Rattle.std.specs.Prelude.{◌≡◌, ◌≤◌, length};
 ghost use Rattle.std.specs.List.{prefix_len};
 ghost use Rattle.cq_lex.specs.Bytes as rules;
@@ -47,20 +47,6 @@ pub(crate) fn line_len(bytes: &[u8]) -> usize
     ensures within { result ≤ length bytes.now }
 {
     bytes.iter().take_while(|byte| **byte != b'\n').count()
-}
-
-/// The byte for which a backslash and this one stand.
-pub(crate) fn escape(byte: u8) -> Option<u8>
-    ensures { result ≡ rules.escape byte }
-{
-    match byte {
-        b'"' => Some(b'"'),
-        b'\\' => Some(b'\\'),
-        b'n' => Some(b'\n'),
-        b't' => Some(b'\t'),
-        b'r' => Some(b'\r'),
-        _ => None,
-    }
 }
 
 /// The mark of one byte.

@@ -3,11 +3,11 @@ ghost use Rattle.std.specs.Prelude.{◌≡◌, false};
 ghost use Rattle.cq_lex.specs.Front as found;
 ghost use Rattle.cq_lex.specs.Front.{Gives, Names, Reads};
 
-use crate::bytes::{escape, plain_len};
+use crate::bytes::plain_len;
 use crate::fault::Fault;
 use crate::fronts::Front;
 use crate::token::Kind;
-use cq_base::{Name, NameRefusal, Source};
+use cq_base::{Name, NameRefusal, Source, unescape};
 use std::alloc::Global;
 
 /// The name whose bytes are `content`, for a token that begins at `token`. Where the content is written as it is, it
@@ -53,7 +53,7 @@ fn content<'a>(
         let Some((second, behind)) = after.split_first() else {
             return Err(Fault::OpenText(token));
         };
-        let Some(byte) = escape(*second) else {
+        let Some(byte) = unescape(*second) else {
             return Err(Fault::BadByte(after));
         };
         content.push(byte)?;

@@ -3,7 +3,8 @@ use Rattle.std.proofs.Common.{◌≡◌, ℕ, List, [], ◌∷◌, ◌++◌, len
 use Rattle.std.proofs.lemmas.Bool.Decides.{nat_tests}
 use Rattle.std.proofs.lemmas.List.{append-nil}
 use Rattle.std.specs.Prelude.{Some, None, ◌==◌, cond}
-use Rattle.cq_values.specs.Reading.{Front, behind, behind_escape, stands_alone, unescape, unquoted}
+use Rattle.cq_base.specs.Escapes.{unescape}
+use Rattle.cq_values.specs.Reading.{Front, behind, behind_escape, stands_alone, unquoted}
 
 behind_none : (c : Front (List ℕ)) → c ≡ behind [] c
 behind_none None = refl

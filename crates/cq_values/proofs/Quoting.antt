@@ -5,7 +5,8 @@ use Rattle.std.specs.List.{flat_map}
 use Rattle.std.proofs.lemmas.Bool.Decides.{nat_tests}
 use Rattle.std.proofs.lemmas.Option.{some_pair_parts}
 use Rattle.cq_theory.specs.ValueText.{escape}
-use Rattle.cq_values.specs.Reading.{Front, unescape, stands_alone, behind, behind_escape, unquoted}
+use Rattle.cq_base.specs.Escapes.{unescape}
+use Rattle.cq_values.specs.Reading.{Front, stands_alone, behind, behind_escape, unquoted}
 
 -- how a byte stands in quotes: alone, or as an escape
 pub record Alone (b : ℕ) : Type 0 where

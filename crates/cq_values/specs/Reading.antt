@@ -4,6 +4,7 @@ use Rattle.std.specs.Prelude.{if◌then◌else◌, nat_le, length, take, drop, s
 use Rattle.std.specs.List.{list_all, prefix_len}
 use Rattle.std.specs.Str.Parse.{digits_value}
 use Rattle.std.specs.Char.{is_ascii_digit}
+use Rattle.cq_base.specs.Escapes.{unescape}
 use Rattle.cq_base.specs.Names.{number_of}
 use Rattle.cq_theory.specs.declared.constant.Con.{Con}
 use Rattle.cq_theory.specs.declared.constant.Con.TheVariants.{Named, Open}
@@ -40,16 +41,6 @@ quoted_or_open (Some c) text = if is_word text then None else Some (Named c)
 -- a quoted text is a declared constant whose name is no word, or else an open one
 abbrev pub quoted_constant : Typeside → List ℕ → Option Con
 quoted_constant T text = quoted_or_open (number_of (constant_names T) text) text
-
--- the byte that this one stands for behind a backslash
-abbrev pub unescape : ℕ → Option ℕ
-unescape b =
-    if b == 34 then Some 34
-    else (if b == 92 then Some 92
-    else (if b == 110 then Some 10
-    else (if b == 116 then Some 9
-    else (if b == 114 then Some 13
-    else None))))
 
 -- a byte that stands in quotes without a backslash
 abbrev pub stands_alone : ℕ → Bool

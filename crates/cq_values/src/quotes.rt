@@ -3,22 +3,9 @@ ghost use Rattle.std.specs.Prelude.{◌≡◌, false, IfOk, option_map};
 ghost use Rattle.cq_values.specs.Reading as reading;
 
 use crate::constants::quoted_value;
+use cq_base::unescape;
 use cq_theory::{Typeside, Value};
 use std::alloc::{AllocError, Global};
-
-/// The byte that this one stands for behind a backslash.
-fn unescape(byte: u8) -> Option<u8>
-    ensures { result ≡ reading.unescape byte }
-{
-    match byte {
-        b'"' => Some(b'"'),
-        b'\\' => Some(b'\\'),
-        b'n' => Some(b'\n'),
-        b't' => Some(b'\t'),
-        b'r' => Some(b'\r'),
-        _ => None,
-    }
-}
 
 /// Whether the byte stands in quotes without a backslash.
 fn stands_alone(byte: u8) -> bool

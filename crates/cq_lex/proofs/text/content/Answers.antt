@@ -19,15 +19,15 @@ returns-in_default-split_first c =
     let so_far = c.bytes.invariant ∙ ap (λ z. behind c.bytes.content.items (found.content false z)) c.in-Some.ensures.cases.0 in
     (breaks_off _ c.bytes.content.items c.in-Some.first.now c.in-Some.after.now so_far (is_other _ _ c.if-first-eq34.false) (is_byte _ _ c.if-first-ne92.false) (no_more _ c.in_default-split_first.ensures.cases), refl)
 
-pub returns-in_default-escape : goal.returns-in_default-escape
-returns-in_default-escape c =
+pub returns-in_default-unescape : goal.returns-in_default-unescape
+returns-in_default-unescape c =
     let so_far = c.bytes.invariant ∙ ap (λ z. behind c.bytes.content.items (found.content false z)) c.in-Some.ensures.cases.0 in
-    is_wrong _ c.bytes.content.items c.in-Some.first.now c.in-Some.after.now so_far c.in-Some-split_first.second.now c.in-Some-split_first.behind.now (is_other _ _ c.if-first-eq34.false) (is_byte _ _ c.if-first-ne92.false) c.in-Some-split_first.ensures.cases.0 (sym c.in_default-escape.ensures)
+    is_wrong _ c.bytes.content.items c.in-Some.first.now c.in-Some.after.now so_far c.in-Some-split_first.second.now c.in-Some-split_first.behind.now (is_other _ _ c.if-first-eq34.false) (is_byte _ _ c.if-first-ne92.false) c.in-Some-split_first.ensures.cases.0 (sym c.in_default-unescape.ensures)
 
 pub bytes-preserved : goal.bytes-preserved
 bytes-preserved c =
     let so_far = c.bytes.invariant ∙ ap (λ z. behind c.bytes.content.items (found.content false z)) c.in-Some.ensures.cases.0 in
-    escapes _ c.bytes.content.items c.in-Some.first.now c.in-Some.after.now so_far c.in-Some-split_first.second.now c.in-Some-split_first.behind.now c.in-Some-escape.byte (is_other _ _ c.if-first-eq34.false) (is_byte _ _ c.if-first-ne92.false) c.in-Some-split_first.ensures.cases.0 (sym c.in-Some-escape.ensures) ∙ ap (λ z. behind z (found.content false c.in-Some-split_first.behind.now)) (sym c.in_ok-push-2.ensures.items)
+    escapes _ c.bytes.content.items c.in-Some.first.now c.in-Some.after.now so_far c.in-Some-split_first.second.now c.in-Some-split_first.behind.now c.in-Some-unescape.byte (is_other _ _ c.if-first-eq34.false) (is_byte _ _ c.if-first-ne92.false) c.in-Some-split_first.ensures.cases.0 (sym c.in-Some-unescape.ensures) ∙ ap (λ z. behind z (found.content false c.in-Some-split_first.behind.now)) (sym c.in_ok-push-2.ensures.items)
 
 pub returns : goal.returns
 returns c = (runs_out _ c.bytes.content.items c.bytes.rest.now c.in_default.ensures.cases c.bytes.invariant, refl)
