@@ -4,27 +4,27 @@
 //! stand, the cells are read in order (`cells`, `labels`), and the presentation is made (`presenting`, `generators`).
 #![tactic(auto)]
 
-pub mod cells;
+mod cells;
 pub mod columns;
 pub mod content;
-pub mod entity_file;
-pub mod entries;
-pub mod entries_file;
-pub mod entries_text;
-pub mod folder;
-pub mod generators;
-pub mod ids;
-pub mod importing;
-pub mod importing_entries;
+mod entity_file;
+mod entries;
+mod entries_file;
+mod entries_text;
+mod folder;
+mod generators;
+mod ids;
+mod importing;
+mod importing_entries;
 pub mod labels;
-pub mod lines;
-pub mod nulls;
-pub mod presenting;
-pub mod presenting_entries;
-pub mod records;
+mod lines;
+mod nulls;
+mod presenting;
+mod presenting_entries;
+mod records;
 pub mod refusal;
-pub mod rows;
-pub mod tables;
+mod rows;
+mod tables;
 
 pub use importing::import;
 pub use importing_entries::import2;

@@ -82,7 +82,6 @@ impl Production for PairRule {
 impl Item for PairRule {
     ghost decided = { decided.pairs };
 
-    #[tactic(auto, unfolding(cq_syntax::specs::Grammar::pair, cq_syntax::specs::Grammar::member, cq_syntax::specs::Grammar::name))]
     fn begins(class: Class) -> bool {
         class.is_name()
     }

@@ -11,10 +11,10 @@ use Rattle.cq_program.specs.Meanings.{Meant, meant_by}
 use Rattle.cq_program.specs.Environment.{entry_names, environment_of, meant}
 
 abbrev meant_at : List Entry → ℕ → Option Meant
-meant_at entries n = option_map (λ (entry : Entry). meant entry.meaning) (slice_get entries n)
+meant_at entries n = option_map (λ (entry : Entry). meant entry.meaning.value) (slice_get entries n)
 
 one_more : (b : Bool) (o : Option ℕ) (entry : Entry) (entries : List Entry) (m : Option Meant) → m ≡ option_and_then (meant_at entries) o
-    → (if b then Some (meant entry.meaning) else m) ≡ option_and_then (meant_at (entry ∷ entries)) (cond b (Some 0) (option_map suc o))
+    → (if b then Some (meant entry.meaning.value) else m) ≡ option_and_then (meant_at (entry ∷ entries)) (cond b (Some 0) (option_map suc o))
 one_more true o entry entries m h = refl
 one_more false None entry entries m h = h
 one_more false (Some n) entry entries m h = h
@@ -32,9 +32,9 @@ found_none entries names name are none =
     sym (meant_by-number entries name ∙ ap (option_and_then (meant_at entries)) (ap (λ (l : List Name). number_of l name) (sym are) ∙ sym none))
 
 pub found_some : (entries : List Entry) (names : List Name) (name : Name) (n : ℕ) (entry : Entry) → names ≡ entry_names entries → Some n ≡ number_of names name
-    → entry ≡ get_or entries n entry → Some (meant entry.meaning) ≡ meant_by (environment_of entries) name
+    → entry ≡ get_or entries n entry → Some (meant entry.meaning.value) ≡ meant_by (environment_of entries) name
 found_some entries names name n entry are some is =
     let number : number_of (entry_names entries) name ≡ Some n = ap (λ (l : List Name). number_of l name) (sym are) ∙ sym some in
     let inside : n < length entries = omega (arith, number_of-within (entry_names entries) name n number, length-map entries (λ (e : Entry). e.name)) in
     let here : slice_get entries n ≡ Some entry = slice_get-get_or entries n entry inside ∙ ap (λ (e : Entry). Some e) (sym is) in
-    sym (meant_by-number entries name ∙ ap (option_and_then (meant_at entries)) number ∙ ap (option_map (λ (e : Entry). meant e.meaning)) here)
+    sym (meant_by-number entries name ∙ ap (option_and_then (meant_at entries)) number ∙ ap (option_map (λ (e : Entry). meant e.meaning.value)) here)

@@ -114,5 +114,5 @@ follows_more told here decls i d entries after same inside is follow count adds 
     let one : take (i + 1) decls ≡ take i decls ++ d ∷ [] = take_more decls i d inside ∙ ap (λ (x : Decl). take i decls ++ x ∷ []) (sym is) in
     let new : length (environment_of after) ≡ length (environment_of entries) + 1 = ap length added.2 ∙ length_push (environment_of entries) (d.name, added.0) in
     let longer : length after ≡ i + 1 =
-    omega (arith, length-map {B = Name × Meant} after (λ (e : Entry). (e.name, meant e.meaning)), length-map {B = Name × Meant} entries (λ (e : Entry). (e.name, meant e.meaning))) in
+    omega (arith, length-map {B = Name × Meant} after (λ (e : Entry). (e.name, meant e.meaning.value)), length-map {B = Name × Meant} entries (λ (e : Entry). (e.name, meant e.meaning.value))) in
     (subst (λ (ds : List Decl). Follow told [] ds (environment_of after)) (sym one) (Follow-more told [] (take i decls) d (environment_of entries) (environment_of after) follow added), longer)

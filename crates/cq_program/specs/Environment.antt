@@ -63,7 +63,7 @@ abbrev pub entry_names : List Entry → List Name
 entry_names entries = map (λ entry. entry.name) entries
 
 abbrev pub environment_of : List Entry → Environment
-environment_of entries = map (λ entry. (entry.name, meant entry.meaning)) entries
+environment_of entries = map (λ entry. (entry.name, meant entry.meaning.value)) entries
 
 abbrev pub mapping_meant : NamedMapping → MappingMeant
 mapping_meant named = record { source = named.source; target = named.target; mapping = named.mapping.value }

@@ -92,34 +92,34 @@ fn declare_all<F: Folder>(
 {
     let mut env = Environment::new(alloc);
     for decl in program.decls.as_slice() {
-        env = declare(alloc, env, decl, folder, depth)?;
+        declare(alloc, &mut env, decl, folder, depth)?;
     }
     Ok(env)
 }
 
-/// The names with one more, that of a declaration.
+/// Adds the name of a declaration, with what it stands for.
 fn declare<F: Folder>(
     alloc: Global,
-    env: Environment,
+    env: &mut Environment,
     decl: &Decl,
     folder: &mut F,
     depth: u32,
-) -> Result<Environment, ProgramRefusal>
+) -> Result<(), ProgramRefusal>
     requires few { part_count decl.now.body < 2 ^ 32 }
-    requires room { length env.entries.items < 2 ^ 32 - 1 }
-    requires settled { AreSettled (environment_of env.entries.items) }
+    requires room { length env.old.entries.items < 2 ^ 32 - 1 }
+    requires settled { AreSettled (environment_of env.old.entries.items) }
     requires depth { depth ≤ 64 }
-    ensures declares { IfOk result (λ after. AddsDecl (F.state folder.old).files
-        (environment_of env.entries.items) decl.now (environment_of after.entries.items)) }
-    ensures settled { IfOk result (λ after. AreSettled (environment_of after.entries.items)) }
+    ensures declares { OnOk result (AddsDecl (F.state folder.old).files
+        (environment_of env.old.entries.items) decl.now (environment_of env.new.entries.items)) }
+    ensures settled { OnOk result (AreSettled (environment_of env.new.entries.items)) }
     ensures keeps { Keeps (F.state folder.old) (F.state folder.new) }
     ensures refuses { IfErr result (RefusesDecl depth (F.state folder.old) (F.state folder.new)
-        (environment_of env.entries.items) decl.now) }
+        (environment_of env.old.entries.items) decl.now) }
 {
-    let meaning = judge(alloc, &env, decl, folder, depth)?;
     let name = decl.name.clone()?;
-    let after = env.with(name, meaning)?;
-    Ok(after)
+    let meaning = judge(alloc, env, decl, folder, depth)?;
+    env.add(alloc, name, meaning)?;
+    Ok(())
 }
 
 /// What a declaration stands for.
@@ -169,7 +169,7 @@ fn push_instance(named: &mut Vec<Named>, entry: Entry) -> Result<(), AllocError>
     ensures { OnOk result (map listed_as named.new.items ≡ map listed_as named.old.items ++ listings_in entry) }
 {
     let Entry { name, meaning } = entry;
-    match meaning {
+    match Box::into_inner(meaning) {
         Meaning::Instance(schema, instance) => {
             named.push(Named {
                 name,

@@ -1,5 +1,6 @@
 //! The declared names in order, and what they stand for.
-ghost use Rattle.std.specs.Prelude.{◌≡◌, ◌<◌, ◌-◌, ◌^◌, ◌++◌, ◌∷◌, [], Some, IfOk, length, is_some, option_map};
+ghost use Rattle.std.specs.Prelude.{◌≡◌, ◌<◌, ◌-◌, ◌^◌, ◌++◌, ◌∷◌, [], Some, IfOk, OnErr, OnOk};
+ghost use Rattle.std.specs.Prelude.{length, is_some, option_map};
 ghost use Rattle.cq_program.specs.Meanings.{meant_by, typeside, typeside_used, schema_used};
 ghost use Rattle.cq_program.specs.Environment.{Answers, entry_names, environment_of, meant, schema_meant};
 ghost use Rattle.cq_program.specs.declared.reason.ProgramRefusal.TheVariants.{Broken};
@@ -76,11 +77,11 @@ pub(crate) enum Meaning {
     Transform(NamedTransform),
 }
 
-/// A declared name.
+/// A declared name. What it stands for is boxed, so that whatever holds an entry is small.
 #[derive(Drop)]
 pub(crate) struct Entry {
     pub name: Name,
-    pub meaning: Meaning,
+    pub meaning: Box<Meaning>,
 }
 
 /// The declared names in order.
@@ -108,7 +109,7 @@ impl Environment {
             (environment_of self.now.entries.items) name.now }
     {
         match self.names.find(name) {
-            Some(number) => Some(&self.entries[number as usize].meaning),
+            Some(number) => Some(&*self.entries[number as usize].meaning),
             None => None,
         }
     }
@@ -148,22 +149,21 @@ impl Environment {
         }
     }
 
-    /// The environment with one more name behind the others.
-    pub fn with(self, name: Name, meaning: Meaning) -> Result<Environment, AllocError>
-        requires { length self.entries.items < 2 ^ 32 - 1 }
-        ensures { IfOk result (λ after. environment_of after.entries.items ≡ environment_of self.entries.items
-            ++ (name, meant meaning) ∷ []) }
+    /// Adds a name behind the others. Where memory is wanting, or the name is there already, nothing changes.
+    pub fn add(&mut self, alloc: Global, name: Name, meaning: Meaning) -> Result<(), AllocError>
+        requires { length self.old.entries.items < 2 ^ 32 - 1 }
+        ensures added { OnOk result (environment_of self.new.entries.items
+            ≡ environment_of self.old.entries.items ++ (name, meant meaning) ∷ []) }
+        ensures unchanged { OnErr result (self.new.entries.items ≡ self.old.entries.items) }
     {
-        let Environment {
-            mut entries,
-            mut names,
-        } = self;
+        let meaning = Box::new(alloc, meaning)?;
+        self.entries.reserve(1)?;
         let copy = name.clone()?;
-        if names.add(copy).is_err() {
+        if self.names.add(copy).is_err() {
             return Err(AllocError);
         }
-        entries.push(Entry { name, meaning })?;
-        Ok(Environment { entries, names })
+        self.entries.push_reserved(Entry { name, meaning });
+        Ok(())
     }
 }
 

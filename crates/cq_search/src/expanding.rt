@@ -26,6 +26,18 @@ pub fn join_by_equations(
     right: u64,
 ) -> Result<bool, Halt> {
     let beginnings = Beginnings::of(alloc, schema)?;
+    let are_joined = advance_until(alloc, graph, schema, &beginnings, (left, right))?;
+    Ok(are_joined)
+}
+
+/// Goes on node by node until these nodes are equal, and says whether they are.
+fn advance_until(
+    alloc: Global,
+    graph: &mut Graph,
+    schema: &Schema,
+    beginnings: &Beginnings,
+    (left, right): (u64, u64),
+) -> Result<bool, Halt> {
     let mut progress = Progress {
         expanded: 0,
         followed: 0,
@@ -34,7 +46,7 @@ pub fn join_by_equations(
         if graph.are_joined(left, right) {
             return Ok(true);
         }
-        match advance(alloc, graph, schema, &beginnings, progress)? {
+        match advance(alloc, graph, schema, beginnings, progress)? {
             Some(next) => progress = next,
             None => return Ok(false),
         }
@@ -72,14 +84,15 @@ fn advance(
 }
 
 /// The numbers of what begins at an entity.
-fn of(groups: &Groups, entity: u32) -> &[usize] {
+fn beginning_at(groups: &Groups, entity: u32) -> &[usize] {
     match groups.groups.as_slice().get(entity as usize) {
         Some(numbers) => numbers.as_slice(),
         None => &[],
     }
 }
 
-fn counted(number: usize) -> Result<u32, Halt> {
+/// A number of an equation or of a foreign key.
+fn as_number(number: usize) -> Result<u32, Halt> {
     match u32::try_from(number) {
         Ok(number) => Ok(number),
         Err(_) => Err(Halt::Absent),
@@ -99,8 +112,20 @@ fn expand(
         return Ok(());
     };
     if graph.classes.expand(node) {
-        put_path_eqs(alloc, graph, schema, of(&beginnings.path_eqs, entity), node)?;
-        put_obs_eqs(alloc, graph, schema, of(&beginnings.obs_eqs, entity), node)?;
+        put_path_eqs(
+            alloc,
+            graph,
+            schema,
+            beginning_at(&beginnings.path_eqs, entity),
+            node,
+        )?;
+        put_obs_eqs(
+            alloc,
+            graph,
+            schema,
+            beginning_at(&beginnings.obs_eqs, entity),
+            node,
+        )?;
     }
     Ok(())
 }
@@ -119,7 +144,7 @@ fn put_path_eqs(
         let (left, right) = path_sides(alloc, graph, schema, equation, node, Wanted::AnyEqual)?;
         if !graph.are_joined(left, right) {
             let sides = path_sides(alloc, graph, schema, equation, node, Wanted::Itself)?;
-            graph.equate(sides.0, sides.1, Reason::Path(counted(*number)?, node))?;
+            graph.equate(sides.0, sides.1, Reason::Path(as_number(*number)?, node))?;
         }
     }
     Ok(())
@@ -159,7 +184,7 @@ fn put_obs_eqs(
         let (left, right) = obs_sides(alloc, graph, schema, equation, node, Wanted::AnyEqual)?;
         if !graph.are_joined(left, right) {
             let sides = obs_sides(alloc, graph, schema, equation, node, Wanted::Itself)?;
-            graph.equate(sides.0, sides.1, Reason::Obs(counted(*number)?, node))?;
+            graph.equate(sides.0, sides.1, Reason::Obs(as_number(*number)?, node))?;
         }
     }
     Ok(())
@@ -190,8 +215,15 @@ fn follow(
         return Ok(());
     };
     if graph.classes.follow(node) {
-        for key in of(&beginnings.keys, entity) {
-            put_key(alloc, graph, schema, node, counted(*key)?, Wanted::AnyEqual)?;
+        for key in beginning_at(&beginnings.keys, entity) {
+            put_key(
+                alloc,
+                graph,
+                schema,
+                node,
+                as_number(*key)?,
+                Wanted::AnyEqual,
+            )?;
         }
     }
     Ok(())

@@ -9,8 +9,8 @@ use Rattle.cq_program.proofs.declarations.declare.Goals as goal
 
 pub returns-clause-settled : goal.returns-clause-settled
 returns-clause-settled g c =
-    subst AreSettled (sym c.in_ok-after.ensures)
-    (AreSettled-more (environment_of c.args.env.entries.items) c.in_ok-name.name (meant c.in_ok-meaning.meaning) c.requires.settled
-    (subst (λ (n : Name). is_some (meant_by (environment_of c.args.env.entries.items) n) ≡ false) (sym c.in_ok-name.ensures.cases)
-    (fresh (environment_of c.args.env.entries.items) c.args.decl.now c.in_ok-meaning.ensures.declares.stated c.in_ok-meaning.ensures.declares.checked))
-    (subst (λ (n : Name). WillSettle (environment_of c.args.env.entries.items) n (meant c.in_ok-meaning.meaning)) (sym c.in_ok-name.ensures.cases) c.in_ok-meaning.ensures.settled))
+    subst AreSettled (sym c.in_ok-add.ensures.added)
+    (AreSettled-more (environment_of c.args.env.now.entries.items) c.in_ok-name.name (meant c.in_ok-meaning.meaning) c.requires.settled
+    (subst (λ (n : Name). is_some (meant_by (environment_of c.args.env.now.entries.items) n) ≡ false) (sym c.in_ok-name.ensures.cases)
+    (fresh (environment_of c.args.env.now.entries.items) c.args.decl.now c.in_ok-meaning.ensures.declares.stated c.in_ok-meaning.ensures.declares.checked))
+    (subst (λ (n : Name). WillSettle (environment_of c.args.env.now.entries.items) n (meant c.in_ok-meaning.meaning)) (sym c.in_ok-name.ensures.cases) c.in_ok-meaning.ensures.settled))
