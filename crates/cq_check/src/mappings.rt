@@ -164,10 +164,28 @@ pub fn check_mapping(alloc: Global, mapping: &Mapping, depth: u32) -> Result<(),
         return Ok(());
     }
     let list = list_duties(alloc, mapping, duties)?;
+    check_duties(alloc, mapping, &list, depth)
+}
+
+/// Whether each of the duties of a mapping is derivable, entity by entity.
+fn check_duties(
+    alloc: Global,
+    mapping: &Mapping,
+    list: &DutyList,
+    depth: u32,
+) -> Result<(), CheckRefusal>
+    requires duties { AreDuties mapping.now list.now }
+    requires depth { depth ≤ 64 }
+    ensures preserves { IfOk result (λ _. Preserves mapping.now) }
+    ensures not_preserved { (n : ℕ) → result ≡ Err (NotPreserved n) → IsNotPreserved mapping.now n }
+    ensures deep { (n : ℕ) → result ≡ Err (Depth n) → IsTooDeepDuty mapping.now depth n }
+    ensures many { (n : ℕ) → result ≡ Err (TooManyRows n) → IsTooWideDuty mapping.now depth n }
+{
+    mapping.is_well_sorted();
     let mut bound = list.duties.len();
     let mut first = None;
     for entity in 0..entity_count(mapping) {
-        let unmet = first_over(alloc, mapping, &list, entity, bound, depth)?;
+        let unmet = first_over(alloc, mapping, list, entity, bound, depth)?;
         let Some(unmet) = unmet else {
             continue;
         };

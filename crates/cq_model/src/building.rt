@@ -1,5 +1,5 @@
 //! The listed model of a presentation.
-ghost use Rattle.std.specs.Prelude.{ℕ, List, ◌≡◌, ◌≤◌, ◌<◌, ◌^◌, map, length, IfOk, IfErr, Err};
+ghost use Rattle.std.specs.Prelude.{ℕ, List, ◌≡◌, ◌≤◌, ◌<◌, ◌^◌, ◌⊎◌, map, length, IfOk, IfErr, Err};
 ghost use Rattle.cq_flat.specs.declared.node.Node.{Node};
 ghost use Rattle.cq_flat.specs.Nodes.{HasEarlierArguments, AreSides};
 ghost use Rattle.cq_rows.specs.Saturated.{NoneCloses, SomeWide};
@@ -13,7 +13,7 @@ ghost use Rattle.cq_model.specs.Closed.{AreClosed};
 ghost use Rattle.cq_model.specs.InstanceData.{IsInstance};
 ghost use Rattle.cq_model.specs.Listed.{IsListed};
 ghost use Rattle.cq_model.specs.Standing.{meaning};
-ghost use Rattle.cq_model.specs.declared.building.BuildRefusal.TheVariants.{Depth, TooManyRows, Inconsistent};
+ghost use Rattle.cq_model.specs.declared.building.BuildRefusal.TheVariants.{Depth, TooManyRows, Inconsistent, Memory};
 
 use crate::edges::{sources, targets};
 use crate::entries::EntryTable;
@@ -214,6 +214,19 @@ fn read_parts(
     })
 }
 
+/// The refusal that two constants are equal.
+fn clash_refusal(least: &Con, greater: &Con) -> BuildRefusal
+    ensures { (result ≡ Inconsistent least.now greater.now) ⊎ (result ≡ Memory) }
+{
+    let Ok(least) = least.clone() else {
+        return BuildRefusal::Memory;
+    };
+    let Ok(greater) = greater.clone() else {
+        return BuildRefusal::Memory;
+    };
+    BuildRefusal::Inconsistent(least, greater)
+}
+
 /// The parts of the listed model over closed rows, which have these names and numbers. It is refused only where two
 /// constants are equal, and where memory runs out.
 fn model_parts(
@@ -238,7 +251,7 @@ fn model_parts(
     let (list, places) = make_nodes(alloc, schema, presentation, tables, entries, numbered)?;
     let (flat, types) = close_nodes(alloc, list)?;
     if let Some((least, greater)) = flat.clash() {
-        return Err(BuildRefusal::Inconsistent(least.clone()?, greater.clone()?));
+        return Err(clash_refusal(least, greater));
     }
     let rows = ClosedRows {
         schema,

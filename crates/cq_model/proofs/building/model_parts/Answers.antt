@@ -1,11 +1,12 @@
-use Rattle.std.proofs.Common.{◌≡◌, Bor, None, option_map, length, sym, ap, subst, ◌∙◌, arith}
+use Rattle.std.proofs.Common.{◌≡◌, Bor, None, option_map, length, sym, ap, subst, ◌∙◌, arith, inl, inr}
 use Rattle.cq_tables.specs.Content.{Content}
 use Rattle.cq_theory.specs.declared.presentation.Presentation.{Presentation}
 use Rattle.cq_theory.specs.declared.constant.Con.{Con}
 use Rattle.cq_theory.specs.SchemaData.{SchemaData as Schema}
 use Rattle.cq_model.specs.declared.numbers.NumberedRows.{NumberedRows}
 use Rattle.cq_model.specs.Built.{IsBuilt}
-use Rattle.cq_model.specs.BuiltParts.{instance_of}
+use Rattle.cq_model.specs.BuiltParts.{IsRefusal, instance_of}
+use Rattle.cq_model.specs.declared.building.BuildRefusal.TheVariants.{Inconsistent}
 use Rattle.cq_model.specs.Listed.{IsListed}
 use Rattle.cq_model.proofs.BuiltListed.{inconsistent}
 use Rattle.cq_model.proofs.ModelMade.{earlier_arguments, sides_within, parts_instance, parts_listed, listed_consistent}
@@ -32,9 +33,13 @@ returns-in-Some-clause-refused c =
     let P : Presentation = c.args.presentation.now in
     let m : Content = c.args.tables.now in
     let numbered : NumberedRows = c.args.numbered.now in
-    rw (c.in_ok-clone.ensures.cases, c.in_ok-clone-2.ensures.cases)
-    (inconsistent S P m c.args.entries.now c.is_well_sorted.ensures c.requires.presentation c.requires.closed numbered.order numbered.names numbered.numbers c.in_ok-list.places c.in_ok-list.list.nodes c.in_ok-list.list.equations c.in_ok-list.list.types
-    c.in_ok-list.ensures c.in_ok-flat.flat c.in_ok-flat.ensures.closure c.in-Some.least.now c.in-Some.greater.now (sym c.clash.ensures ∙ ap (option_map seen) c.in-Some.is))
+    let clash : IsRefusal S P (Inconsistent c.in-Some.least.now c.in-Some.greater.now) =
+    inconsistent S P m c.args.entries.now c.is_well_sorted.ensures c.requires.presentation c.requires.closed numbered.order numbered.names numbered.numbers c.in_ok-list.places c.in_ok-list.list.nodes c.in_ok-list.list.equations c.in_ok-list.list.types
+    c.in_ok-list.ensures c.in_ok-flat.flat c.in_ok-flat.ensures.closure c.in-Some.least.now c.in-Some.greater.now (sym c.clash.ensures ∙ ap (option_map seen) c.in-Some.is) in
+    elim c.clash_refusal.ensures [
+      | inl same ↦ subst (IsRefusal S P) (sym same) clash
+      | inr none ↦ subst (IsRefusal S P) (sym none) tt
+    ]
 
 pub read_parts-requires : goal.read_parts-requires
 read_parts-requires c =

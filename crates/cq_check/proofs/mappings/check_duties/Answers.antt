@@ -3,7 +3,7 @@ use Rattle.std.specs.Prelude.{MatchOption}
 use Rattle.cq_check.specs.Entities.{AreMetOver, IsUnmetOver}
 use Rattle.cq_check.proofs.OverEntity.{IsLeast, least_some, all_preserved, not_preserved, too_deep_duty, too_wide_duty}
 use Rattle.cq_mapping.specs.MappingData.{MappingData as Mapping}
-use Rattle.cq_check.proofs.mappings.check_mapping.Goals as goal
+use Rattle.cq_check.proofs.mappings.check_duties.Goals as goal
 
 pub returns-in_default-first-clause-preserves : goal.returns-in_default-first-clause-preserves
 returns-in_default-first-clause-preserves c =
