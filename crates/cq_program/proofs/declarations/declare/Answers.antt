@@ -1,4 +1,4 @@
-use Rattle.std.proofs.Common.{◌≡◌, false, subst, sym}
+use Rattle.std.proofs.Common.{◌≡◌, ◌∷◌, ◌++◌, [], false, ap, subst, sym, ◌∙◌}
 use Rattle.std.specs.Prelude.{is_some}
 use Rattle.cq_base.specs.declared.name.Name.{Name}
 use Rattle.cq_program.specs.Meanings.{meant_by}
@@ -6,6 +6,13 @@ use Rattle.cq_program.specs.Environment.{AreSettled, WillSettle, environment_of,
 use Rattle.cq_program.proofs.Poses.{fresh}
 use Rattle.cq_program.proofs.Settled.{AreSettled-more}
 use Rattle.cq_program.proofs.declarations.declare.Goals as goal
+
+pub returns-clause-declares : goal.returns-clause-declares
+returns-clause-declares g c = (
+  meant c.in_ok-meaning.meaning,
+  c.in_ok-meaning.ensures.declares,
+  c.in_ok-add.ensures.added ∙ ap (λ (n : Name). environment_of c.args.env.now.entries.items ++ (n, meant c.in_ok-meaning.meaning) ∷ []) c.in_ok-name.ensures.cases,
+)
 
 pub returns-clause-settled : goal.returns-clause-settled
 returns-clause-settled g c =
