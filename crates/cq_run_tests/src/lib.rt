@@ -8,17 +8,9 @@ mod cuts;
 #[cfg(test)]
 mod devices;
 #[cfg(test)]
-mod duties;
-#[cfg(test)]
-mod entries;
-#[cfg(test)]
 mod exporting;
 #[cfg(test)]
 mod faults;
-#[cfg(test)]
-mod glued;
-#[cfg(test)]
-mod images;
 #[cfg(test)]
 mod imports;
 #[cfg(test)]
@@ -26,24 +18,12 @@ mod joined;
 #[cfg(test)]
 mod limits;
 #[cfg(test)]
-mod mapping_parts;
-#[cfg(test)]
-mod mappings;
-#[cfg(test)]
-mod models;
-#[cfg(test)]
 mod moves;
 #[cfg(test)]
 mod open_types;
 #[cfg(test)]
-mod outcomes;
-#[cfg(test)]
 mod programs;
-#[cfg(test)]
-mod query_parts;
 #[cfg(test)]
 mod questions;
 #[cfg(test)]
 mod tests;
-#[cfg(test)]
-mod transforms;

@@ -13,14 +13,6 @@ schema S = literal : T { entities E attributes x : E -> s }
 instance I = literal : S { generators a b : E }
 ";
 
-/// Open constants, an attribute of another type, and values of functions.
-const OPEN: &str =
-    "typeside T = literal { types s n literals s constants Al : s one : n functions h : s -> s }
-schema S = literal : T { entities E D attributes x : E -> s y : E -> n }
-instance I = literal : S { generators a b : E d : D k : s equations x(a) = h(k) x(b) = Al }
-instance J = literal : S { generators a : E }
-";
-
 /// A foreign key for long paths, and a function for large terms.
 const LARGE: &str = "typeside T = literal { types n constants one : n functions plus : n, n -> n }
 schema S = literal : T { entities E foreign_keys f : E -> E path_equations f.f = f attributes x : E -> n }
@@ -41,100 +33,6 @@ fn cut<'a>(row: &'a str, mark: &str) -> (&'a str, &'a str) {
         Some(halves) => halves,
         None => (row, ""),
     }
-}
-
-/// Whether the question of a row, an instance and two terms, has the answer that is told behind it.
-fn is_answered(alloc: Global, text: &str, row: &str) -> Result<bool, AllocError> {
-    let (question, told) = cut(row, " => ");
-    let (instance, terms) = cut(question, "; ");
-    let (left, right) = cut(terms, "; ");
-    let status = if told.starts_with("refused") {
-        Status::Refused
-    } else {
-        Status::Ok
-    };
-    let written = format!(in alloc; "{told}\n")?;
-    let mut folder = folder(alloc, text, &[])?;
-    let line = ["explain", "p.cql", instance, left, right];
-    ends(alloc, &line, &mut folder, 1000, status, &written)
-}
-
-/// Stops at the first row with another answer.
-fn try_rows(rt: &impl Abort, alloc: Global, text: &str, rows: &str) -> Result<(), AllocError> {
-    for row in rows.lines() {
-        assert!(rt; is_answered(alloc, text, row)?, "{row}");
-    }
-    Ok(())
-}
-
-#[test]
-fn different_rows_and_values(rt: HostRuntime) -> Result<(), Fail> {
-    let alloc = rt.alloc();
-    try_rows(
-        &rt,
-        alloc,
-        FIRST,
-        "I; a; b => different 1 2
-I; b; a => different 2 1
-I; x(a); x(b) => different ?0 ?1
-I; a.x; b.x => different ?0 ?1
-I; x(b); Al => different ?1 Al
-I; \"Bob\"; Al => different Bob Al",
-    )?;
-    try_rows(
-        &rt,
-        alloc,
-        OPEN,
-        "I; \"a b\"; x(b) => different \"a b\" Al
-I; one; y(a) => different one ?1
-J; x(a); Al => different ?0 Al",
-    )?;
-    Ok(())
-}
-
-/// No instance declaration has the name, whatever the two texts are: another declaration's name is none either.
-const NO_INSTANCE: &str = "\
-J; a; b => refused 1:1 37 NoInstance
-J; !; b => refused 1:1 37 NoInstance
-S; a; b => refused 1:1 37 NoInstance
-i; a; b => refused 1:1 37 NoInstance
-; a; b => refused 1:1 37 NoInstance";
-
-/// No tokens; tokens that are no term; names, counts and sorts.
-const NO_TERM: &str = "\
-I; !; b => refused 1:1 38 BadTerm
-I; a; \"b => refused 1:1 38 BadTerm
-I; a; /* b => refused 1:1 38 BadTerm
-I; ; b => refused 1:1 38 BadTerm
-I; a; b b => refused 1:1 38 BadTerm
-I; a; b = b => refused 1:1 38 BadTerm
-I; a; x( => refused 1:1 38 BadTerm
-I; a; entity => refused 1:1 38 BadTerm
-I; a; c => refused 1:1 38 BadTerm
-I; y(a); x(a) => refused 1:1 38 BadTerm
-I; x(a); \"Zed\" => refused 1:1 38 BadTerm
-I; x(a); x(a, b) => refused 1:1 38 BadTerm
-I; x(x(a)); x(a) => refused 1:1 38 BadTerm
-I; a; x(a) => refused 1:1 38 BadTerm
-I; Al; b => refused 1:1 38 BadTerm";
-
-/// Two entities, two types, and texts that no constant of an open type can have.
-const OTHER_SORTS: &str = "\
-I; a; d => refused 1:1 38 BadTerm
-I; x(a); y(a) => refused 1:1 38 BadTerm
-I; k; one => refused 1:1 38 BadTerm
-I; x(a); \"\" => refused 1:1 38 BadTerm
-I; \"?1\"; x(a) => refused 1:1 38 BadTerm
-I; x(a); h(\"=\") => refused 1:1 38 BadTerm
-J; k; Al => refused 1:1 38 BadTerm";
-
-#[test]
-fn questions_without_an_answer(rt: HostRuntime) -> Result<(), Fail> {
-    let alloc = rt.alloc();
-    try_rows(&rt, alloc, FIRST, NO_INSTANCE)?;
-    try_rows(&rt, alloc, FIRST, NO_TERM)?;
-    try_rows(&rt, alloc, OPEN, OTHER_SORTS)?;
-    Ok(())
 }
 
 /// A term of as many symbols as two is multiplied with itself so often, less one.

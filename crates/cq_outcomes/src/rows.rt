@@ -1,0 +1,110 @@
+//! Rows of texts, each with what is told of it.
+//!
+//! A row is what is told, `| ` and a text: of a text that is refused it is told where `^` stands, or at the start of
+//! its line where there is none. Where nothing is told the text is accepted.
+//!
+//!     -- front mapping F = literal :
+//!     -- rows
+//!     | S -> R { entity E -> G entity F -> H }
+//!     42 Unknown| S -> R { ^entity Q -> G }
+//!     47 Missing E| S -> R { }
+//!
+//! Parts of the same entry, in front of the rows, say more:
+//! - `-- front mapping F = literal :`: what each text begins with, and a blank behind it;
+//! - `-- listed`: what is written of each text that is accepted;
+//! - `-- leaf zero`: a term: `$` in a text stands for the sum of 256 of these, a term of 255 symbols besides.
+use crate::case::{file, outcome, words_of};
+use crate::entry::{Entry, Part, cut};
+use crate::tally::Tally;
+use std::alloc::{AllocError, Global};
+
+/// Tries each row of a part.
+pub fn try_rows(
+    alloc: Global,
+    entry: Entry<'_>,
+    part: Part<'_>,
+    tally: &mut Tally,
+) -> Result<(), AllocError> {
+    for row in part.lines.lines() {
+        try_row(alloc, entry, row, tally)?;
+    }
+    Ok(())
+}
+
+/// Tries a row.
+fn try_row(
+    alloc: Global,
+    entry: Entry<'_>,
+    row: &str,
+    tally: &mut Tally,
+) -> Result<(), AllocError> {
+    let (told, text) = cut(row, "| ");
+    let front = front_of(alloc, entry)?;
+    let text = filled(alloc, text, entry.part("leaf").rest)?;
+    let told = wanted(alloc, entry, told, column(front.as_str(), text.as_str()))?;
+    let came = came(alloc, entry, front.as_str(), text.as_str())?;
+    tally.add(alloc, row, told.as_str(), came.as_str())
+}
+
+/// What the texts of an entry begin with.
+fn front_of(alloc: Global, entry: Entry<'_>) -> Result<String, AllocError> {
+    let front = entry.part("front").rest;
+    if front.is_empty() {
+        Ok(String::new(alloc))
+    } else {
+        format!(in alloc; "{front} ")
+    }
+}
+
+/// The column of the mark of a text, or the first one.
+fn column(front: &str, text: &str) -> usize {
+    match text.split_once("^") {
+        Some((before, _)) => front.len().saturating_add(before.len()).saturating_add(1),
+        None => 1,
+    }
+}
+
+/// What is told of a text, with its status.
+fn wanted(
+    alloc: Global,
+    entry: Entry<'_>,
+    told: &str,
+    column: usize,
+) -> Result<String, AllocError> {
+    if told.is_empty() {
+        let listed = entry.part("listed");
+        return format!(in alloc; "ok\n{}{}", listed.lines, listed.end());
+    }
+    let line = entry.head.lines().count().saturating_add(1);
+    format!(in alloc; "refused\nrefused {line}:{column} {told}\n")
+}
+
+/// What becomes of a text, without its mark.
+fn came(alloc: Global, entry: Entry<'_>, front: &str, text: &str) -> Result<String, AllocError> {
+    let (before, behind) = cut(text, "^");
+    let text = format!(in alloc; "{}{front}{before}{behind}", entry.head)?;
+    let mut files = Vec::new(alloc);
+    files.push(file(alloc, "p.cql", text.as_str())?)?;
+    let words = words_of(alloc, entry.words().split(' '))?;
+    outcome(alloc, words.as_slice(), files)
+}
+
+/// A text with a sum of leaves in the place of its first `$`.
+fn filled(alloc: Global, text: &str, leaf: &str) -> Result<String, AllocError> {
+    match text.split_once("$") {
+        Some((before, behind)) => {
+            let sum = sum(alloc, leaf, 8)?;
+            format!(in alloc; "{before}{sum}{behind}")
+        }
+        None => String::from_str(alloc, text),
+    }
+}
+
+/// The sum of so many leaves as two is multiplied with itself so often.
+fn sum(alloc: Global, leaf: &str, times: usize) -> Result<String, AllocError> {
+    let mut term = String::from_str(alloc, leaf)?;
+    for _time in 0..times {
+        term = format!(in alloc; "plus({term}, {term})")?;
+    }
+    Ok(term)
+}
