@@ -22,6 +22,7 @@
 //! The parts that say what is told, each of which is tried:
 //! - `-- ok`, `-- refused`, `-- usage`, `-- read`, `-- write`, `-- memory`: the status, and the lines that are written;
 //! - `-- rows`: texts, each in a line (see `rows`);
+//! - `-- programs`: texts that are read as programs, each in a line (see `programs`);
 //! - `-- questions`: questions, each in a line (see `questions`).
 
 /// The words of a case that doesn't say its own.

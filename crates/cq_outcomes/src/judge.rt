@@ -1,6 +1,7 @@
 //! A table as a whole.
 use crate::case::try_case;
 use crate::entry::{Entry, Part};
+use crate::programs::try_programs;
 use crate::questions::try_questions;
 use crate::rows::try_rows;
 use crate::tally::Tally;
@@ -60,6 +61,7 @@ fn try_part(
             try_case(alloc, entry, part, tally)
         }
         "rows" => try_rows(alloc, entry, part, tally),
+        "programs" => try_programs(alloc, part, tally),
         "questions" => try_questions(alloc, entry, part, tally),
         _ => tally.refuse(alloc, entry.title(), "a part has no name that is known"),
     }

@@ -4,6 +4,7 @@
 mod case;
 mod entry;
 mod judge;
+mod programs;
 mod questions;
 mod rows;
 mod tally;
@@ -16,7 +17,8 @@ use std::io;
 use std::process::ExitCode;
 
 /// The tables, by the names of their files.
-const TABLES: [&str; 16] = [
+const TABLES: [&str; 17] = [
+    "syntax",
     "statuses",
     "models",
     "open_types",
