@@ -16,19 +16,16 @@ pub fn try_case(
     tally: &mut Tally,
 ) -> Result<(), AllocError> {
     let files = files_of(alloc, entry)?;
-    let words = words_of(alloc, entry.words().split(' '))?;
+    let words = words_of(alloc, entry.words())?;
     let came = outcome(alloc, words.as_slice(), files)?;
     let told = format!(in alloc; "{}\n{}{}", part.name, part.lines, part.end())?;
     tally.add(alloc, entry.title(), told.as_str(), came.as_str())
 }
 
-/// These words, each its own.
-pub fn words_of<'a, I: Iterator<Item = &'a str>>(
-    alloc: Global,
-    texts: I,
-) -> Result<Vec<String>, AllocError> {
+/// The words of a line.
+pub fn words_of(alloc: Global, line: &str) -> Result<Vec<String>, AllocError> {
     let mut words = Vec::new(alloc);
-    for text in texts {
+    for text in line.split(' ') {
         words.push(String::from_str(alloc, text)?)?;
     }
     Ok(words)

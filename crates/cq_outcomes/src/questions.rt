@@ -5,7 +5,7 @@
 //!     -- questions
 //!     I; a; b => different 1 2
 //!     J; a; b => refused 1:1 37 NoInstance
-use crate::case::{file, outcome, words_of};
+use crate::case::{file, outcome};
 use crate::entry::{Entry, Part, cut};
 use crate::tally::Tally;
 use std::alloc::{AllocError, Global};
@@ -45,9 +45,17 @@ fn try_question(
 fn answer_to(alloc: Global, entry: Entry<'_>, question: &str) -> Result<String, AllocError> {
     let (instance, terms) = cut(question, "; ");
     let (left, right) = cut(terms, "; ");
-    let words = ["explain", "p.cql", instance, left, right];
-    let words = words_of(alloc, words.into_iter())?;
+    let words = words(alloc, &["explain", "p.cql", instance, left, right])?;
     let mut files = Vec::new(alloc);
     files.push(file(alloc, "p.cql", entry.head)?)?;
     outcome(alloc, words.as_slice(), files)
+}
+
+/// These words, of which some may be empty or have blanks.
+fn words(alloc: Global, texts: &[&str]) -> Result<Vec<String>, AllocError> {
+    let mut words = Vec::new(alloc);
+    for text in texts {
+        words.push(String::from_str(alloc, text)?)?;
+    }
+    Ok(words)
 }

@@ -85,7 +85,7 @@ fn came(alloc: Global, entry: Entry<'_>, front: &str, text: &str) -> Result<Stri
     let text = format!(in alloc; "{}{front}{before}{behind}", entry.head)?;
     let mut files = Vec::new(alloc);
     files.push(file(alloc, "p.cql", text.as_str())?)?;
-    let words = words_of(alloc, entry.words().split(' '))?;
+    let words = words_of(alloc, entry.words())?;
     outcome(alloc, words.as_slice(), files)
 }
 
