@@ -117,11 +117,10 @@ impl Production for InstanceRule {
 
     ghost rule = { grammar.instance };
 
-    #[tactic(auto, unfolding(cq_syntax::specs::Grammar::instance, cq_syntax::specs::Grammar::import))]
+    #[tactic(auto, unfolding(cq_syntax::specs::Grammar::instance, cq_syntax::specs::Grammar::instance_literal, cq_syntax::specs::Grammar::coproduct, cq_syntax::specs::Grammar::import))]
     fn read<'a>(alloc: Global, at: Cursor<'a>) -> Result<(InstanceExp, Cursor<'a>), Halt<'a>> {
         if is_next(at, Class::Literal) {
             let (literal, rest) = instance_literal(alloc, at)?;
-            #[tactic(auto, unfolding(cq_syntax::specs::Grammar::instance, cq_syntax::specs::Grammar::instance_literal))]
             return Ok((InstanceExp::Literal(literal), rest));
         }
         if is_next(at, Class::Delta) {
@@ -142,7 +141,6 @@ impl Production for InstanceRule {
         }
         if is_next(at, Class::Coproduct) {
             let ((summands, schema), rest) = coproduct(alloc, at)?;
-            #[tactic(auto, unfolding(cq_syntax::specs::Grammar::instance, cq_syntax::specs::Grammar::coproduct))]
             return Ok((InstanceExp::Coproduct(summands, schema), rest));
         }
         if is_next(at, Class::Pushout) {
