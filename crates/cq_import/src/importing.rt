@@ -1,8 +1,8 @@
 //! Folders of CSV files as presentations.
-ghost use Rattle.std.specs.Prelude.{◌≡◌, ◌≤◌, true, false, IfOk};
-ghost use Rattle.cq_io.specs.Counts.{Rose};
+ghost use Rattle.std.specs.Prelude.{IfOk};
 ghost use Rattle.cq_theory.specs.Presentation.{IsPresentation};
-ghost use Rattle.cq_import.specs.Imports.{IsImport, OfFiles, IfAbsent, IfReadFault, IfTooLong};
+ghost use Rattle.cq_import.specs.Folders.{Keeps, Raises};
+ghost use Rattle.cq_import.specs.Imports.{IsImport, OfFiles};
 
 use crate::columns::columns;
 use crate::folder::read_files;
@@ -38,20 +38,10 @@ pub fn import<F: Folder>(
     // where it tells none, there are files over which it is.
     ensures answer { OfFiles (F.state folder.old).files (λ files. IsImport files dir.now schema.now result) }
     ensures presentation { IfOk result (IsPresentation schema.now) }
-    ensures files { (F.state folder.new).files ≡ (F.state folder.old).files }
 
-    // No count falls, and a read that is refused has raised its count.
-    ensures absences { (F.state folder.old).absences ≤ (F.state folder.new).absences }
-    ensures faults { (F.state folder.old).faults ≤ (F.state folder.new).faults }
-    ensures overruns { (F.state folder.old).overruns ≤ (F.state folder.new).overruns }
-    ensures absent { IfAbsent result (Rose (F.state folder.old).absences (F.state folder.new).absences) }
-    ensures failed { IfReadFault result (Rose (F.state folder.old).faults (F.state folder.new).faults) }
-    ensures too_long { IfTooLong result (Rose (F.state folder.old).overruns (F.state folder.new).overruns) }
-
-    // A steady folder stays so, and never fails.
-    ensures steady { (F.state folder.new).steady ≡ (F.state folder.old).steady }
-    ensures fails { IfReadFault result ((F.state folder.old).steady ≡ false) }
-    ensures calm { (F.state folder.old).steady ≡ true → (F.state folder.new).faults ≡ (F.state folder.old).faults }
+    // No count falls, and a read that is refused has raised its count. A steady folder stays so, and never fails.
+    ensures keeps { Keeps (F.state folder.old) (F.state folder.new) }
+    ensures raises { Raises (F.state folder.old) (F.state folder.new) result }
 {
     schema.is_well_sorted();
     let Ok(columns) = columns(alloc, schema) else {

@@ -1,12 +1,10 @@
 //! Folders of CSV files, with one of nulls and entries, as presentations.
-ghost use Rattle.std.specs.Prelude.{◌≡◌, ◌≤◌, true, false, length, map, string_bytes, IfOk, OnOk, IfErr};
-ghost use Rattle.cq_io.specs.Counts.{Rose};
+ghost use Rattle.std.specs.Prelude.{◌≡◌, length, map, string_bytes, IfOk, OnOk, IfErr};
 ghost use Rattle.cq_theory.specs.Presentation.{IsPresentation};
 ghost use Rattle.cq_import.specs.Columns.{AreColumns};
 ghost use Rattle.cq_import.specs.Context.{sheet_in};
 ghost use Rattle.cq_import.specs.Entries.{IsImport2Over, OfFiles2};
 ghost use Rattle.cq_import.specs.Folders.{AreRead, Keeps, Raises};
-ghost use Rattle.cq_import.specs.Imports.{IfAbsent, IfReadFault, IfTooLong};
 
 use crate::columns::{Column, columns};
 use crate::entity_file::EntityFile;
@@ -73,20 +71,10 @@ pub fn import2<F: Folder>(
     ensures answer { OfFiles2 (F.state folder.old).files dir.now
         (λ told text. IsImport2Over told text dir.now schema.now result) }
     ensures presentation { IfOk result (IsPresentation schema.now) }
-    ensures files { (F.state folder.new).files ≡ (F.state folder.old).files }
 
-    // No count falls, and a read that is refused has raised its count.
-    ensures absences { (F.state folder.old).absences ≤ (F.state folder.new).absences }
-    ensures faults { (F.state folder.old).faults ≤ (F.state folder.new).faults }
-    ensures overruns { (F.state folder.old).overruns ≤ (F.state folder.new).overruns }
-    ensures absent { IfAbsent result (Rose (F.state folder.old).absences (F.state folder.new).absences) }
-    ensures failed { IfReadFault result (Rose (F.state folder.old).faults (F.state folder.new).faults) }
-    ensures too_long { IfTooLong result (Rose (F.state folder.old).overruns (F.state folder.new).overruns) }
-
-    // A steady folder stays so, and never fails.
-    ensures steady { (F.state folder.new).steady ≡ (F.state folder.old).steady }
-    ensures fails { IfReadFault result ((F.state folder.old).steady ≡ false) }
-    ensures calm { (F.state folder.old).steady ≡ true → (F.state folder.new).faults ≡ (F.state folder.old).faults }
+    // No count falls, and a read that is refused has raised its count. A steady folder stays so, and never fails.
+    ensures keeps { Keeps (F.state folder.old) (F.state folder.new) }
+    ensures raises { Raises (F.state folder.old) (F.state folder.new) result }
 {
     schema.is_well_sorted();
     let Ok(columns) = columns(alloc, schema) else {

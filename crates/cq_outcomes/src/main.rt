@@ -1,14 +1,18 @@
-//! Runs the texts of each table of data/ in turn, and prints how many end as the table tells, and those that do not.
+//! Runs each file of `data/examples/` in turn, and prints its transcript and the files that it exports: what is stored
+//! of the examples stays what the program prints. Then it runs the texts of each table of `data/`, and prints how many
+//! end as the table tells, and those that do not.
 #![tactic(auto)]
 
 mod case;
 mod entry;
+mod examples;
 mod judge;
 mod programs;
 mod questions;
 mod rows;
 mod tally;
 
+use crate::examples::show_examples;
 use crate::judge::tally_of;
 use crate::tally::Tally;
 use cq_io::{DirFolder, Folder};
@@ -41,7 +45,7 @@ const TABLES: [&str; 17] = [
 const LIMIT: u64 = 1048576;
 
 fn main(rt: HostRuntime) -> ExitCode {
-    let mut code = 0;
+    let mut code = if show_examples(rt).is_some() { 0 } else { 1 };
     for name in TABLES {
         if !matches!(is_as_told(rt, name), Ok(true)) {
             code = 1;

@@ -4,3 +4,4 @@ mod Items
 mod Raws
 mod Parsing
 mod Endings
+mod InstanceForms

@@ -117,7 +117,7 @@ impl Production for InstanceRule {
 
     ghost rule = { grammar.instance };
 
-    #[tactic(auto, unfolding(cq_syntax::specs::Grammar::instance, cq_syntax::specs::Grammar::instance_literal, cq_syntax::specs::Grammar::coproduct, cq_syntax::specs::Grammar::import))]
+    #[tactic(auto, unfolding(crate::proofs::InstanceForms::instance_forms))]
     fn read<'a>(alloc: Global, at: Cursor<'a>) -> Result<(InstanceExp, Cursor<'a>), Halt<'a>> {
         if is_next(at, Class::Literal) {
             let (literal, rest) = instance_literal(alloc, at)?;

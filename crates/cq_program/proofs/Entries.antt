@@ -1,40 +1,37 @@
--- Looking names up among entries.
-use Rattle.std.proofs.Common.{ℕ, suc, Bool, true, false, List, [], ◌∷◌, ◌≡◌, ◌<◌, length, get_or, arith, Option, Some, None, refl, sym, ap, ◌∙◌}
-use Rattle.std.specs.Prelude.{cond, if◌then◌else◌, option_map, option_and_then, slice_get}
+-- The table of the declared names as an environment.
+use Rattle.std.proofs.Common.{Bool, true, false, List, [], ◌∷◌, ◌++◌, ◌≡◌, Option, Some, None, refl, ap}
+use Rattle.std.specs.Prelude.{Box, cond, if◌then◌else◌, is_some, option_map}
+use Rattle.std.specs.Map.{lookup}
+use Rattle.std.specs.declared.alloc.Global.{Global}
+use Rattle.indexmap.specs.IndexMap.{insert_entry}
 use Rattle.cq_base.specs.declared.name.Name.{Name}
-use Rattle.cq_base.specs.Names.{number_of, same_name}
-use Rattle.std.proofs.lemmas.List.{length-map}
-use Rattle.std.proofs.lemmas.Option.{slice_get-get_or}
-use Rattle.cq_base.proofs.Numbers.{position-cons, number_of-within}
-use Rattle.cq_program.specs.declared.environment.Entry.{Entry}
+use Rattle.cq_base.specs.Names.{same_name}
+use Rattle.cq_program.specs.declared.environment.Meaning.{Meaning}
 use Rattle.cq_program.specs.Meanings.{Meant, meant_by}
-use Rattle.cq_program.specs.Environment.{entry_names, environment_of, meant}
+use Rattle.cq_program.specs.Environment.{Entry, environment_of, meant}
 
-abbrev meant_at : List Entry → ℕ → Option Meant
-meant_at entries n = option_map (λ (entry : Entry). meant entry.meaning.value) (slice_get entries n)
+abbrev pub meant_in : Option (Box Meaning Global) → Option Meant
+meant_in found = option_map (λ m. meant m.value) found
 
-one_more : (b : Bool) (o : Option ℕ) (entry : Entry) (entries : List Entry) (m : Option Meant) → m ≡ option_and_then (meant_at entries) o
-    → (if b then Some (meant entry.meaning.value) else m) ≡ option_and_then (meant_at (entry ∷ entries)) (cond b (Some 0) (option_map suc o))
-one_more true o entry entries m h = refl
-one_more false None entry entries m h = h
-one_more false (Some n) entry entries m h = h
+one_more : (b : Bool) (entry : Entry) (found : Option (Box Meaning Global)) (rest : Option Meant) → meant_in found ≡ rest
+    → meant_in (cond b (Some entry.1) found) ≡ (if b then Some (meant entry.1.value) else rest)
+one_more true entry found rest h = refl
+one_more false entry found rest h = h
 
--- a name stands for what the entry with its number says
-pub meant_by-number : (entries : List Entry) (name : Name) → meant_by (environment_of entries) name ≡ option_and_then (meant_at entries) (number_of (entry_names entries) name)
-meant_by-number [] name = refl
-meant_by-number (entry ∷ entries) name =
-    one_more (same_name name entry.name) (number_of (entry_names entries) name) entry entries (meant_by (environment_of entries) name) (meant_by-number entries name)
-    ∙ ap (option_and_then (meant_at (entry ∷ entries))) (sym (position-cons (same_name name) entry.name (entry_names entries)))
+-- a name stands for what the table has under it
+pub meant_by-lookup : (entries : List Entry) (name : Name) → meant_in (lookup (same_name name) entries) ≡ meant_by (environment_of entries) name
+meant_by-lookup [] name = refl
+meant_by-lookup (entry ∷ entries) name =
+    one_more (same_name name entry.0) entry (lookup (same_name name) entries) (meant_by (environment_of entries) name) (meant_by-lookup entries name)
 
--- what is found under a name's number is what the name stands for
-pub found_none : (entries : List Entry) (names : List Name) (name : Name) → names ≡ entry_names entries → None ≡ number_of names name → None ≡ meant_by (environment_of entries) name
-found_none entries names name are none =
-    sym (meant_by-number entries name ∙ ap (option_and_then (meant_at entries)) (ap (λ (l : List Name). number_of l name) (sym are) ∙ sym none))
-
-pub found_some : (entries : List Entry) (names : List Name) (name : Name) (n : ℕ) (entry : Entry) → names ≡ entry_names entries → Some n ≡ number_of names name
-    → entry ≡ get_or entries n entry → Some (meant entry.meaning.value) ≡ meant_by (environment_of entries) name
-found_some entries names name n entry are some is =
-    let number : number_of (entry_names entries) name ≡ Some n = ap (λ (l : List Name). number_of l name) (sym are) ∙ sym some in
-    let inside : n < length entries = omega (arith, number_of-within (entry_names entries) name n number, length-map entries (λ (e : Entry). e.name)) in
-    let here : slice_get entries n ≡ Some entry = slice_get-get_or entries n entry inside ∙ ap (λ (e : Entry). Some e) (sym is) in
-    sym (meant_by-number entries name ∙ ap (option_and_then (meant_at entries)) number ∙ ap (option_map (λ (e : Entry). meant e.meaning.value)) here)
+-- a name that the table doesn't have comes last
+pub inserted : (entries : List Entry) (name : Name) (m : Box Meaning Global) → is_some (lookup (same_name name) entries) ≡ false
+    → environment_of (insert_entry same_name entries name m) ≡ environment_of entries ++ (name, meant m.value) ∷ []
+inserted [] name m none = refl
+inserted (entry ∷ entries) name m none = step (same_name name entry.0) none (inserted entries name m)
+  where
+    step : (b : Bool) → is_some (cond b (Some entry.1) (lookup (same_name name) entries)) ≡ false
+        → (is_some (lookup (same_name name) entries) ≡ false → environment_of (insert_entry same_name entries name m) ≡ environment_of entries ++ (name, meant m.value) ∷ [])
+        → environment_of (if b then (entry.0, m) ∷ entries else entry ∷ insert_entry same_name entries name m) ≡ environment_of (entry ∷ entries) ++ (name, meant m.value) ∷ []
+    step true none rest = cc
+    step false none rest = ap (λ (env : List (Name × Meant)). (entry.0, meant entry.1.value) ∷ env) (rest none)

@@ -15,8 +15,7 @@ use Rattle.cq_program.specs.declared.reason.ReadCause.TheVariants.{Absent, TooLo
 use Rattle.cq_program.specs.Meanings.{Environment, Meant}
 use Rattle.cq_program.specs.Checks.{Posed, Stated, stated_by}
 use Rattle.cq_program.specs.Folders.{Told, Reads, LacksFile, Raised}
-use Rattle.cq_program.specs.declared.environment.Entry.{Entry}
-use Rattle.cq_program.specs.Environment.{Refuses, environment_of, meant}
+use Rattle.cq_program.specs.Environment.{Refuses}
 use Rattle.cq_program.specs.Program.{Breach, by_rule, by_fault, by_failure, by_limit, Follow}
 use Rattle.cq_program.specs.Posing.{AddsDecl, RefusesDecl, RefusesProgram, RefusesReading, Withholds}
 
@@ -98,21 +97,16 @@ split_at decls i d inside is =
     sym (take-append-drop i decls) ∙ ap (λ (l : List Decl). take i decls ++ l) (drop-cons decls i d inside ∙ ap (λ (x : Decl). x ∷ drop (suc i) decls) (sym is))
 
 -- the first rule that the declaration at place i breaks is that which the program breaks
-pub refuses_at : (depth : ℕ) (old mid new : FolderData) (program : Program) (decls : List Decl) (i : ℕ) (d : Decl) (entries : List Entry) (answer : ProgramRefusal)
-    → Keeps old mid → decls ≡ program.decls → i < length decls → d ≡ get_or decls i d → Follow old.files [] (take i decls) (environment_of entries)
-    → RefusesDecl depth mid new (environment_of entries) d answer → RefusesProgram depth old new program answer
-refuses_at depth old mid new program decls i d entries answer keeps are inside is follow refuses =
-    refuses_program depth old mid new program (take i decls) (drop (suc i) decls) d (environment_of entries) answer keeps (sym are ∙ split_at decls i d inside is) follow refuses
+pub refuses_at : (depth : ℕ) (old mid new : FolderData) (program : Program) (decls : List Decl) (i : ℕ) (d : Decl) (env : Environment) (answer : ProgramRefusal)
+    → Keeps old mid → decls ≡ program.decls → i < length decls → d ≡ get_or decls i d → Follow old.files [] (take i decls) env
+    → RefusesDecl depth mid new env d answer → RefusesProgram depth old new program answer
+refuses_at depth old mid new program decls i d env answer keeps are inside is follow refuses =
+    refuses_program depth old mid new program (take i decls) (drop (suc i) decls) d env answer keeps (sym are ∙ split_at decls i d inside is) follow refuses
 
--- one declaration more is followed, and has an entry more
-pub follows_more : (told here : Told) (decls : List Decl) (i : ℕ) (d : Decl) (entries after : List Entry) → here ≡ told → i < length decls → d ≡ get_or decls i d
-    → Follow told [] (take i decls) (environment_of entries) → length entries ≡ i → AddsDecl here (environment_of entries) d (environment_of after)
-    → Follow told [] (take (i + 1) decls) (environment_of after) × (length after ≡ i + 1)
-follows_more told here decls i d entries after same inside is follow count adds =
-    let added : AddsDecl told (environment_of entries) d (environment_of after) =
-    subst (λ (t : Told). AddsDecl t (environment_of entries) d (environment_of after)) same adds in
+-- one declaration more is followed
+pub follows_more : (told here : Told) (decls : List Decl) (i : ℕ) (d : Decl) (env after : Environment) → here ≡ told → i < length decls → d ≡ get_or decls i d
+    → Follow told [] (take i decls) env → AddsDecl here env d after → Follow told [] (take (i + 1) decls) after
+follows_more told here decls i d env after same inside is follow adds =
+    let added : AddsDecl told env d after = subst (λ (t : Told). AddsDecl t env d after) same adds in
     let one : take (i + 1) decls ≡ take i decls ++ d ∷ [] = take_more decls i d inside ∙ ap (λ (x : Decl). take i decls ++ x ∷ []) (sym is) in
-    let new : length (environment_of after) ≡ length (environment_of entries) + 1 = ap length added.2 ∙ length_push (environment_of entries) (d.name, added.0) in
-    let longer : length after ≡ i + 1 =
-    omega (arith, length-map {B = Name × Meant} after (λ (e : Entry). (e.name, meant e.meaning.value)), length-map {B = Name × Meant} entries (λ (e : Entry). (e.name, meant e.meaning.value))) in
-    (subst (λ (ds : List Decl). Follow told [] ds (environment_of after)) (sym one) (Follow-more told [] (take i decls) d (environment_of entries) (environment_of after) follow added), longer)
+    subst (λ (ds : List Decl). Follow told [] ds after) (sym one) (Follow-more told [] (take i decls) d env after follow added)

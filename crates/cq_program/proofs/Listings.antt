@@ -2,8 +2,7 @@
 use Rattle.std.proofs.Common.{◌≡◌, List, [], ◌∷◌, ◌++◌, Option, Some, None, refl, ap, ◌∙◌}
 use Rattle.std.specs.Prelude.{option_to_list}
 use Rattle.std.specs.List.{filter_map, flat_map, cons_option}
-use Rattle.cq_program.specs.declared.environment.Entry.{Entry}
-use Rattle.cq_program.specs.Environment.{environment_of, meant}
+use Rattle.cq_program.specs.Environment.{Entry, environment_of, meant}
 use Rattle.cq_program.specs.Program.{Listing, listing_named, listing_of}
 use Rattle.cq_program.specs.Named.{listings_in}
 
@@ -14,5 +13,5 @@ one_more (Some listing) rest = refl
 pub listings_all : (entries : List Entry) → flat_map listings_in entries ≡ filter_map listing_of (environment_of entries)
 listings_all [] = refl
 listings_all (entry ∷ entries) =
-    one_more (listing_named entry.name (meant entry.meaning.value)) (flat_map listings_in entries)
-    ∙ ap (cons_option (listing_named entry.name (meant entry.meaning.value))) (listings_all entries)
+    one_more (listing_named entry.0 (meant entry.1.value)) (flat_map listings_in entries)
+    ∙ ap (cons_option (listing_named entry.0 (meant entry.1.value))) (listings_all entries)

@@ -1,5 +1,6 @@
 -- The environment that the code keeps, as the definitions see it, and what its functions answer.
-use Rattle.std.specs.Prelude.{◌≡◌, ◌⊎◌, List, Option, Some, Result, Ok, Err, All, map}
+use Rattle.std.specs.Prelude.{◌≡◌, ◌⊎◌, Box, List, Option, Some, Result, Ok, Err, All, map}
+use Rattle.std.specs.declared.alloc.Global.{Global}
 use Rattle.cq_base.specs.declared.name.Name.{Name}
 use Rattle.cq_base.specs.declared.place.Place.{Place}
 use Rattle.cq_program.specs.declared.reason.Reason.{Reason}
@@ -18,7 +19,6 @@ use Rattle.cq_program.specs.declared.colimits.UsedSchema.{UsedSchema}
 use Rattle.cq_syntax.specs.declared.part.Spot.{Spot}
 use Rattle.cq_program.specs.declared.environment.Meaning.{Meaning}
 use Rattle.cq_program.specs.declared.environment.Meaning.TheVariants as meaning
-use Rattle.cq_program.specs.declared.environment.Entry.{Entry}
 use Rattle.cq_mapping.specs.Duties.{Preserves}
 use Rattle.cq_query.specs.Duties.{Sound}
 use Rattle.cq_theory.specs.SchemaData.{SchemaData}
@@ -59,11 +59,12 @@ meant (meaning.Query n t Q) = query n t Q.value
 meant (meaning.Instance n i) = instance n i.value
 meant (meaning.Transform t) = transform (ends_meant t.ends) t.transform.value
 
-abbrev pub entry_names : List Entry → List Name
-entry_names entries = map (λ entry. entry.name) entries
+-- a declared name in the table of names, with what it stands for
+abbrev pub Entry : Type 0
+Entry = Name × Box Meaning Global
 
 abbrev pub environment_of : List Entry → Environment
-environment_of entries = map (λ entry. (entry.name, meant entry.meaning.value)) entries
+environment_of entries = map (λ entry. (entry.0, meant entry.1.value)) entries
 
 abbrev pub mapping_meant : NamedMapping → MappingMeant
 mapping_meant named = record { source = named.source; target = named.target; mapping = named.mapping.value }

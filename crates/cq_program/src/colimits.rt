@@ -46,11 +46,11 @@ pub fn pose_colimit(
     literal: &ColimitLit,
 ) -> Result<Statement, ProgramRefusal>
     requires few { colimit_count literal.now < 2 ^ 32 }
-    requires settled { AreSettled (environment_of env.now.entries.items) }
-    ensures posed { Answers posed_as result (colimit_posed (environment_of env.now.entries.items) place name.now
+    requires settled { AreSettled (environment_of env.now.names.entries) }
+    ensures posed { Answers posed_as result (colimit_posed (environment_of env.now.names.entries) place name.now
         literal.now) }
     ensures well_sorted { IfOk result IsPosed }
-    ensures grounded { IfOk result (λ statement. IsGrounded (environment_of env.now.entries.items) name.now
+    ensures grounded { IfOk result (λ statement. IsGrounded (environment_of env.now.names.entries) name.now
         (posed_as statement)) }
 {
     let parts = schemas_of(alloc, env, literal.parts.as_slice())?;
@@ -96,7 +96,7 @@ fn schemas_of(
     used: &[Spot],
 ) -> Result<Vec<UsedSchema>, ProgramRefusal>
     ensures { Answers (λ parts. useds_meant parts.items) result
-        (parts_used (environment_of env.now.entries.items) used.now) }
+        (parts_used (environment_of env.now.names.entries) used.now) }
 {
     let mut parts = Vec::new(alloc);
     for spot in used {
@@ -112,10 +112,10 @@ fn push_schema(
     parts: &mut Vec<UsedSchema>,
 ) -> Result<(), ProgramRefusal>
     ensures given { OnOk result ((part : SchemaMeant)
-        × (schema_used (environment_of env.now.entries.items) used.now ≡ Ok part)
+        × (schema_used (environment_of env.now.names.entries) used.now ≡ Ok part)
         × (useds_meant parts.new.items ≡ useds_meant parts.old.items ++ (used.now, part) ∷ [])) }
     ensures refused { IfErr result (λ refusal. Refuses refusal
-        (schema_used (environment_of env.now.entries.items) used.now)) }
+        (schema_used (environment_of env.now.names.entries) used.now)) }
 {
     let part = env.schema(used)?;
     let name = used.name.clone()?;
@@ -288,11 +288,11 @@ fn named_part(part: &UsedSchema, inclusion: &Rc<Mapping>) -> Result<NamedPart, A
 
 /// The schema of a colimit.
 pub fn pose_joined_schema(env: &Environment, used: &Spot) -> Result<Statement, ProgramRefusal>
-    requires settled { AreSettled (environment_of env.now.entries.items) }
-    ensures posed { Answers posed_as result (get_schema_posed (environment_of env.now.entries.items) used.now) }
+    requires settled { AreSettled (environment_of env.now.names.entries) }
+    ensures posed { Answers posed_as result (get_schema_posed (environment_of env.now.names.entries) used.now) }
     ensures well_sorted { IfOk result IsPosed }
     ensures grounded { (name : TheName) → IfOk result
-        (λ statement. IsGrounded (environment_of env.now.entries.items) name (posed_as statement)) }
+        (λ statement. IsGrounded (environment_of env.now.names.entries) name (posed_as statement)) }
 {
     match colimit_of(env, used) {
         Ok(found) => Ok(Statement::Schema(copy_named(&found.schema)?)),
@@ -306,12 +306,12 @@ pub fn pose_inclusion(
     along: &Spot,
     used: &Spot,
 ) -> Result<Statement, ProgramRefusal>
-    requires settled { AreSettled (environment_of env.now.entries.items) }
-    ensures posed { Answers posed_as result (get_mapping_posed (environment_of env.now.entries.items) along.now
+    requires settled { AreSettled (environment_of env.now.names.entries) }
+    ensures posed { Answers posed_as result (get_mapping_posed (environment_of env.now.names.entries) along.now
         used.now) }
     ensures well_sorted { IfOk result IsPosed }
     ensures grounded { (name : TheName) → IfOk result
-        (λ statement. IsGrounded (environment_of env.now.entries.items) name (posed_as statement)) }
+        (λ statement. IsGrounded (environment_of env.now.names.entries) name (posed_as statement)) }
 {
     let found = match colimit_of(env, along) {
         Ok(found) => found,

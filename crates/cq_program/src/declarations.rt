@@ -1,5 +1,5 @@
 //! The declarations of a program in order.
-ghost use Rattle.std.specs.Prelude.{◌≡◌, ◌<◌, ◌≤◌, ◌-◌, ◌^◌, ◌++◌, [], IfOk, IfErr, OnOk, length, map};
+ghost use Rattle.std.specs.Prelude.{◌≡◌, ◌<◌, ◌≤◌, ◌^◌, ◌++◌, [], IfOk, IfErr, OnOk, map};
 ghost use Rattle.std.specs.List.{filter_map, flat_map};
 ghost use Rattle.cq_import.specs.Folders.{Keeps};
 ghost use Rattle.cq_parts.specs.Few.{HasFewParts, part_count};
@@ -8,14 +8,15 @@ ghost use Rattle.cq_program.specs.Environment.{AreSettled, WillSettle, environme
 ghost use Rattle.cq_program.specs.Posing.{AddsDecl, RefusesDecl, RefusesProgram};
 ghost use Rattle.cq_program.specs.Named.{listed_as, listings_in};
 
-use crate::environment::{Entry, Environment, Meaning};
+use crate::environment::{Environment, Meaning};
 use crate::models::meaning_of;
 use crate::reason::ProgramRefusal;
 use crate::stating::{read_stated, state};
-use cq_base::Name;
+use cq_base::{Hashing, Name};
 use cq_io::Folder;
 use cq_model::Instance;
 use cq_syntax::{Decl, Program};
+use indexmap::IndexMap;
 use std::alloc::{AllocError, Global};
 use std::rc::Rc;
 
@@ -86,7 +87,7 @@ fn declare_all<F: Folder>(
     requires few { HasFewParts program.now }
     requires depth { depth ≤ 64 }
     ensures follows { IfOk result (λ env. Follow (F.state folder.old).files [] program.now.decls
-        (environment_of env.entries.items)) }
+        (environment_of env.names.entries)) }
     ensures keeps { Keeps (F.state folder.old) (F.state folder.new) }
     ensures refuses { IfErr result (RefusesProgram depth (F.state folder.old) (F.state folder.new) program.now) }
 {
@@ -106,15 +107,14 @@ fn declare<F: Folder>(
     depth: u32,
 ) -> Result<(), ProgramRefusal>
     requires few { part_count decl.now.body < 2 ^ 32 }
-    requires room { length env.old.entries.items < 2 ^ 32 - 1 }
-    requires settled { AreSettled (environment_of env.old.entries.items) }
+    requires settled { AreSettled (environment_of env.old.names.entries) }
     requires depth { depth ≤ 64 }
     ensures declares { OnOk result (AddsDecl (F.state folder.old).files
-        (environment_of env.old.entries.items) decl.now (environment_of env.new.entries.items)) }
-    ensures settled { OnOk result (AreSettled (environment_of env.new.entries.items)) }
+        (environment_of env.old.names.entries) decl.now (environment_of env.new.names.entries)) }
+    ensures settled { OnOk result (AreSettled (environment_of env.new.names.entries)) }
     ensures keeps { Keeps (F.state folder.old) (F.state folder.new) }
     ensures refuses { IfErr result (RefusesDecl depth (F.state folder.old) (F.state folder.new)
-        (environment_of env.old.entries.items) decl.now) }
+        (environment_of env.old.names.entries) decl.now) }
 {
     let name = decl.name.clone()?;
     let meaning = judge(alloc, env, decl, folder, depth)?;
@@ -131,15 +131,15 @@ fn judge<F: Folder>(
     depth: u32,
 ) -> Result<Meaning, ProgramRefusal>
     requires few { part_count decl.now.body < 2 ^ 32 }
-    requires settled { AreSettled (environment_of env.now.entries.items) }
+    requires settled { AreSettled (environment_of env.now.names.entries) }
     requires depth { depth ≤ 64 }
     ensures declares { IfOk result (λ meaning. Declares (F.state folder.old).files
-        (environment_of env.now.entries.items) decl.now (meant meaning)) }
-    ensures settled { IfOk result (λ meaning. WillSettle (environment_of env.now.entries.items) decl.now.name
+        (environment_of env.now.names.entries) decl.now (meant meaning)) }
+    ensures settled { IfOk result (λ meaning. WillSettle (environment_of env.now.names.entries) decl.now.name
         (meant meaning)) }
     ensures keeps { Keeps (F.state folder.old) (F.state folder.new) }
     ensures refuses { IfErr result (RefusesDecl depth (F.state folder.old) (F.state folder.new)
-        (environment_of env.now.entries.items) decl.now) }
+        (environment_of env.now.names.entries) decl.now) }
 {
     let stated = state(alloc, env, decl)?;
     let statement = read_stated(alloc, decl.place, stated, folder)?;
@@ -149,26 +149,33 @@ fn judge<F: Folder>(
 /// The instances among the declared names.
 fn instances_of(alloc: Global, env: Environment) -> Result<Vec<Named>, AllocError>
     ensures { IfOk result (λ named. map listed_as named.items ≡ filter_map listing_of
-        (environment_of env.entries.items)) }
+        (environment_of env.names.entries)) }
 {
-    let named = instances_in(alloc, env.entries)?;
+    let named = instances_in(alloc, env.names)?;
     Ok(named)
 }
 
-fn instances_in(alloc: Global, entries: Vec<Entry>) -> Result<Vec<Named>, AllocError>
-    ensures { IfOk result (λ named. map listed_as named.items ≡ flat_map listings_in entries.items) }
+fn instances_in(
+    alloc: Global,
+    names: IndexMap<Name, Box<Meaning>, Hashing>,
+) -> Result<Vec<Named>, AllocError>
+    ensures { IfOk result (λ named. map listed_as named.items ≡ flat_map listings_in names.entries) }
 {
     let mut named = Vec::new(alloc);
-    for entry in entries {
-        push_instance(&mut named, entry)?;
+    for (name, meaning) in names {
+        push_instance(&mut named, name, meaning)?;
     }
     Ok(named)
 }
 
-fn push_instance(named: &mut Vec<Named>, entry: Entry) -> Result<(), AllocError>
-    ensures { OnOk result (map listed_as named.new.items ≡ map listed_as named.old.items ++ listings_in entry) }
+fn push_instance(
+    named: &mut Vec<Named>,
+    name: Name,
+    meaning: Box<Meaning>,
+) -> Result<(), AllocError>
+    ensures { OnOk result (map listed_as named.new.items
+        ≡ map listed_as named.old.items ++ listings_in (name, meaning)) }
 {
-    let Entry { name, meaning } = entry;
     match Box::into_inner(meaning) {
         Meaning::Instance(schema, instance) => {
             named.push(Named {

@@ -1,18 +1,18 @@
 //! The declared names in order, and what they stand for.
-ghost use Rattle.std.specs.Prelude.{◌≡◌, ◌<◌, ◌-◌, ◌^◌, ◌++◌, ◌∷◌, [], Some, IfOk, OnErr, OnOk};
-ghost use Rattle.std.specs.Prelude.{length, is_some, option_map};
+ghost use Rattle.std.specs.Prelude.{◌≡◌, ◌++◌, ◌∷◌, [], Some, IfOk, OnErr, OnOk, option_map};
 ghost use Rattle.cq_program.specs.Meanings.{meant_by, typeside, typeside_used, schema_used};
-ghost use Rattle.cq_program.specs.Environment.{Answers, entry_names, environment_of, meant, schema_meant};
+ghost use Rattle.cq_program.specs.Environment.{Answers, environment_of, meant, schema_meant};
 ghost use Rattle.cq_program.specs.declared.reason.ProgramRefusal.TheVariants.{Broken};
 ghost use Rattle.cq_program.specs.declared.reason.Reason.TheVariants.{NameUnknown, WrongKind};
 
 use crate::reason::{ProgramRefusal, Reason};
-use cq_base::{Name, Names, Seq};
+use cq_base::{Hashing, Name, Seq};
 use cq_mapping::Mapping;
 use cq_model::{Instance, Transform};
 use cq_query::Query;
 use cq_syntax::Spot;
 use cq_theory::{Schema, Typeside};
+use indexmap::IndexMap;
 use std::alloc::{AllocError, Global};
 use std::rc::Rc;
 
@@ -77,39 +77,29 @@ pub(crate) enum Meaning {
     Transform(NamedTransform),
 }
 
-/// A declared name. What it stands for is boxed, so that whatever holds an entry is small.
-#[derive(Drop)]
-pub(crate) struct Entry {
-    pub name: Name,
-    pub meaning: Box<Meaning>,
-}
-
-/// The declared names in order.
+/// The declared names in order, with what each stands for. That is boxed, so that what holds an entry is small.
 #[derive(Drop)]
 pub(crate) struct Environment {
-    pub entries: Vec<Entry>,
-    pub names: Names,
-    ghost tabled: { names ≡ entry_names entries.items },
+    pub names: IndexMap<Name, Box<Meaning>, Hashing>,
 }
 
 impl Environment {
     /// No names.
     pub fn new(alloc: Global) -> Environment
-        ensures { result.entries.items ≡ [] }
+        ensures { result.names.entries ≡ [] }
     {
         Environment {
-            entries: Vec::new(alloc),
-            names: Names::new(alloc),
+            names: IndexMap::with_hasher(alloc, Hashing::new()),
         }
     }
 
     /// What a name stands for.
     pub fn find(&self, name: &Name) -> Option<&Meaning>
         ensures { option_map (λ meaning. meant meaning.now) result ≡ meant_by
-            (environment_of self.now.entries.items) name.now }
+            (environment_of self.now.names.entries) name.now }
     {
-        match self.names.find(name) {
-            Some(number) => Some(&*self.entries[number as usize].meaning),
+        match self.names.get(name) {
+            Some(meaning) => Some(&**meaning),
             None => None,
         }
     }
@@ -117,8 +107,8 @@ impl Environment {
     /// The typeside for which a used name stands.
     pub fn typeside(&self, used: &Spot) -> Result<Rc<Typeside>, ProgramRefusal>
         ensures answers { Answers (λ typeside. typeside.value) result
-            (typeside_used (environment_of self.now.entries.items) used.now) }
-        ensures meant { IfOk result (λ found. meant_by (environment_of self.now.entries.items) used.now.name
+            (typeside_used (environment_of self.now.names.entries) used.now) }
+        ensures meant { IfOk result (λ found. meant_by (environment_of self.now.names.entries) used.now.name
             ≡ Some (typeside found.value)) }
     {
         match self.find(&used.name) {
@@ -135,7 +125,7 @@ impl Environment {
 
     /// The schema for which a used name stands.
     pub fn schema(&self, used: &Spot) -> Result<NamedSchema, ProgramRefusal>
-        ensures { Answers schema_meant result (schema_used (environment_of self.now.entries.items) used.now) }
+        ensures { Answers schema_meant result (schema_used (environment_of self.now.names.entries) used.now) }
     {
         match self.find(&used.name) {
             None => Err(unknown(used)),
@@ -151,18 +141,15 @@ impl Environment {
 
     /// Adds a name behind the others. Where memory is wanting, or the name is there already, nothing changes.
     pub fn add(&mut self, alloc: Global, name: Name, meaning: Meaning) -> Result<(), AllocError>
-        requires { length self.old.entries.items < 2 ^ 32 - 1 }
-        ensures added { OnOk result (environment_of self.new.entries.items
-            ≡ environment_of self.old.entries.items ++ (name, meant meaning) ∷ []) }
-        ensures unchanged { OnErr result (self.new.entries.items ≡ self.old.entries.items) }
+        ensures added { OnOk result (environment_of self.new.names.entries
+            ≡ environment_of self.old.names.entries ++ (name, meant meaning) ∷ []) }
+        ensures unchanged { OnErr result (self.new.names.entries ≡ self.old.names.entries) }
     {
         let meaning = Box::new(alloc, meaning)?;
-        self.entries.reserve(1)?;
-        let copy = name.clone()?;
-        if self.names.add(copy).is_err() {
+        if self.names.contains_key(&name) {
             return Err(AllocError);
         }
-        self.entries.push_reserved(Entry { name, meaning });
+        self.names.insert(name, meaning)?;
         Ok(())
     }
 }

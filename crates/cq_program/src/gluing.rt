@@ -40,12 +40,12 @@ pub fn pose_coproduct(
     used: &[Spot],
     schema: &Spot,
 ) -> Result<Statement, ProgramRefusal>
-    requires settled { AreSettled (environment_of env.now.entries.items) }
-    ensures posed { Answers posed_as result (coproduct_posed (environment_of env.now.entries.items) used.now
+    requires settled { AreSettled (environment_of env.now.names.entries) }
+    ensures posed { Answers posed_as result (coproduct_posed (environment_of env.now.names.entries) used.now
         schema.now) }
     ensures well_sorted { IfOk result IsPosed }
     ensures grounded { (name : TheName) → IfOk result
-        (λ statement. IsGrounded (environment_of env.now.entries.items) name (posed_as statement)) }
+        (λ statement. IsGrounded (environment_of env.now.names.entries) name (posed_as statement)) }
 {
     let operands = operands_of(alloc, env, used)?;
     let over = env.schema(schema)?;
@@ -63,7 +63,7 @@ fn operands_of(
     used: &[Spot],
 ) -> Result<Vec<Operand>, ProgramRefusal>
     ensures { Answers (λ operands. operands_meant operands.items) result
-        (operands_used (environment_of env.now.entries.items) used.now) }
+        (operands_used (environment_of env.now.names.entries) used.now) }
 {
     let mut operands = Vec::new(alloc);
     for spot in used {
@@ -79,10 +79,10 @@ fn push_operand(
     operands: &mut Vec<Operand>,
 ) -> Result<(), ProgramRefusal>
     ensures given { OnOk result ((part : InstanceMeant)
-        × (instance_used (environment_of env.now.entries.items) used.now ≡ Ok part)
+        × (instance_used (environment_of env.now.names.entries) used.now ≡ Ok part)
         × (operands_meant operands.new.items ≡ operands_meant operands.old.items ++ (used.now.place, part) ∷ [])) }
     ensures refused { IfErr result (λ refusal. Refuses refusal
-        (instance_used (environment_of env.now.entries.items) used.now)) }
+        (instance_used (environment_of env.now.names.entries) used.now)) }
 {
     let part = instance_of(env, used)?;
     let place = used.place;
@@ -125,12 +125,12 @@ pub fn pose_pushout(
     first: &Spot,
     second: &Spot,
 ) -> Result<Statement, ProgramRefusal>
-    requires settled { AreSettled (environment_of env.now.entries.items) }
-    ensures posed { Answers posed_as result (pushout_posed (environment_of env.now.entries.items) first.now
+    requires settled { AreSettled (environment_of env.now.names.entries) }
+    ensures posed { Answers posed_as result (pushout_posed (environment_of env.now.names.entries) first.now
         second.now) }
     ensures well_sorted { IfOk result IsPosed }
     ensures grounded { (name : TheName) → IfOk result
-        (λ statement. IsGrounded (environment_of env.now.entries.items) name (posed_as statement)) }
+        (λ statement. IsGrounded (environment_of env.now.names.entries) name (posed_as statement)) }
 {
     let left = transform_of(env, first)?;
     let right = transform_of(env, second)?;

@@ -24,11 +24,11 @@ use std::alloc::Global;
 
 /// An instance that is to be pulled back along a mapping, which is over the mapping's target.
 pub fn pose_delta(env: &Environment, along: &Spot, used: &Spot) -> Result<Statement, ProgramRefusal>
-    requires settled { AreSettled (environment_of env.now.entries.items) }
-    ensures posed { Answers posed_as result (delta_posed (environment_of env.now.entries.items) along.now used.now) }
+    requires settled { AreSettled (environment_of env.now.names.entries) }
+    ensures posed { Answers posed_as result (delta_posed (environment_of env.now.names.entries) along.now used.now) }
     ensures well_sorted { IfOk result IsPosed }
     ensures grounded { (name : TheName) → IfOk result
-        (λ statement. IsGrounded (environment_of env.now.entries.items) name (posed_as statement)) }
+        (λ statement. IsGrounded (environment_of env.now.names.entries) name (posed_as statement)) }
 {
     let named = mapping_of(env, along)?;
     let moved = instance_of(env, used)?;
@@ -40,11 +40,11 @@ pub fn pose_delta(env: &Environment, along: &Spot, used: &Spot) -> Result<Statem
 
 /// An instance that is to be moved along a mapping, which is over the mapping's source.
 pub fn pose_sigma(env: &Environment, along: &Spot, used: &Spot) -> Result<Statement, ProgramRefusal>
-    requires settled { AreSettled (environment_of env.now.entries.items) }
-    ensures posed { Answers posed_as result (sigma_posed (environment_of env.now.entries.items) along.now used.now) }
+    requires settled { AreSettled (environment_of env.now.names.entries) }
+    ensures posed { Answers posed_as result (sigma_posed (environment_of env.now.names.entries) along.now used.now) }
     ensures well_sorted { IfOk result IsPosed }
     ensures grounded { (name : TheName) → IfOk result
-        (λ statement. IsGrounded (environment_of env.now.entries.items) name (posed_as statement)) }
+        (λ statement. IsGrounded (environment_of env.now.names.entries) name (posed_as statement)) }
 {
     let named = mapping_of(env, along)?;
     let moved = instance_of(env, used)?;

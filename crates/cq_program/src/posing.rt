@@ -69,11 +69,11 @@ pub fn pose_body(
 ) -> Result<Statement, ProgramRefusal>
     requires no_files { folder_of body.now ≡ None }
     requires few { part_count body.now < 2 ^ 32 }
-    requires settled { AreSettled (environment_of env.now.entries.items) }
-    ensures posed { Answers posed_as result (body_posed (environment_of env.now.entries.items) place
+    requires settled { AreSettled (environment_of env.now.names.entries) }
+    ensures posed { Answers posed_as result (body_posed (environment_of env.now.names.entries) place
         name.now body.now) }
     ensures well_sorted { IfOk result IsPosed }
-    ensures grounded { IfOk result (λ statement. IsGrounded (environment_of env.now.entries.items) name.now
+    ensures grounded { IfOk result (λ statement. IsGrounded (environment_of env.now.names.entries) name.now
         (posed_as statement)) }
 {
     match body {
@@ -101,12 +101,12 @@ fn pose_instance(
 ) -> Result<Statement, ProgramRefusal>
     requires no_files { folder_of (Instanced expression.now) ≡ None }
     requires few { part_count (Instanced expression.now) < 2 ^ 32 }
-    requires settled { AreSettled (environment_of env.now.entries.items) }
+    requires settled { AreSettled (environment_of env.now.names.entries) }
     ensures posed { (name : TheName) → Answers posed_as result
-        (body_posed (environment_of env.now.entries.items) place name (Instanced expression.now)) }
+        (body_posed (environment_of env.now.names.entries) place name (Instanced expression.now)) }
     ensures well_sorted { IfOk result IsPosed }
     ensures grounded { (name : TheName) → IfOk result
-        (λ statement. IsGrounded (environment_of env.now.entries.items) name (posed_as statement)) }
+        (λ statement. IsGrounded (environment_of env.now.names.entries) name (posed_as statement)) }
 {
     match expression {
         InstanceExp::Literal(literal) => pose_literal(alloc, env, place, literal),
@@ -149,10 +149,10 @@ fn pose_schema(
     literal: &SchemaLit,
 ) -> Result<Statement, ProgramRefusal>
     requires { schema_count literal.now < 2 ^ 32 }
-    ensures posed { Answers posed_as result (schema_posed (environment_of env.now.entries.items) place name.now
+    ensures posed { Answers posed_as result (schema_posed (environment_of env.now.names.entries) place name.now
         literal.now) }
     ensures well_sorted { IfOk result IsPosed }
-    ensures grounded { IfOk result (λ statement. IsGrounded (environment_of env.now.entries.items) name.now
+    ensures grounded { IfOk result (λ statement. IsGrounded (environment_of env.now.names.entries) name.now
         (posed_as statement)) }
 {
     let typeside = env.typeside(&literal.typeside)?;
@@ -191,11 +191,11 @@ fn pose_mapping(
     literal: &MappingLit,
 ) -> Result<Statement, ProgramRefusal>
     requires few { mapping_count literal.now < 2 ^ 32 }
-    requires settled { AreSettled (environment_of env.now.entries.items) }
-    ensures posed { Answers posed_as result (mapping_posed (environment_of env.now.entries.items) place literal.now) }
+    requires settled { AreSettled (environment_of env.now.names.entries) }
+    ensures posed { Answers posed_as result (mapping_posed (environment_of env.now.names.entries) place literal.now) }
     ensures well_sorted { IfOk result IsPosed }
     ensures grounded { (name : TheName) → IfOk result
-        (λ statement. IsGrounded (environment_of env.now.entries.items) name (posed_as statement)) }
+        (λ statement. IsGrounded (environment_of env.now.names.entries) name (posed_as statement)) }
 {
     let source = env.schema(&literal.source)?;
     let target = env.schema(&literal.target)?;
@@ -209,11 +209,11 @@ fn pose_mapping(
 }
 
 fn pose_identity(env: &Environment, used: &Spot) -> Result<Statement, ProgramRefusal>
-    requires settled { AreSettled (environment_of env.now.entries.items) }
-    ensures posed { Answers posed_as result (identity_posed (environment_of env.now.entries.items) used.now) }
+    requires settled { AreSettled (environment_of env.now.names.entries) }
+    ensures posed { Answers posed_as result (identity_posed (environment_of env.now.names.entries) used.now) }
     ensures well_sorted { IfOk result IsPosed }
     ensures grounded { (name : TheName) → IfOk result
-        (λ statement. IsGrounded (environment_of env.now.entries.items) name (posed_as statement)) }
+        (λ statement. IsGrounded (environment_of env.now.names.entries) name (posed_as statement)) }
 {
     let over = env.schema(used)?;
     over.schema.is_well_sorted();
@@ -227,11 +227,11 @@ fn pose_literal(
     literal: &InstanceLit,
 ) -> Result<Statement, ProgramRefusal>
     requires few { instance_count literal.now < 2 ^ 32 }
-    requires settled { AreSettled (environment_of env.now.entries.items) }
-    ensures posed { Answers posed_as result (instance_posed (environment_of env.now.entries.items) place literal.now) }
+    requires settled { AreSettled (environment_of env.now.names.entries) }
+    ensures posed { Answers posed_as result (instance_posed (environment_of env.now.names.entries) place literal.now) }
     ensures well_sorted { IfOk result IsPosed }
     ensures grounded { (name : TheName) → IfOk result
-        (λ statement. IsGrounded (environment_of env.now.entries.items) name (posed_as statement)) }
+        (λ statement. IsGrounded (environment_of env.now.names.entries) name (posed_as statement)) }
 {
     let over = env.schema(&literal.schema)?;
     let presentation = presentation_in(alloc, place, &over.schema, literal)?;

@@ -40,11 +40,11 @@ pub fn pose_query(
     literal: &QueryLit,
 ) -> Result<Statement, ProgramRefusal>
     requires few { query_count literal.now < 2 ^ 32 }
-    requires settled { AreSettled (environment_of env.now.entries.items) }
-    ensures posed { Answers posed_as result (query_posed (environment_of env.now.entries.items) place literal.now) }
+    requires settled { AreSettled (environment_of env.now.names.entries) }
+    ensures posed { Answers posed_as result (query_posed (environment_of env.now.names.entries) place literal.now) }
     ensures well_sorted { IfOk result IsPosed }
     ensures grounded { (name : TheName) → IfOk result
-        (λ statement. IsGrounded (environment_of env.now.entries.items) name (posed_as statement)) }
+        (λ statement. IsGrounded (environment_of env.now.names.entries) name (posed_as statement)) }
 {
     let source = env.schema(&literal.source)?;
     let target = env.schema(&literal.target)?;
@@ -82,11 +82,11 @@ fn query_in(
 
 /// An instance over the source of a query that is to be answered.
 pub fn pose_eval(env: &Environment, along: &Spot, used: &Spot) -> Result<Statement, ProgramRefusal>
-    requires settled { AreSettled (environment_of env.now.entries.items) }
-    ensures posed { Answers posed_as result (eval_posed (environment_of env.now.entries.items) along.now used.now) }
+    requires settled { AreSettled (environment_of env.now.names.entries) }
+    ensures posed { Answers posed_as result (eval_posed (environment_of env.now.names.entries) along.now used.now) }
     ensures well_sorted { IfOk result IsPosed }
     ensures grounded { (name : TheName) → IfOk result
-        (λ statement. IsGrounded (environment_of env.now.entries.items) name (posed_as statement)) }
+        (λ statement. IsGrounded (environment_of env.now.names.entries) name (posed_as statement)) }
 {
     let named = query_of(env, along)?;
     let moved = instance_of(env, used)?;
@@ -102,11 +102,11 @@ pub fn pose_coeval(
     along: &Spot,
     used: &Spot,
 ) -> Result<Statement, ProgramRefusal>
-    requires settled { AreSettled (environment_of env.now.entries.items) }
-    ensures posed { Answers posed_as result (coeval_posed (environment_of env.now.entries.items) along.now used.now) }
+    requires settled { AreSettled (environment_of env.now.names.entries) }
+    ensures posed { Answers posed_as result (coeval_posed (environment_of env.now.names.entries) along.now used.now) }
     ensures well_sorted { IfOk result IsPosed }
     ensures grounded { (name : TheName) → IfOk result
-        (λ statement. IsGrounded (environment_of env.now.entries.items) name (posed_as statement)) }
+        (λ statement. IsGrounded (environment_of env.now.names.entries) name (posed_as statement)) }
 {
     let named = query_of(env, along)?;
     let moved = instance_of(env, used)?;

@@ -51,10 +51,10 @@ pub(crate) enum Stated {
 /// What a declaration states, or the first rule of names and parts that it breaks.
 pub fn state(alloc: Global, env: &Environment, decl: &Decl) -> Result<Stated, ProgramRefusal>
     requires few { part_count decl.now.body < 2 ^ 32 }
-    requires settled { AreSettled (environment_of env.now.entries.items) }
-    ensures stated { Answers stated_as result (stated_by (environment_of env.now.entries.items) decl.now) }
+    requires settled { AreSettled (environment_of env.now.names.entries) }
+    ensures stated { Answers stated_as result (stated_by (environment_of env.now.names.entries) decl.now) }
     ensures well_sorted { IfOk result IsStated }
-    ensures grounded { IfOk result (λ s. IsStatedOver (environment_of env.now.entries.items) decl.now.name
+    ensures grounded { IfOk result (λ s. IsStatedOver (environment_of env.now.names.entries) decl.now.name
         (stated_as s)) }
 {
     if env.find(&decl.name).is_some() {
@@ -72,11 +72,11 @@ fn state_body(
     body: &Body,
 ) -> Result<Stated, ProgramRefusal>
     requires few { part_count body.now < 2 ^ 32 }
-    requires settled { AreSettled (environment_of env.now.entries.items) }
-    ensures stated { Answers stated_as result (body_stated (environment_of env.now.entries.items) place
+    requires settled { AreSettled (environment_of env.now.names.entries) }
+    ensures stated { Answers stated_as result (body_stated (environment_of env.now.names.entries) place
         name.now body.now) }
     ensures well_sorted { IfOk result IsStated }
-    ensures grounded { IfOk result (λ s. IsStatedOver (environment_of env.now.entries.items) name.now (stated_as s)) }
+    ensures grounded { IfOk result (λ s. IsStatedOver (environment_of env.now.names.entries) name.now (stated_as s)) }
 {
     match folder_of(body) {
         Some((format, dir, used)) => state_folder(env, format, dir, used),
@@ -127,12 +127,12 @@ fn state_at_once(
 ) -> Result<Stated, ProgramRefusal>
     requires no_files { folder_of body.now ≡ None }
     requires few { part_count body.now < 2 ^ 32 }
-    requires settled { AreSettled (environment_of env.now.entries.items) }
+    requires settled { AreSettled (environment_of env.now.names.entries) }
     ensures stated { Answers stated_as result
-        (stated_from (environment_of env.now.entries.items) None
-        (body_posed (environment_of env.now.entries.items) place name.now body.now)) }
+        (stated_from (environment_of env.now.names.entries) None
+        (body_posed (environment_of env.now.names.entries) place name.now body.now)) }
     ensures well_sorted { IfOk result IsStated }
-    ensures grounded { IfOk result (λ s. IsStatedOver (environment_of env.now.entries.items) name.now (stated_as s)) }
+    ensures grounded { IfOk result (λ s. IsStatedOver (environment_of env.now.names.entries) name.now (stated_as s)) }
 {
     match pose_body(alloc, env, place, name, body) {
         Ok(statement) => Ok(Stated::AtOnce(statement)),
@@ -147,13 +147,13 @@ fn state_folder(
     dir: &Name,
     used: &Spot,
 ) -> Result<Stated, ProgramRefusal>
-    requires settled { AreSettled (environment_of env.now.entries.items) }
+    requires settled { AreSettled (environment_of env.now.names.entries) }
     ensures stated { Answers stated_as result
-        (folder_stated (environment_of env.now.entries.items)
+        (folder_stated (environment_of env.now.names.entries)
         (record { format = format; dir = dir.now; schema = used.now })) }
     ensures well_sorted { IfOk result IsStated }
     ensures grounded { (name : TheName) → IfOk result
-        (λ s. IsStatedOver (environment_of env.now.entries.items) name (stated_as s)) }
+        (λ s. IsStatedOver (environment_of env.now.names.entries) name (stated_as s)) }
 {
     let over = env.schema(used)?;
     let dir = dir.clone()?;

@@ -46,11 +46,11 @@ pub fn pose_transform(
     literal: &TransformLit,
 ) -> Result<Statement, ProgramRefusal>
     requires few { transform_count literal.now < 2 ^ 32 }
-    requires settled { AreSettled (environment_of env.now.entries.items) }
-    ensures posed { Answers posed_as result (transform_posed (environment_of env.now.entries.items) place literal.now) }
+    requires settled { AreSettled (environment_of env.now.names.entries) }
+    ensures posed { Answers posed_as result (transform_posed (environment_of env.now.names.entries) place literal.now) }
     ensures well_sorted { IfOk result IsPosed }
     ensures grounded { (name : TheName) → IfOk result
-        (λ statement. IsGrounded (environment_of env.now.entries.items) name (posed_as statement)) }
+        (λ statement. IsGrounded (environment_of env.now.names.entries) name (posed_as statement)) }
 {
     let start = instance_of(env, &literal.source)?;
     let finish = instance_of(env, &literal.target)?;
@@ -184,11 +184,11 @@ pub fn pose_identical(
     env: &Environment,
     used: &Spot,
 ) -> Result<Statement, ProgramRefusal>
-    requires settled { AreSettled (environment_of env.now.entries.items) }
-    ensures posed { Answers posed_as result (identical_posed (environment_of env.now.entries.items) used.now) }
+    requires settled { AreSettled (environment_of env.now.names.entries) }
+    ensures posed { Answers posed_as result (identical_posed (environment_of env.now.names.entries) used.now) }
     ensures well_sorted { IfOk result IsPosed }
     ensures grounded { (name : TheName) → IfOk result
-        (λ statement. IsGrounded (environment_of env.now.entries.items) name (posed_as statement)) }
+        (λ statement. IsGrounded (environment_of env.now.names.entries) name (posed_as statement)) }
 {
     let part = instance_of(env, used)?;
     let start: &Instance = &part.instance;

@@ -35,7 +35,7 @@ pub(crate) struct NamedQuery {
 
 /// The mapping for which a used name stands.
 pub fn mapping_of(env: &Environment, used: &Spot) -> Result<NamedMapping, ProgramRefusal>
-    ensures { Answers mapping_meant result (mapping_used (environment_of env.now.entries.items) used.now) }
+    ensures { Answers mapping_meant result (mapping_used (environment_of env.now.names.entries) used.now) }
 {
     match env.find(&used.name) {
         None => Err(unknown(used)),
@@ -54,7 +54,7 @@ pub fn mapping_of(env: &Environment, used: &Spot) -> Result<NamedMapping, Progra
 /// The colimit for which a used name stands.
 pub fn colimit_of<'a>(env: &'a Environment, used: &Spot) -> Result<&'a NamedColimit, ProgramRefusal>
     ensures { Answers (λ found. colimit_meant found.now) result
-        (colimit_used (environment_of env.now.entries.items) used.now) }
+        (colimit_used (environment_of env.now.names.entries) used.now) }
 {
     match env.find(&used.name) {
         None => Err(unknown(used)),
@@ -70,7 +70,7 @@ pub fn colimit_of<'a>(env: &'a Environment, used: &Spot) -> Result<&'a NamedColi
 
 /// The query for which a used name stands.
 pub fn query_of(env: &Environment, used: &Spot) -> Result<NamedQuery, ProgramRefusal>
-    ensures { Answers query_meant result (query_used (environment_of env.now.entries.items) used.now) }
+    ensures { Answers query_meant result (query_used (environment_of env.now.names.entries) used.now) }
 {
     match env.find(&used.name) {
         None => Err(unknown(used)),
@@ -86,7 +86,7 @@ pub fn query_of(env: &Environment, used: &Spot) -> Result<NamedQuery, ProgramRef
 
 /// The instance for which a used name stands.
 pub fn instance_of(env: &Environment, used: &Spot) -> Result<NamedInstance, ProgramRefusal>
-    ensures { Answers instance_meant result (instance_used (environment_of env.now.entries.items) used.now) }
+    ensures { Answers instance_meant result (instance_used (environment_of env.now.names.entries) used.now) }
 {
     match env.find(&used.name) {
         None => Err(unknown(used)),
@@ -102,7 +102,7 @@ pub fn instance_of(env: &Environment, used: &Spot) -> Result<NamedInstance, Prog
 
 /// The transform for which a used name stands.
 pub fn transform_of(env: &Environment, used: &Spot) -> Result<NamedTransform, ProgramRefusal>
-    ensures { Answers transform_meant result (transform_used (environment_of env.now.entries.items) used.now) }
+    ensures { Answers transform_meant result (transform_used (environment_of env.now.names.entries) used.now) }
 {
     match env.find(&used.name) {
         None => Err(unknown(used)),

@@ -1,10 +1,9 @@
 use Rattle.std.proofs.Common.{inl, refl, sym, subst}
 use Rattle.cq_import.specs.declared.refusal.CsvRefusal.TheVariants.{Memory}
 use Rattle.cq_import.specs.Entries.{IsImport2Over, OfFiles2}
-use Rattle.cq_io.specs.FolderData.{FolderData}
 use Rattle.cq_import.specs.Folders.{AreRead}
 use Rattle.cq_import.proofs.Answering2.{answer2_refuses}
-use Rattle.cq_import.proofs.FolderReads.{raises_later}
+use Rattle.cq_import.proofs.FolderReads.{keeps_itself, keeps_then, raises_after, raises_later, raises_other}
 use Rattle.cq_import.proofs.importing_entries.import2.Goals as goal
 
 pub returns-in_default-clause-answer : goal.returns-in_default-clause-answer
@@ -23,14 +22,17 @@ import_rest-requires-clause-read g c =
     subst (λ files. AreRead c.args.dir.now c.args.schema.now files made) (sym c.in-Ok-read_files.ensures.keeps.files)
     (subst (AreRead c.args.dir.now c.args.schema.now (g.F.Folder.state c.args.folder.now).files) (sym c.as_slice-in-Ok-read_files-2.ensures.value) c.in-Ok-read_files.ensures.read)
 
-pub returns-in-Ok-read_files-clause-absent : goal.returns-in-Ok-read_files-clause-absent
-returns-in-Ok-read_files-clause-absent g c = (raises_later _ _ _ c.import_rest.result c.in-Ok-read_files.ensures.keeps c.import_rest.ensures.raises).absent
+pub returns-in_default-clause-keeps : goal.returns-in_default-clause-keeps
+returns-in_default-clause-keeps g c = keeps_itself _
 
-pub returns-in-Ok-read_files-clause-failed : goal.returns-in-Ok-read_files-clause-failed
-returns-in-Ok-read_files-clause-failed g c = (raises_later _ _ _ c.import_rest.result c.in-Ok-read_files.ensures.keeps c.import_rest.ensures.raises).failed
+pub returns-in_default-clause-raises : goal.returns-in_default-clause-raises
+returns-in_default-clause-raises g c = raises_other _ _ Memory tt
 
-pub returns-in-Ok-read_files-clause-too_long : goal.returns-in-Ok-read_files-clause-too_long
-returns-in-Ok-read_files-clause-too_long g c = (raises_later _ _ _ c.import_rest.result c.in-Ok-read_files.ensures.keeps c.import_rest.ensures.raises).too_long
+pub returns-in-Ok-read_files-clause-keeps : goal.returns-in-Ok-read_files-clause-keeps
+returns-in-Ok-read_files-clause-keeps g c = keeps_then _ _ _ c.in-Ok-read_files.ensures.keeps c.import_rest.ensures.keeps
 
-pub returns-in-Ok-read_files-clause-fails : goal.returns-in-Ok-read_files-clause-fails
-returns-in-Ok-read_files-clause-fails g c = (raises_later _ _ _ c.import_rest.result c.in-Ok-read_files.ensures.keeps c.import_rest.ensures.raises).fails
+pub returns-in-Ok-read_files-clause-raises : goal.returns-in-Ok-read_files-clause-raises
+returns-in-Ok-read_files-clause-raises g c = raises_later _ _ _ c.import_rest.result c.in-Ok-read_files.ensures.keeps c.import_rest.ensures.raises
+
+pub returns-clause-raises : goal.returns-clause-raises
+returns-clause-raises g c = raises_after _ _ _ c.in-Err.refusal (keeps_itself (g.F.Folder.state c.args.folder.now)) c.in-Err.ensures.raises

@@ -8,7 +8,7 @@ use Rattle.cq_program.proofs.colimits.pose_colimit.Goals as goal
 
 pub join_schemas-requires-clause-few : goal.join_schemas-requires-clause-few
 join_schemas-requires-clause-few c =
-    let env = environment_of c.args.env.now.entries.items in
+    let env = environment_of c.args.env.now.names.entries in
     let are : parts_used env c.args.literal.now.parts ≡ Ok (useds_meant c.in_ok-parts.parts.items) = ap (parts_used env) (sym c.as_slice.ensures) ∙ c.in_ok-parts.ensures in
     let same : length c.as_slice-3.result.now ≡ length c.in_ok-parts.parts.items = ap length c.as_slice-3.ensures.value in
     let few : length c.in_ok-parts.parts.items + length c.args.literal.now.pairs + length c.args.literal.now.path_eqs + length c.args.literal.now.obs_eqs < 2 ^ 32 =
@@ -17,7 +17,7 @@ join_schemas-requires-clause-few c =
 
 pub join_schemas-requires-clause-over : goal.join_schemas-requires-clause-over
 join_schemas-requires-clause-over c =
-    let env = environment_of c.args.env.now.entries.items in
+    let env = environment_of c.args.env.now.names.entries in
     let are : parts_used env c.args.literal.now.parts ≡ Ok (useds_meant c.in_ok-parts.parts.items) = ap (parts_used env) (sym c.as_slice.ensures) ∙ c.in_ok-parts.ensures in
     let found : first_apart c.args.literal.now.typeside.name (useds_meant c.as_slice-2.result.now) ≡ None = cc in
     let none : first_apart c.args.literal.now.typeside.name (useds_meant c.in_ok-parts.parts.items) ≡ None =
@@ -27,7 +27,7 @@ join_schemas-requires-clause-over c =
 
 pub returns-clause-grounded : goal.returns-clause-grounded
 returns-clause-grounded c =
-    let env = environment_of c.args.env.now.entries.items in
+    let env = environment_of c.args.env.now.names.entries in
     let are : parts_used env c.args.literal.now.parts ≡ Ok (useds_meant c.in_ok-parts.parts.items) = ap (parts_used env) (sym c.as_slice.ensures) ∙ c.in_ok-parts.ensures in
     c.join_schemas.ensures.grounded env c.in_ok-typeside.ensures.meant
     (subst (λ (parts : List UsedSchema). All (IsPartPrinted env) (useds_meant parts)) (sym c.as_slice-3.ensures.value)

@@ -7,7 +7,7 @@ use Rattle.cq_program.proofs.colimits.pose_inclusion.Goals as goal
 
 pub returns-in-Some-clause-grounded : goal.returns-in-Some-clause-grounded
 returns-in-Some-clause-grounded c = λ name.
-    let env = environment_of c.args.env.now.entries.items in
+    let env = environment_of c.args.env.now.names.entries in
     let is : part_named (colimit_meant c.in-Ok.found.now).parts c.args.used.now.name ≡ Some (part_meant c.in-Some.part.now) =
     ap (λ parts. part_named (map part_meant parts) c.args.used.now.name) (sym c.as_slice.ensures) ∙ sym c.in-Some.ensures in
     subst (IsGrounded env name) (sym c.in_ok-inclusion_of-in-Some.ensures.posed)

@@ -6,4 +6,4 @@ use Rattle.cq_program.proofs.colimits.schemas_of.Given as goal
 
 -- the schemas so far
 abbrev pub invariant-loop-spot : goal.invariant-loop-spot
-invariant-loop-spot l = parts_used (environment_of l.env.entries.items) (take l.spot-index l.used) ≡ Ok (useds_meant l.parts.items)
+invariant-loop-spot l = parts_used (environment_of l.env.names.entries) (take l.spot-index l.used) ≡ Ok (useds_meant l.parts.items)

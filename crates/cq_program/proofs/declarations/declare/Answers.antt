@@ -11,13 +11,13 @@ pub returns-clause-declares : goal.returns-clause-declares
 returns-clause-declares g c = (
   meant c.in_ok-meaning.meaning,
   c.in_ok-meaning.ensures.declares,
-  c.in_ok-add.ensures.added ∙ ap (λ (n : Name). environment_of c.args.env.now.entries.items ++ (n, meant c.in_ok-meaning.meaning) ∷ []) c.in_ok-name.ensures.cases,
+  c.in_ok-add.ensures.added ∙ ap (λ (n : Name). environment_of c.args.env.now.names.entries ++ (n, meant c.in_ok-meaning.meaning) ∷ []) c.in_ok-name.ensures.cases,
 )
 
 pub returns-clause-settled : goal.returns-clause-settled
 returns-clause-settled g c =
     subst AreSettled (sym c.in_ok-add.ensures.added)
-    (AreSettled-more (environment_of c.args.env.now.entries.items) c.in_ok-name.name (meant c.in_ok-meaning.meaning) c.requires.settled
-    (subst (λ (n : Name). is_some (meant_by (environment_of c.args.env.now.entries.items) n) ≡ false) (sym c.in_ok-name.ensures.cases)
-    (fresh (environment_of c.args.env.now.entries.items) c.args.decl.now c.in_ok-meaning.ensures.declares.stated c.in_ok-meaning.ensures.declares.checked))
-    (subst (λ (n : Name). WillSettle (environment_of c.args.env.now.entries.items) n (meant c.in_ok-meaning.meaning)) (sym c.in_ok-name.ensures.cases) c.in_ok-meaning.ensures.settled))
+    (AreSettled-more (environment_of c.args.env.now.names.entries) c.in_ok-name.name (meant c.in_ok-meaning.meaning) c.requires.settled
+    (subst (λ (n : Name). is_some (meant_by (environment_of c.args.env.now.names.entries) n) ≡ false) (sym c.in_ok-name.ensures.cases)
+    (fresh (environment_of c.args.env.now.names.entries) c.args.decl.now c.in_ok-meaning.ensures.declares.stated c.in_ok-meaning.ensures.declares.checked))
+    (subst (λ (n : Name). WillSettle (environment_of c.args.env.now.names.entries) n (meant c.in_ok-meaning.meaning)) (sym c.in_ok-name.ensures.cases) c.in_ok-meaning.ensures.settled))

@@ -12,19 +12,19 @@ returns-in_err-statement-clause-refuses g c =
     let new : FolderData = g.F.Folder.state c.read_stated.new.folder in
     let p = err_from_is_err_and c.from_residual-in_err-statement.result c.from_residual-in_err-statement.ensures.1 in
     rw (p.1, p.2)
-    (refuses_reading c.args.depth old new (environment_of c.args.env.now.entries.items) c.args.decl.now (stated_as c.in_ok-stated.stated) c.in_err-statement.field-0.0
+    (refuses_reading c.args.depth old new (environment_of c.args.env.now.names.entries) c.args.decl.now (stated_as c.in_ok-stated.stated) c.in_err-statement.field-0.0
     c.in_ok-stated.ensures.stated c.in_err-statement.ensures.refuses)
 
 pub returns-clause-refuses : goal.returns-clause-refuses
 returns-clause-refuses g c =
     let old : FolderData = g.F.Folder.state c.args.folder.now in
     let new : FolderData = g.F.Folder.state c.read_stated.new.folder in
-    refuses_result c.args.depth old new (environment_of c.args.env.now.entries.items) c.args.decl.now (stated_as c.in_ok-stated.stated) (posed_as c.in_ok-statement.statement)
+    refuses_result c.args.depth old new (environment_of c.args.env.now.names.entries) c.args.decl.now (stated_as c.in_ok-stated.stated) (posed_as c.in_ok-statement.statement)
     c.meaning_of.result c.in_ok-stated.ensures.stated c.in_ok-statement.ensures.reads c.meaning_of.ensures.withholds
 
 pub returns-clause-settled : goal.returns-clause-settled
 returns-clause-settled g c =
-    let env = environment_of c.args.env.now.entries.items in
+    let env = environment_of c.args.env.now.names.entries in
     let grounded = grounded_reading env c.args.decl.now.name (g.F.Folder.state c.args.folder.now).files (stated_as c.in_ok-stated.stated) (posed_as c.in_ok-statement.statement)
     c.in_ok-stated.ensures.grounded c.in_ok-statement.ensures.reads in
     settled_result meant env c.args.decl.now.name (posed_as c.in_ok-statement.statement) c.meaning_of.result grounded c.meaning_of.ensures.stands c.meaning_of.ensures.modelled

@@ -6,4 +6,4 @@ use Rattle.cq_program.proofs.gluing.operands_of.Given as goal
 
 -- the instances so far
 abbrev pub invariant-loop-spot : goal.invariant-loop-spot
-invariant-loop-spot l = operands_used (environment_of l.env.entries.items) (take l.spot-index l.used) ≡ Ok (operands_meant l.operands.items)
+invariant-loop-spot l = operands_used (environment_of l.env.names.entries) (take l.spot-index l.used) ≡ Ok (operands_meant l.operands.items)

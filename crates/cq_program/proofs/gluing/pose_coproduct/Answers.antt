@@ -12,7 +12,7 @@ use Rattle.cq_program.proofs.gluing.pose_coproduct.Goals as goal
 
 pub returns-clause-posed : goal.returns-clause-posed
 returns-clause-posed c =
-    let env = environment_of c.args.env.now.entries.items in
+    let env = environment_of c.args.env.now.names.entries in
     let operands : List (Place × InstanceMeant) = operands_meant c.in_ok-operands.operands.items in
     let over : SchemaMeant = schema_meant c.in_ok-over.over in
     let found : first_misfit over.name (operands_meant c.as_slice.result.now) ≡ None = cc in
@@ -25,7 +25,7 @@ returns-clause-posed c =
 
 pub returns-clause-well_sorted : goal.returns-clause-well_sorted
 returns-clause-well_sorted c =
-    let env = environment_of c.args.env.now.entries.items in
+    let env = environment_of c.args.env.now.names.entries in
     let operands : List (Place × InstanceMeant) = operands_meant c.in_ok-operands.operands.items in
     let over : SchemaMeant = schema_meant c.in_ok-over.over in
     let found : first_misfit over.name (operands_meant c.as_slice.result.now) ≡ None = cc in
@@ -39,4 +39,4 @@ returns-clause-well_sorted c =
 
 pub returns-clause-grounded : goal.returns-clause-grounded
 returns-clause-grounded c = λ name.
-    schema_printed (environment_of c.args.env.now.entries.items) c.args.schema.now (schema_meant c.in_ok-over.over) c.requires.settled c.in_ok-over.ensures
+    schema_printed (environment_of c.args.env.now.names.entries) c.args.schema.now (schema_meant c.in_ok-over.over) c.requires.settled c.in_ok-over.ensures

@@ -7,7 +7,7 @@ use Rattle.cq_program.proofs.gluing.pose_pushout.Goals as goal
 
 pub returns-clause-well_sorted : goal.returns-clause-well_sorted
 returns-clause-well_sorted c =
-    let env = environment_of c.args.env.now.entries.items in
+    let env = environment_of c.args.env.now.names.entries in
     let f : TransformMeant = transform_meant c.in_ok-left.left in
     let g : TransformMeant = transform_meant c.in_ok-right.right in
     let left = transform_settled env c.args.first.now f c.requires.settled c.in_ok-left.ensures in
@@ -17,7 +17,7 @@ returns-clause-well_sorted c =
 
 pub returns-clause-grounded : goal.returns-clause-grounded
 returns-clause-grounded c = λ name.
-    let env = environment_of c.args.env.now.entries.items in
+    let env = environment_of c.args.env.now.names.entries in
     let f : TransformMeant = transform_meant c.in_ok-left.left in
     let left = transform_settled env c.args.first.now f c.requires.settled c.in_ok-left.ensures in
     start_printed env f c.requires.settled left

@@ -6,7 +6,7 @@ use Rattle.cq_program.proofs.moves.pose_delta.Goals as goal
 
 pub returns-clause-well_sorted : goal.returns-clause-well_sorted
 returns-clause-well_sorted c =
-    let env = environment_of c.args.env.now.entries.items in
+    let env = environment_of c.args.env.now.names.entries in
     let F : MappingMeant = mapping_meant c.in_ok-named.named in
     let instance : InstanceMeant = instance_meant c.in_ok-moved.moved in
     let settled = mapping_settled env c.args.along.now F c.requires.settled c.in_ok-named.ensures in
@@ -15,7 +15,7 @@ returns-clause-well_sorted c =
 
 pub returns-clause-grounded : goal.returns-clause-grounded
 returns-clause-grounded c = λ name.
-    let env = environment_of c.args.env.now.entries.items in
+    let env = environment_of c.args.env.now.names.entries in
     let F : MappingMeant = mapping_meant c.in_ok-named.named in
     let settled = mapping_settled env c.args.along.now F c.requires.settled c.in_ok-named.ensures in
     settled.1

@@ -13,7 +13,7 @@ returns-in-Query-clause-grounded c = c.pose_query.ensures.grounded c.args.name.n
 
 pub returns-in-Instance-clause-posed : goal.returns-in-Instance-clause-posed
 returns-in-Instance-clause-posed c =
-    subst (λ (body : Body). Answers posed_as c.pose_instance.result (body_posed (environment_of c.args.env.now.entries.items) c.args.place c.args.name.now body)) (sym c.in-Instance.is)
+    subst (λ (body : Body). Answers posed_as c.pose_instance.result (body_posed (environment_of c.args.env.now.names.entries) c.args.place c.args.name.now body)) (sym c.in-Instance.is)
     (c.pose_instance.ensures.posed c.args.name.now)
 
 pub returns-in-Instance-clause-grounded : goal.returns-in-Instance-clause-grounded

@@ -8,5 +8,5 @@ use Rattle.cq_program.proofs.posing.pose_identity.Goals as goal
 pub returns-clause-grounded : goal.returns-clause-grounded
 returns-clause-grounded c = λ name. (
   identity_preserves c.in_ok-over.over.schema.value (subst IsSchema c.deref.ensures c.is_well_sorted.ensures),
-  schema_printed (environment_of c.args.env.now.entries.items) c.args.used.now (schema_meant c.in_ok-over.over) c.requires.settled c.in_ok-over.ensures,
+  schema_printed (environment_of c.args.env.now.names.entries) c.args.used.now (schema_meant c.in_ok-over.over) c.requires.settled c.in_ok-over.ensures,
 )

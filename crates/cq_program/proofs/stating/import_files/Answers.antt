@@ -20,18 +20,10 @@ pub returns-in-First-clause-presentation : goal.returns-in-First-clause-presenta
 returns-in-First-clause-presentation g c = subst (λ (S : SchemaData). IfOk c.import.result (IsPresentation S)) c.deref.ensures c.import.ensures.presentation
 
 pub returns-in-First-clause-keeps : goal.returns-in-First-clause-keeps
-returns-in-First-clause-keeps g c = record {
-  files = c.import.ensures.files;
-  absences = c.import.ensures.absences;
-  faults = c.import.ensures.faults;
-  overruns = c.import.ensures.overruns;
-  steady = c.import.ensures.steady;
-  calm = c.import.ensures.calm;
-}
+returns-in-First-clause-keeps g c = c.import.ensures.keeps
 
 pub returns-in-First-clause-raises : goal.returns-in-First-clause-raises
-returns-in-First-clause-raises g c =
-    record { absent = c.import.ensures.absent; failed = c.import.ensures.failed; too_long = c.import.ensures.too_long; fails = c.import.ensures.fails }
+returns-in-First-clause-raises g c = c.import.ensures.raises
 
 pub returns-in-Second-clause-answer : goal.returns-in-Second-clause-answer
 returns-in-Second-clause-answer g c =
@@ -44,15 +36,7 @@ pub returns-in-Second-clause-presentation : goal.returns-in-Second-clause-presen
 returns-in-Second-clause-presentation g c = subst (λ (S : SchemaData). IfOk c.import2.result (IsPresentation S)) c.deref-in-Second.ensures c.import2.ensures.presentation
 
 pub returns-in-Second-clause-keeps : goal.returns-in-Second-clause-keeps
-returns-in-Second-clause-keeps g c = record {
-  files = c.import2.ensures.files;
-  absences = c.import2.ensures.absences;
-  faults = c.import2.ensures.faults;
-  overruns = c.import2.ensures.overruns;
-  steady = c.import2.ensures.steady;
-  calm = c.import2.ensures.calm;
-}
+returns-in-Second-clause-keeps g c = c.import2.ensures.keeps
 
 pub returns-in-Second-clause-raises : goal.returns-in-Second-clause-raises
-returns-in-Second-clause-raises g c =
-    record { absent = c.import2.ensures.absent; failed = c.import2.ensures.failed; too_long = c.import2.ensures.too_long; fails = c.import2.ensures.fails }
+returns-in-Second-clause-raises g c = c.import2.ensures.raises

@@ -8,11 +8,11 @@ use Rattle.cq_program.proofs.stating.state.Goals as goal
 
 pub returns-then-is_some-clause-stated : goal.returns-then-is_some-clause-stated
 returns-then-is_some-clause-stated c =
-    name_taken (environment_of c.args.env.now.entries.items) c.args.decl.now
+    name_taken (environment_of c.args.env.now.names.entries) c.args.decl.now
     (is_declared _ c.find.result _ true c.find.ensures (sym c.is_some.ensures ∙ c.if-is_some.true))
 
 pub returns-clause-stated : goal.returns-clause-stated
 returns-clause-stated c =
-    let on = stated_on (environment_of c.args.env.now.entries.items) c.args.decl.now
+    let on = stated_on (environment_of c.args.env.now.names.entries) c.args.decl.now
     (is_declared _ c.find.result _ false c.find.ensures (sym c.is_some.ensures ∙ c.if-is_some.false)) in
     subst (λ (check : Checked Stated). Answers stated_as c.state_body.result check) (sym on) c.state_body.ensures.stated

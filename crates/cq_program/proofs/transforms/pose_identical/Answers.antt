@@ -15,7 +15,7 @@ use Rattle.cq_program.proofs.transforms.pose_identical.Goals as goal
 
 pub returns-in-Ok-clause-posed : goal.returns-in-Ok-clause-posed
 returns-in-Ok-clause-posed c =
-    let env = environment_of c.args.env.now.entries.items in
+    let env = environment_of c.args.env.now.names.entries in
     let i : InstanceMeant = instance_meant c.in_ok-part.part in
     let images : c.in_ok-transform.transform.images ≡ identity_images i.instance.presentation.generators =
     c.in_ok-transform.ensures.images ∙ ap (λ (j : InstanceData). identity_images j.presentation.generators) c.deref-start.ensures in
@@ -24,7 +24,7 @@ returns-in-Ok-clause-posed c =
 
 pub returns-in-Ok-clause-well_sorted : goal.returns-in-Ok-clause-well_sorted
 returns-in-Ok-clause-well_sorted c =
-    let env = environment_of c.args.env.now.entries.items in
+    let env = environment_of c.args.env.now.names.entries in
     let i : InstanceMeant = instance_meant c.in_ok-part.part in
     let t = c.in_ok-transform.transform in
     let model = instance_modelled env c.args.used.now i c.requires.settled c.in_ok-part.ensures in
@@ -39,7 +39,7 @@ returns-in-Ok-clause-well_sorted c =
 
 pub returns-in-Ok-clause-grounded : goal.returns-in-Ok-clause-grounded
 returns-in-Ok-clause-grounded c = λ name.
-    let env = environment_of c.args.env.now.entries.items in
+    let env = environment_of c.args.env.now.names.entries in
     let i : InstanceMeant = instance_meant c.in_ok-part.part in
     let by = instance_meant_by env c.args.used.now i c.in_ok-part.ensures in
     subst (AreEnds env) (sym c.in-Ok.ensures) (by, by)

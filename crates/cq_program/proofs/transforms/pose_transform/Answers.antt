@@ -10,7 +10,7 @@ use Rattle.cq_program.proofs.transforms.pose_transform.Goals as goal
 
 pub pose_images-requires-clause-over : goal.pose_images-requires-clause-over
 pose_images-requires-clause-over c =
-    let env = environment_of c.args.env.now.entries.items in
+    let env = environment_of c.args.env.now.names.entries in
     let i : InstanceMeant = instance_meant c.in_ok-start.start in
     let j : InstanceMeant = instance_meant c.in_ok-finish.finish in
     let same : i.instance.schema ≡ j.instance.schema =
@@ -20,13 +20,13 @@ pose_images-requires-clause-over c =
 
 pub pose_images-requires-clause-modelled : goal.pose_images-requires-clause-modelled
 pose_images-requires-clause-modelled c =
-    let env = environment_of c.args.env.now.entries.items in
+    let env = environment_of c.args.env.now.names.entries in
     let i : InstanceMeant = instance_meant c.in_ok-start.start in
     subst (λ (e : Ends). IsTermModel e.start.instance) (sym c.in-Ok.ensures) (instance_modelled env c.args.literal.now.source i c.requires.settled c.in_ok-start.ensures)
 
 pub returns-in-Ok-clause-posed : goal.returns-in-Ok-clause-posed
 returns-in-Ok-clause-posed c =
-    let env = environment_of c.args.env.now.entries.items in
+    let env = environment_of c.args.env.now.names.entries in
     let i : InstanceMeant = instance_meant c.in_ok-start.start in
     let j : InstanceMeant = instance_meant c.in_ok-finish.finish in
     let same = images_are_posed env c.args.place c.args.literal.now i j c.in_ok-start.ensures c.in_ok-finish.ensures c.if-ne.ensures in
@@ -34,7 +34,7 @@ returns-in-Ok-clause-posed c =
 
 pub returns-in-Ok-clause-grounded : goal.returns-in-Ok-clause-grounded
 returns-in-Ok-clause-grounded c = λ name.
-    let env = environment_of c.args.env.now.entries.items in
+    let env = environment_of c.args.env.now.names.entries in
     let i : InstanceMeant = instance_meant c.in_ok-start.start in
     let j : InstanceMeant = instance_meant c.in_ok-finish.finish in
     let are : AreEnds env (ends_meant c.in-Ok.ends) =

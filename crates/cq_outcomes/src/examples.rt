@@ -1,11 +1,7 @@
-//! Runs each file of `examples/` in turn, and prints its transcript and the files that it exports: what is stored of
-//! the examples stays what the program prints.
-#![tactic(auto)]
-
+//! The files of `examples/`: each is run in turn, and its transcript and the files that it exports are printed.
 use cq_io::{DirFolder, Exporter, Format, MemExporter, Sink, StdSink};
 use cq_run::run;
 use std::alloc::Global;
-use std::process::ExitCode;
 
 const FILES: [&str; 13] = [
     "examples/first-run.cql",
@@ -23,14 +19,13 @@ const FILES: [&str; 13] = [
     "examples/exercises/streets.cql",
 ];
 
-fn main(rt: HostRuntime) -> ExitCode {
+/// Runs the files in turn. None: the memory or the output failed.
+pub fn show_examples(rt: HostRuntime) -> Option<()> {
     let mut out = StdSink::new(rt);
     for name in FILES {
-        if show(rt, &mut out, name).is_none() {
-            return ExitCode::from(1);
-        }
+        show(rt, &mut out, name)?;
     }
-    ExitCode::from(0)
+    Some(())
 }
 
 /// Prints the name of a file, what a run of it prints, and what it exports. None: the memory or the output failed.
