@@ -10,7 +10,6 @@ use std::alloc::{AllocError, AllocFailed, Global};
 use std::marker::Model;
 
 /// Names with their numbers, from 0. Contracts see the list of the names, in which no name stands twice.
-#[derive(Drop)]
 pub struct Names {
     names: IndexSet<Name, Hashing>,
 }
@@ -25,6 +24,12 @@ impl Model for Names {
     ghost view = { λ table. table.names.keys };
 
     ghost invariant = { λ table. (length table.names.keys < 2 ^ 32) × AreDistinct table.names.keys };
+}
+
+impl Drop for Names {
+    fn drop(self) {
+        let Self { names: _ } = self;
+    }
 }
 
 /// Why a name could not be added.

@@ -24,10 +24,15 @@ impl Equivalent<Name> for &str {
 
 /// Texts that were made names, each of which stands once in memory. No clause says which they are, since a name is the
 /// same whether it shares its memory or not.
-#[derive(Drop)]
 pub struct SharedTexts {
     texts: IndexSet<Name, Hashing>,
     alloc: Global,
+}
+
+impl Drop for SharedTexts {
+    fn drop(self) {
+        let Self { texts: _, alloc: _ } = self;
+    }
 }
 
 impl SharedTexts {

@@ -9,10 +9,18 @@ use std::rc::RcSlice;
 /// The bytes of a file. A name that is written in the file as it is stands in the file's memory, and takes none of its
 /// own; the file is given back once no name of it is left. No clause says where a name stands, since it is the same
 /// everywhere.
-#[derive(Drop)]
 pub struct Source {
     bytes: RcSlice<u8>,
     others: SharedTexts,
+}
+
+impl Drop for Source {
+    fn drop(self) {
+        let Self {
+            bytes: _,
+            others: _,
+        } = self;
+    }
 }
 
 impl Source {

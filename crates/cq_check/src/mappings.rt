@@ -53,11 +53,20 @@ fn entities_of(alloc: Global, duties: &[Duty]) -> Result<Vec<u32>, AllocError>
 
 /// The duties of a mapping, their places by the entity over which they are, and the target, over which they are
 /// decided.
-#[derive(Drop)]
 struct DutyList<'a> {
     duties: Vec<Duty>,
     by_entity: Groups,
     target: Prepared<'a>,
+}
+
+impl Drop for DutyList<'_> {
+    fn drop(self) {
+        let Self {
+            duties: _,
+            by_entity: _,
+            target: _,
+        } = self;
+    }
 }
 
 fn list_duties<'a>(

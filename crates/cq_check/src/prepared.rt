@@ -8,11 +8,20 @@ use std::alloc::{AllocError, Global};
 
 /// A schema, with what depends on it alone: the outline of rows over it, and the observation equations that begin at
 /// each entity. It is made once for all presentations and depths, each of which then costs no more than its rows.
-#[derive(Drop)]
 pub struct Prepared<'a> {
     pub schema: &'a Schema,
     pub outline: Outline,
     pub observations: Groups,
+}
+
+impl Drop for Prepared<'_> {
+    fn drop(self) {
+        let Self {
+            schema: _,
+            outline: _,
+            observations: _,
+        } = self;
+    }
 }
 
 impl<'a> Prepared<'a> {

@@ -1,5 +1,5 @@
 -- One part more, in lists made of all parts.
-use Rattle.std.proofs.Common.{ℕ, List, [], ◌∷◌, ◌++◌, ◌≡◌, inl, inr, ◌<◌, ◌+◌, length, map, take, get_or, refl, sym, ap, subst, ◌∙◌}
+use Rattle.std.proofs.Common.{ℕ, List, [], ◌∷◌, ◌++◌, ◌≡◌, Some, inl, inr, ◌<◌, ◌+◌, length, map, take, get_or, refl, sym, ap, subst, ◌∙◌}
 use Rattle.std.specs.Prelude.{slice_get}
 use Rattle.std.specs.List.{flat_map, range_with_len}
 use Rattle.std.proofs.lemmas.List.{take_more, append-nil, map_more}
@@ -62,6 +62,22 @@ with_first-is S schema path_eqs obs_eqs paths observations = record {
   attributes = schema.attributes;
   path_eqs = same_path_eqs S (with_first S path_eqs obs_eqs) refl refl refl refl (path_eqs ++ S.path_eqs) (path_eqs-append S path_eqs S.path_eqs (path_eqs ++ S.path_eqs) refl paths schema.path_eqs);
   obs_eqs = same_obs_eqs S (with_first S path_eqs obs_eqs) refl refl refl refl (obs_eqs ++ S.obs_eqs) (obs_eqs-append S obs_eqs S.obs_eqs (obs_eqs ++ S.obs_eqs) refl observations schema.obs_eqs);
+}
+
+-- a schema without its equations is well sorted
+pub bare_whole : (S : Schema) → IsSchema S → (path_eqs : List PathEq) (obs_eqs : List ObsEq) → path_eqs ≡ [] → obs_eqs ≡ []
+    → IsSchema (record { typeside = S.typeside; entities = S.entities; keys = S.keys; attributes = S.attributes; path_eqs = path_eqs; obs_eqs = obs_eqs })
+bare_whole S schema path_eqs obs_eqs p o = record {
+  typeside = schema.typeside;
+  entity_numbers = schema.entity_numbers;
+  key_numbers = schema.key_numbers;
+  attribute_numbers = schema.attribute_numbers;
+  distinct_sorts = schema.distinct_sorts;
+  distinct_symbols = schema.distinct_symbols;
+  keys = schema.keys;
+  attributes = schema.attributes;
+  path_eqs = λ n e at. let none : slice_get [] n ≡ Some e = ap (λ (l : List PathEq). slice_get l n) (sym p) ∙ at in cc;
+  obs_eqs = λ n e at. let none : slice_get [] n ≡ Some e = ap (λ (l : List ObsEq). slice_get l n) (sym o) ∙ at in cc;
 }
 
 pub first_whole : (S T : Schema) → S ≡ T → IsSchema S → (path_eqs all_path_eqs : List PathEq) (obs_eqs all_obs_eqs : List ObsEq) → ArePathEqs T path_eqs → AreObsEqs T obs_eqs

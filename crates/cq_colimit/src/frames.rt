@@ -42,11 +42,20 @@ fn copied(alloc: Global, names: &[Name]) -> Result<Vec<Name>, AllocError>
 }
 
 /// The parts, the classes of their entities, and the names of the joined entities.
-#[derive(Drop)]
 pub(crate) struct Symbols {
     pub parts: Vec<Placed>,
     pub numbers: Vec<u32>,
     pub entities: Vec<Name>,
+}
+
+impl Drop for Symbols {
+    fn drop(self) {
+        let Self {
+            parts: _,
+            numbers: _,
+            entities: _,
+        } = self;
+    }
 }
 
 /// The parts of the joined schema, with equations that are not yet looked up.

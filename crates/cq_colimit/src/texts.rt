@@ -12,7 +12,6 @@ use std::alloc::{AllocError, Global};
 use std::marker::Model;
 
 /// Texts. Contracts see the list of those that were added, each once.
-#[derive(Drop)]
 pub(crate) struct Texts {
     texts: IndexSet<Text>,
 }
@@ -23,6 +22,12 @@ impl Model for Texts {
     ghost Value = { List (List ℕ) };
 
     ghost view = { λ table. table.texts.keys };
+}
+
+impl Drop for Texts {
+    fn drop(self) {
+        let Self { texts: _ } = self;
+    }
 }
 
 impl Texts {

@@ -26,7 +26,6 @@ const MOST_ANSWERS: usize = 1_000_000;
 
 /// What the answers for an entity are searched by: the where equations of its block, when each is tested, and how many
 /// rows there are for each variable.
-#[derive(Drop)]
 pub(crate) struct Join<'a> {
     pub(crate) entity: u32,
     pub(crate) instance: &'a Instance,
@@ -34,6 +33,19 @@ pub(crate) struct Join<'a> {
     pub(crate) stages: Seq<usize>,
     pub(crate) counts: Seq<u32>,
     pub(crate) indexes: Seq<Option<TestIndex>>,
+}
+
+impl Drop for Join<'_> {
+    fn drop(self) {
+        let Self {
+            entity: _,
+            instance: _,
+            tests: _,
+            stages: _,
+            counts: _,
+            indexes: _,
+        } = self;
+    }
 }
 
 /// The rows that an index lists for the value of a term.

@@ -29,10 +29,15 @@ pub(crate) struct OfKeys {
 
 /// The indexes that a run has made so far: a slot for each attribute and for each foreign key, filled where an index is
 /// first asked for.
-#[derive(Drop)]
 pub(crate) struct Kept {
     pub(crate) cells: Vec<Option<OfCells>>,
     pub(crate) keys: Vec<Option<OfKeys>>,
+}
+
+impl Drop for Kept {
+    fn drop(self) {
+        let Self { cells: _, keys: _ } = self;
+    }
 }
 
 impl Kept {

@@ -15,7 +15,6 @@ use std::alloc::{AllocError, Global};
 use std::marker::Model;
 
 /// The answers for an entity in their order, from each of which its place is found. Contracts see the list.
-#[derive(Drop)]
 pub(crate) struct Answers {
     rows: IndexSet<Rows>,
 }
@@ -26,6 +25,12 @@ impl Model for Answers {
     ghost Value = { List (List ℕ) };
 
     ghost view = { λ answers. answers.rows.keys };
+}
+
+impl Drop for Answers {
+    fn drop(self) {
+        let Self { rows: _ } = self;
+    }
 }
 
 impl Answers {

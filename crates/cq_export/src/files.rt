@@ -9,10 +9,15 @@ use cq_io::Format;
 use std::alloc::Global;
 
 /// The files of each format with their names, in the order in which they are handed over.
-#[derive(Drop)]
 pub struct FileLists {
     pub csv: Vec<(String, Vec<u8>)>,
     pub cql: Vec<(String, Vec<u8>)>,
+}
+
+impl Drop for FileLists {
+    fn drop(self) {
+        let Self { csv: _, cql: _ } = self;
+    }
 }
 
 impl FileLists {

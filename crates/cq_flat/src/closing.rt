@@ -16,7 +16,6 @@ use std::mem;
 /// The classes so far, the node that follows each in the ring of its class, the functions that have
 /// a node as an argument, the nodes by their keys, the pairs of nodes that are still to be joined,
 /// and the functions whose arguments were joined since they were looked up.
-#[derive(Drop)]
 pub struct Closing {
     classes: Vec<u32>,
     following: Vec<u32>,
@@ -26,10 +25,37 @@ pub struct Closing {
     stale: Vec<u64>,
 }
 
+impl Drop for Closing {
+    fn drop(self) {
+        let Self {
+            classes: _,
+            following: _,
+            uses: _,
+            table: _,
+            pending: _,
+            stale: _,
+        } = self;
+    }
+}
+
 impl Closing {
     ghost use Rattle.cq_flat.specs.Partition.{AreRings};
     ghost use Rattle.cq_flat.specs.State.{AnyNode, IsEarlyConstant, IsAlone, IsClosing, EntersOne, Merges, Refreshes};
     ghost use Rattle.std.specs.Prelude.{◌⊎◌, []};
+
+    fn into_classes(self) -> Vec<u32>
+        ensures { result.items ≡ self.classes.items }
+    {
+        let Self {
+            classes,
+            following: _,
+            uses: _,
+            table: _,
+            pending: _,
+            stale: _,
+        } = self;
+        classes
+    }
 
     // All constants were looked up, and all functions are stale.
     fn start(
@@ -213,8 +239,7 @@ pub fn close_classes(
             None => closing.refresh(alloc, nodes)?,
         }
     }
-    let Closing { classes, .. } = closing;
-    Ok(classes)
+    Ok(closing.into_classes())
 }
 
 // Takes out pairs up to the first one of two classes, and gives these.

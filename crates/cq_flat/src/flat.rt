@@ -14,7 +14,6 @@ use std::alloc::{AllocError, Global};
 use std::marker::Model;
 
 /// Which nodes are equal: the values of all nodes, and what follows of them.
-#[derive(Drop)]
 pub struct Flat {
     values: NodeValues,
     nulls: Seq<u64>,
@@ -40,6 +39,17 @@ impl Model for Flat {
     } };
 
     ghost invariant = { λ flat. ArePlaced flat.values };
+}
+
+impl Drop for Flat {
+    fn drop(self) {
+        let Self {
+            values: _,
+            nulls: _,
+            entries: _,
+            clash: _,
+        } = self;
+    }
 }
 
 impl Flat {

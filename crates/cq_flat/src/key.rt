@@ -95,7 +95,6 @@ impl Hash for Numbers {
 
 /// A node for each key. Contracts see the pairs. Texts, of which there may be as many as nodes, have a table of their
 /// own, where a key takes no more room than a text.
-#[derive(Drop)]
 pub struct Table {
     numbers: HashMap<Numbers, u32, Hashing>,
     texts: HashMap<Name, u32, Hashing>,
@@ -110,6 +109,16 @@ impl Model for Table {
     ghost Value = { List (List ℕ × ℕ) };
 
     ghost view = { λ table. tagged 0 table.numbers.entries ++ tagged 1 table.texts.entries };
+}
+
+impl Drop for Table {
+    fn drop(self) {
+        let Self {
+            numbers: _,
+            texts: _,
+            most: _,
+        } = self;
+    }
 }
 
 impl Table {

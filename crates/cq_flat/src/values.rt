@@ -8,10 +8,18 @@ use std::alloc::{AllocError, Global};
 
 /// The values of nodes, each of which is kept once however many nodes have it: for each node the
 /// place of its value among the different ones.
-#[derive(Drop)]
 pub struct NodeValues {
     pub places: Vec<u32>,
     pub different: Vec<Value>,
+}
+
+impl Drop for NodeValues {
+    fn drop(self) {
+        let Self {
+            places: _,
+            different: _,
+        } = self;
+    }
 }
 
 impl NodeValues {

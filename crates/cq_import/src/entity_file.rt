@@ -5,10 +5,19 @@ ghost use Rattle.cq_import.specs.Rows.{ids_of, rows_of};
 use crate::ids::Ids;
 
 /// A file of an entity, with the ids of its records.
-#[derive(Drop)]
 pub struct EntityFile {
     pub name: String,
     pub text: Vec<u8>,
     pub ids: Ids,
     ghost ids_are: { ids ≡ ids_of (rows_of text.items) },
+}
+
+impl Drop for EntityFile {
+    fn drop(self) {
+        let Self {
+            name: _,
+            text: _,
+            ids: _,
+        } = self;
+    }
 }

@@ -64,7 +64,6 @@ impl Hash for Id {
 }
 
 /// Ids, numbered in the order in which they were added. Contracts see the list of the ids.
-#[derive(Drop)]
 pub struct Ids {
     ids: IndexSet<Id, Hashing>,
 }
@@ -77,6 +76,12 @@ impl Model for Ids {
     ghost view = { λ table. table.ids.keys };
 
     ghost invariant = { λ table. length table.ids.keys < 2 ^ 32 };
+}
+
+impl Drop for Ids {
+    fn drop(self) {
+        let Self { ids: _ } = self;
+    }
 }
 
 impl Ids {

@@ -20,7 +20,6 @@ pub enum Trouble {
 }
 
 /// Labels with their types, in order of first appearance. Contracts see the list of the pairs.
-#[derive(Drop)]
 pub struct Labels {
     types: IndexMap<u64, u32>,
 }
@@ -31,6 +30,12 @@ impl Model for Labels {
     ghost Value = { List (ℕ × ℕ) };
 
     ghost view = { λ labels. labels.types.entries };
+}
+
+impl Drop for Labels {
+    fn drop(self) {
+        let Self { types: _ } = self;
+    }
 }
 
 impl Labels {

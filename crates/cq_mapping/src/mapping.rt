@@ -15,7 +15,6 @@ use std::rc::Rc;
 /// A mapping from a schema to another over the same typeside: the image of each entity, the path of each foreign key,
 /// and the term of each attribute over one variable, which is generator 0. Contracts see these lists, in which each
 /// image has the right ends and type.
-#[derive(Drop)]
 pub struct Mapping {
     pub source: Rc<Schema>,
     pub target: Rc<Schema>,
@@ -50,6 +49,18 @@ impl Model for Mapping {
       keys = f.keys;
       attributes = f.attributes;
     }) };
+}
+
+impl Drop for Mapping {
+    fn drop(self) {
+        let Self {
+            source: _,
+            target: _,
+            entities: _,
+            keys: _,
+            attributes: _,
+        } = self;
+    }
 }
 
 impl Mapping {

@@ -18,7 +18,6 @@ use generators::build_generators;
 use std::alloc::{AllocError, Global};
 
 /// The numbers of generators, and the foreign keys and attributes of each entity.
-#[derive(Drop)]
 pub struct Numbers {
     /// The first generator of each entity's rows.
     pub starts: Seq<u32>,
@@ -32,6 +31,19 @@ pub struct Numbers {
     pub first_null: u32,
     /// How many nulls there are.
     pub nulls: u32,
+}
+
+impl Drop for Numbers {
+    fn drop(self) {
+        let Self {
+            starts: _,
+            targets: _,
+            attributes: _,
+            keys: _,
+            first_null: _,
+            nulls: _,
+        } = self;
+    }
 }
 
 /// The first generator of each entity's rows, and that of the nulls.

@@ -14,7 +14,6 @@ use std::marker::Model;
 
 /// Nulls and entries, with lists of the places of entries by the numbers of what they are for, from which the entry of
 /// a function at arguments is found. There are no lists where there is no entry. Contracts see the nulls and entries.
-#[derive(Drop)]
 pub(crate) struct EntryTable {
     algebra: Algebra,
     lists: Seq<Seq<u32>>,
@@ -33,6 +32,15 @@ impl Model for EntryTable {
     ghost view = { λ table. table.algebra };
 
     ghost invariant = { λ table. AreEntryLists table.algebra.entries table.lists };
+}
+
+impl Drop for EntryTable {
+    fn drop(self) {
+        let Self {
+            algebra: _,
+            lists: _,
+        } = self;
+    }
 }
 
 /// The number of each entry.

@@ -13,7 +13,6 @@ use std::rc::Rc;
 
 /// A model of a presentation over a schema: the rows of each entity with their least names, the columns of
 /// foreign keys and attributes, the nulls and the entries of functions, and what each generator stands for.
-#[derive(Drop)]
 pub struct Instance {
     schema: Rc<Schema>,
     presentation: Presentation,
@@ -50,6 +49,19 @@ impl Model for Instance {
       tables = record { sheet = i.sheet; algebra = i.algebra };
       assignment = map meaning i.standings;
     }) };
+}
+
+impl Drop for Instance {
+    fn drop(self) {
+        let Self {
+            schema: _,
+            presentation: _,
+            names: _,
+            sheet: _,
+            algebra: _,
+            standings: _,
+        } = self;
+    }
 }
 
 impl Instance {

@@ -5,7 +5,6 @@ use cq_tables::Tables;
 use cq_theory::Schema;
 
 /// Where the cells and the generators of types stand in the list of nodes.
-#[derive(Drop)]
 pub struct Places {
     /// The place of the first cell of each row, by its number in the tables.
     pub firsts: Seq<u64>,
@@ -13,6 +12,16 @@ pub struct Places {
     pub ranks: Seq<u32>,
     /// The place of each generator of a type, by the number of the generator.
     pub generators: Seq<u64>,
+}
+
+impl Drop for Places {
+    fn drop(self) {
+        let Self {
+            firsts: _,
+            ranks: _,
+            generators: _,
+        } = self;
+    }
 }
 
 /// What type terms become nodes over: a schema, the tables of its rows, and where their cells stand among the nodes.

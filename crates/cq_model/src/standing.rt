@@ -8,10 +8,18 @@ use cq_theory::{Con, Value};
 use std::alloc::{AllocError, Global};
 
 /// The row of its entity or the value for which a generator stands.
-#[derive(Drop)]
 pub enum Standing {
     Row(u32),
     Value(Value),
+}
+
+impl Drop for Standing {
+    fn drop(self) {
+        match self {
+            Self::Row(_) => (),
+            Self::Value(_) => (),
+        }
+    }
 }
 
 /// The row for which a generator of an entity stands.

@@ -3,7 +3,6 @@ use cq_base::Seq;
 use cq_theory::{EntTerm, TypeTerm, Value};
 
 /// Where a transform sends a generator: to a term over the presentation of its target.
-#[derive(Drop)]
 pub enum Image {
     /// The image of a generator of an entity.
     Row(EntTerm),
@@ -11,8 +10,16 @@ pub enum Image {
     Value(TypeTerm),
 }
 
+impl Drop for Image {
+    fn drop(self) {
+        match self {
+            Self::Row(_) => (),
+            Self::Value(_) => (),
+        }
+    }
+}
+
 /// A map from one instance to another.
-#[derive(Drop)]
 pub struct Transform {
     /// The image of each generator.
     pub images: Seq<Image>,
@@ -20,4 +27,14 @@ pub struct Transform {
     pub rows: Seq<Seq<u32>>,
     /// The value to which each null goes.
     pub nulls: Seq<Value>,
+}
+
+impl Drop for Transform {
+    fn drop(self) {
+        let Self {
+            images: _,
+            rows: _,
+            nulls: _,
+        } = self;
+    }
 }

@@ -151,7 +151,7 @@ fn instances_of(alloc: Global, env: Environment) -> Result<Vec<Named>, AllocErro
     ensures { IfOk result (λ named. map listed_as named.items ≡ filter_map listing_of
         (environment_of env.names.entries)) }
 {
-    let named = instances_in(alloc, env.names)?;
+    let named = instances_in(alloc, env.into_names())?;
     Ok(named)
 }
 

@@ -35,10 +35,18 @@ pub(crate) struct NamedPart {
 }
 
 /// A colimit: its schema, which is printed under its own name, and its parts in order.
-#[derive(Drop)]
 pub(crate) struct NamedColimit {
     pub schema: NamedSchema,
     pub parts: Seq<NamedPart>,
+}
+
+impl Drop for NamedColimit {
+    fn drop(self) {
+        let Self {
+            schema: _,
+            parts: _,
+        } = self;
+    }
 }
 
 /// An instance, with the name under which its schema is printed.
@@ -49,7 +57,6 @@ pub(crate) struct NamedInstance {
 }
 
 /// The ends of a transform, with their declared names.
-#[derive(Drop)]
 pub(crate) struct NamedEnds {
     pub source: Name,
     pub target: Name,
@@ -57,11 +64,30 @@ pub(crate) struct NamedEnds {
     pub finish: NamedInstance,
 }
 
+impl Drop for NamedEnds {
+    fn drop(self) {
+        let Self {
+            source: _,
+            target: _,
+            start: _,
+            finish: _,
+        } = self;
+    }
+}
+
 /// A transform, with its ends.
-#[derive(Drop)]
 pub(crate) struct NamedTransform {
     pub ends: NamedEnds,
     pub transform: Rc<Transform>,
+}
+
+impl Drop for NamedTransform {
+    fn drop(self) {
+        let Self {
+            ends: _,
+            transform: _,
+        } = self;
+    }
 }
 
 /// What a declared name stands for. An instance goes with the name under which its schema is printed, a mapping and a
@@ -78,12 +104,25 @@ pub(crate) enum Meaning {
 }
 
 /// The declared names in order, with what each stands for. That is boxed, so that what holds an entry is small.
-#[derive(Drop)]
 pub(crate) struct Environment {
     pub names: IndexMap<Name, Box<Meaning>, Hashing>,
 }
 
+impl Drop for Environment {
+    fn drop(self) {
+        let Self { names: _ } = self;
+    }
+}
+
 impl Environment {
+    /// The names, each with what it stands for.
+    pub fn into_names(self) -> IndexMap<Name, Box<Meaning>, Hashing>
+        ensures { result.entries ≡ self.names.entries }
+    {
+        let Self { names } = self;
+        names
+    }
+
     /// No names.
     pub fn new(alloc: Global) -> Environment
         ensures { result.names.entries ≡ [] }

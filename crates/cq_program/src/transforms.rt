@@ -30,11 +30,20 @@ use std::alloc::{AllocError, Global};
 use std::rc::Rc;
 
 /// The images of generators between two ends, and the number, from 1, of the first equation that they don't keep.
-#[derive(Drop)]
 pub(crate) struct BrokenImages {
     pub ends: NamedEnds,
     pub parts: Seq<(Name, Raw)>,
     pub number: u64,
+}
+
+impl Drop for BrokenImages {
+    fn drop(self) {
+        let Self {
+            ends: _,
+            parts: _,
+            number: _,
+        } = self;
+    }
 }
 
 /// A transform by the images of generators, between two instances over one schema, or images that don't keep an

@@ -21,10 +21,18 @@ use std::rc::Rc;
 const MOST_GENERATORS: u32 = 16_000_000;
 
 /// The sorts of the generators so far, and the equations between terms over them.
-#[derive(Drop)]
 pub(crate) struct Gluing {
     pub(crate) sorts: Vec<Sort>,
     pub(crate) equations: Vec<Equation>,
+}
+
+impl Drop for Gluing {
+    fn drop(self) {
+        let Self {
+            sorts: _,
+            equations: _,
+        } = self;
+    }
 }
 
 impl Gluing {

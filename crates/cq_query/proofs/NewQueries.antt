@@ -15,9 +15,8 @@ use Rattle.cq_theory.proofs.DeclaredParts.{or_else_none, new_name, first_part_fa
 use Rattle.cq_query.specs.declared.parts.QueryParts.{QueryParts}
 use Rattle.cq_query.specs.declared.parts.Clause.{Clause}
 use Rattle.cq_query.specs.declared.query.Block.{Block}
-use Rattle.cq_theory.specs.declared.groups.Groups.{Groups}
-use Rattle.cq_theory.specs.Groups.{AreGroups}
-use Rattle.cq_theory.specs.Groups.{edge_sources, path_eq_sources, obs_eq_sources}
+use Rattle.cq_theory.specs.declared.beginnings.Beginnings.{Beginnings}
+use Rattle.cq_theory.specs.Beginnings.{AreBeginningsOf}
 use Rattle.cq_query.specs.IsQuery.{IsQuery}
 use Rattle.cq_query.specs.QueryParts.{block_fault, blocks_fault, block_entities, entity_named, scopes_of, variables_fault, clauses_fault, missing_part, blocks_made, clauses_and_rest_fault, variables_and_rest_fault, query_fault, query_made}
 use Rattle.cq_query.proofs.Parted.{named_entity}
@@ -102,14 +101,5 @@ module _ (S T S₁ T₁ T₂ : Schema) (parts : QueryParts) (names : List Name) 
     pub new_is : IsSchema S → IsSchema T → S.typeside ≡ T.typeside → variables_and_rest_fault S₁ T₁ entities first vars clauses ≡ None → IsQuery (record { source = S; target = T; blocks = own })
     new_is source target typeside none = subst IsQuery (sym new_made) (query_made-is S T source target typeside parts (new_fault ∙ none))
 
-pub keys_at : (T T₁ : Schema) (made : Groups) → T₁ ≡ T → AreGroups (edge_sources T₁.keys) (length T₁.entities) made → AreGroups (edge_sources T.keys) (length T.entities) made
-keys_at T T₁ made same h = subst (λ (U : Schema). AreGroups (edge_sources U.keys) (length U.entities) made) same h
-
-pub attributes_at : (T T₁ : Schema) (made : Groups) → T₁ ≡ T → AreGroups (edge_sources T₁.attributes) (length T₁.entities) made → AreGroups (edge_sources T.attributes) (length T.entities) made
-attributes_at T T₁ made same h = subst (λ (U : Schema). AreGroups (edge_sources U.attributes) (length U.entities) made) same h
-
-pub path_eqs_at : (T T₁ : Schema) (made : Groups) → T₁ ≡ T → AreGroups (path_eq_sources T₁.path_eqs) (length T₁.entities) made → AreGroups (path_eq_sources T.path_eqs) (length T.entities) made
-path_eqs_at T T₁ made same h = subst (λ (U : Schema). AreGroups (path_eq_sources U.path_eqs) (length U.entities) made) same h
-
-pub obs_eqs_at : (T T₁ : Schema) (made : Groups) → T₁ ≡ T → AreGroups (obs_eq_sources T₁.obs_eqs) (length T₁.entities) made → AreGroups (obs_eq_sources T.obs_eqs) (length T.entities) made
-obs_eqs_at T T₁ made same h = subst (λ (U : Schema). AreGroups (obs_eq_sources U.obs_eqs) (length U.entities) made) same h
+pub beginnings_at : (T T₁ : Schema) (made : Beginnings) → T₁ ≡ T → AreBeginningsOf T₁ made → AreBeginningsOf T made
+beginnings_at T T₁ made same h = subst (λ (U : Schema). AreBeginningsOf U made) same h

@@ -18,7 +18,6 @@ use std::collections::HashMap;
 use std::marker::Model;
 
 /// For each variable to which a foreign key assigns a term, the place of the clause. Contracts see the pairs.
-#[derive(Drop)]
 pub(crate) struct Assigned {
     places: HashMap<Name, usize, Hashing>,
 }
@@ -29,6 +28,12 @@ impl Model for Assigned {
     ghost Value = { List (List ℕ × ℕ) };
 
     ghost view = { λ assigned. assigned.places.entries };
+}
+
+impl Drop for Assigned {
+    fn drop(self) {
+        let Self { places: _ } = self;
+    }
 }
 
 impl Assigned {

@@ -15,10 +15,18 @@ use cq_theory::{Groups, Schema, Symbol};
 use std::alloc::{AllocError, Global};
 
 /// The places of the clauses of each attribute and of each foreign key of the target.
-#[derive(Drop)]
 pub(crate) struct Index {
     pub attributes: Groups,
     pub keys: Groups,
+}
+
+impl Drop for Index {
+    fn drop(self) {
+        let Self {
+            attributes: _,
+            keys: _,
+        } = self;
+    }
 }
 
 /// The number of an attribute, or `none`.

@@ -12,7 +12,7 @@ use crate::owners::make_entities;
 use crate::parts::QueryParts;
 use cq_base::{Name, Seq};
 use cq_theory::{
-    ArrowRefusal, Beginnings, Edge, EntTerm, Equation, Groups, ObsEq, PathEq, Schema, TypeTerm,
+    ArrowRefusal, Beginnings, Edge, EntTerm, Equation, ObsEq, PathEq, Schema, TypeTerm,
 };
 use std::alloc::Global;
 use std::marker::Model;
@@ -22,7 +22,6 @@ use std::rc::Rc;
 /// variable that meets the where equations. Variables stand for generators, by their places. There is a term for each
 /// attribute of the entity, and for each foreign key of it a term for each variable of the block to which the key
 /// leads; both are in the order of the target.
-#[derive(Drop)]
 pub struct Block {
     pub vars: Seq<(Name, u32)>,
     pub tests: Seq<Equation>,
@@ -30,27 +29,32 @@ pub struct Block {
     pub keys: Seq<Seq<EntTerm>>,
 }
 
+impl Drop for Block {
+    fn drop(self) {
+        let Self {
+            vars: _,
+            tests: _,
+            attributes: _,
+            keys: _,
+        } = self;
+    }
+}
+
 /// A query from a source to a target: a block for each entity of the target, in its order (Schultz and Wisnesky,
 /// Algebraic Data Integration: uber-flower queries). Contracts see the schemas and the blocks, which are well sorted.
-#[derive(Drop)]
 pub struct Query {
     pub source: Rc<Schema>,
     pub target: Rc<Schema>,
     pub blocks: Seq<Block>,
-    keys: Groups,
-    attributes: Groups,
-    path_eqs: Groups,
-    obs_eqs: Groups,
+    beginnings: Beginnings,
 }
 
 impl Model for Query {
     ghost use Rattle.std.specs.Coded.{codes};
-    ghost use Rattle.std.specs.Prelude.{length};
     ghost use Rattle.cq_theory.specs.contracts.term.TypeTerm as type_term;
     ghost use Rattle.cq_query.specs.QueryData.{QueryData};
     ghost use Rattle.cq_query.specs.IsQuery.{IsQuery};
-    ghost use Rattle.cq_theory.specs.Groups.{AreGroups};
-    ghost use Rattle.cq_theory.specs.Groups.{edge_sources, path_eq_sources, obs_eq_sources};
+    ghost use Rattle.cq_theory.specs.Beginnings.{AreBeginningsOf};
 
     ghost Value = { QueryData };
 
@@ -62,17 +66,24 @@ impl Model for Query {
       blocks = q.blocks;
     } };
 
-    // Each table has the numbers of what begins at each entity of the target.
     ghost invariant = { λ q.
         IsQuery (record {
           source = q.source.value;
           target = q.target.value;
           blocks = q.blocks;
         })
-        × AreGroups (edge_sources q.target.value.keys) (length q.target.value.entities) q.keys
-        × AreGroups (edge_sources q.target.value.attributes) (length q.target.value.entities) q.attributes
-        × AreGroups (path_eq_sources q.target.value.path_eqs) (length q.target.value.entities) q.path_eqs
-        × AreGroups (obs_eq_sources q.target.value.obs_eqs) (length q.target.value.entities) q.obs_eqs };
+        × AreBeginningsOf q.target.value q.beginnings };
+}
+
+impl Drop for Query {
+    fn drop(self) {
+        let Self {
+            source: _,
+            target: _,
+            blocks: _,
+            beginnings: _,
+        } = self;
+    }
 }
 
 impl Query {
@@ -112,23 +123,12 @@ impl Query {
             clauses: clauses.as_slice(),
         };
         match make_blocks(alloc, &source, &target, &parts) {
-            Ok((blocks, beginnings)) => {
-                let Beginnings {
-                    keys,
-                    attributes,
-                    path_eqs,
-                    obs_eqs,
-                } = beginnings;
-                Ok(Query {
-                    source,
-                    target,
-                    blocks: Seq::from_vec(blocks),
-                    keys,
-                    attributes,
-                    path_eqs,
-                    obs_eqs,
-                })
-            }
+            Ok((blocks, beginnings)) => Ok(Query {
+                source,
+                target,
+                blocks: Seq::from_vec(blocks),
+                beginnings,
+            }),
             Err(refusal) => Err(refusal),
         }
     }
@@ -172,14 +172,19 @@ impl Query {
     pub(crate) fn key_place(&self, key: usize) -> Option<usize>
         ensures { result ≡ slice_get (places (key_sources self.now)) key }
     {
-        self.keys.places.as_slice().get(key).copied()
+        self.beginnings.keys.places.as_slice().get(key).copied()
     }
 
     /// The place of an attribute of the target among those of its entity.
     pub(crate) fn attribute_place(&self, attribute: usize) -> Option<usize>
         ensures { result ≡ slice_get (places (attribute_sources self.now)) attribute }
     {
-        self.attributes.places.as_slice().get(attribute).copied()
+        self.beginnings
+            .attributes
+            .places
+            .as_slice()
+            .get(attribute)
+            .copied()
     }
 
     /// The numbers of the foreign keys from an entity of the target.
@@ -187,7 +192,7 @@ impl Query {
         requires { entity < length self.now.target.entities }
         ensures { result.now ≡ positions (key_sources self.now) entity }
     {
-        self.keys.of(entity)
+        self.beginnings.keys.of(entity)
     }
 
     /// The numbers of the attributes from an entity of the target.
@@ -195,7 +200,7 @@ impl Query {
         requires { entity < length self.now.target.entities }
         ensures { result.now ≡ positions (attribute_sources self.now) entity }
     {
-        self.attributes.of(entity)
+        self.beginnings.attributes.of(entity)
     }
 
     /// The numbers of the path equations that begin at an entity of the target.
@@ -203,7 +208,7 @@ impl Query {
         requires { entity < length self.now.target.entities }
         ensures { result.now ≡ positions (path_sources self.now) entity }
     {
-        self.path_eqs.of(entity)
+        self.beginnings.path_eqs.of(entity)
     }
 
     /// The numbers of the observation equations at an entity of the target.
@@ -211,7 +216,7 @@ impl Query {
         requires { entity < length self.now.target.entities }
         ensures { result.now ≡ positions (observation_sources self.now) entity }
     {
-        self.obs_eqs.of(entity)
+        self.beginnings.obs_eqs.of(entity)
     }
 
     /// How many variables the block of an entity has.

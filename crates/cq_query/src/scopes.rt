@@ -18,7 +18,6 @@ use std::marker::Model;
 const MOST_VARIABLES: u32 = 16_000_000;
 
 /// The variables of a block, with a table of their names. Contracts see the variables.
-#[derive(Drop)]
 pub(crate) struct Scope {
     vars: Seq<(Name, u32)>,
     names: Names,
@@ -35,6 +34,16 @@ impl Model for Scope {
     ghost view = { λ scope. scope.vars };
 
     ghost invariant = { λ scope. (scope.names ≡ names_of scope.vars) × (scope.sorts ≡ sorts_of scope.vars) };
+}
+
+impl Drop for Scope {
+    fn drop(self) {
+        let Self {
+            vars: _,
+            names: _,
+            sorts: _,
+        } = self;
+    }
 }
 
 impl Scope {

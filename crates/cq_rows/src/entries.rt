@@ -8,10 +8,18 @@ use std::alloc::{AllocError, Global};
 
 /// The row of each generator as it was made, or `u64::MAX` where it has none, and the row to which each row was
 /// renamed since.
-#[derive(Drop)]
 pub struct Entries {
     first: Vec<u64>,
     renamings: Renamings,
+}
+
+impl Drop for Entries {
+    fn drop(self) {
+        let Self {
+            first: _,
+            renamings: _,
+        } = self;
+    }
 }
 
 impl Entries {
@@ -81,7 +89,11 @@ impl Entries {
         ensures { result.items ≡ rows_of self }
     {
         look_up(&mut self.renamings, &mut self.first);
-        self.first
+        let Self {
+            first,
+            renamings: _,
+        } = self;
+        first
     }
 }
 

@@ -28,11 +28,20 @@ pub const MOST_ROWS: u64 = 200_000;
 
 /// Rows that were made up to some depth. The entry of a generator of an entity is its row, that of a generator of a
 /// type is `u64::MAX`. It is closed exactly where all cells are filled.
-#[derive(Drop)]
 pub struct Partial {
     pub tables: Tables,
     pub generator_rows: Seq<u64>,
     pub closed: bool,
+}
+
+impl Drop for Partial {
+    fn drop(self) {
+        let Self {
+            tables: _,
+            generator_rows: _,
+            closed: _,
+        } = self;
+    }
 }
 
 /// Why there are no rows.

@@ -11,11 +11,20 @@ use std::alloc::{AllocError, Global};
 
 /// What depends on a schema alone of the work on rows over it: the entities between which its foreign keys go, tables
 /// without rows, and the path equations that begin at each entity. It is made once where rows are made many times.
-#[derive(Drop)]
 pub struct Outline {
     pub(crate) keys: Vec<(u32, u32)>,
     pub(crate) tables: Tables,
     pub(crate) path_equations: Groups,
+}
+
+impl Drop for Outline {
+    fn drop(self) {
+        let Self {
+            keys: _,
+            tables: _,
+            path_equations: _,
+        } = self;
+    }
 }
 
 impl Outline {

@@ -9,7 +9,6 @@ use std::marker::Model;
 
 /// Seen as the list of the row to which each row was renamed. Rows that were renamed to one row are a class, a tree
 /// of rows under the lowest of them, which knows the row to which all were renamed.
-#[derive(Drop)]
 pub struct Renamings {
     parent: Vec<u64>,
     at: Vec<u64>,
@@ -25,6 +24,12 @@ impl Model for Renamings {
     ghost view = { view_of };
 
     ghost invariant = { IsKept };
+}
+
+impl Drop for Renamings {
+    fn drop(self) {
+        let Self { parent: _, at: _ } = self;
+    }
 }
 
 impl Renamings {

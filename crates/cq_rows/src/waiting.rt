@@ -44,12 +44,22 @@ struct Entry {
 
 /// Lists of equations. A list is known by the place of its last equation, of which the next one is its first, or by
 /// none if it is empty; so two lists are joined in one step.
-#[derive(Drop)]
 pub struct Waiting {
     rows: Vec<Cells>,
     entries: Vec<Entry>,
     ready: Option<usize>,
     open: bool,
+}
+
+impl Drop for Waiting {
+    fn drop(self) {
+        let Self {
+            rows: _,
+            entries: _,
+            ready: _,
+            open: _,
+        } = self;
+    }
 }
 
 impl Waiting {

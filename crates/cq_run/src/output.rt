@@ -19,10 +19,15 @@ pub enum View {
 }
 
 /// What is written of instances, and their files.
-#[derive(Drop)]
 pub struct Output {
     pub shown: Vec<u8>,
     pub files: FileLists,
+}
+
+impl Drop for Output {
+    fn drop(self) {
+        let Self { shown: _, files: _ } = self;
+    }
 }
 
 /// What instances are written as.

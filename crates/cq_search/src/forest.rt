@@ -29,10 +29,15 @@ pub struct Above {
 /// A tree for each class of nodes. The links are numbered in the order in which they came, and a way between two nodes
 /// stays as it is. The premises of a congruence are explained by links that came before it (Nieuwenhuis and Oliveras,
 /// Proof-producing congruence closure, 2005).
-#[derive(Drop)]
 pub struct Forest {
     above: Vec<Option<Above>>,
     links: Vec<Link>,
+}
+
+impl Drop for Forest {
+    fn drop(self) {
+        let Self { above: _, links: _ } = self;
+    }
 }
 
 impl Forest {

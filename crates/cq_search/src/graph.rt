@@ -12,7 +12,6 @@ use std::mem;
 /// Nodes, their classes so far, and why nodes of a class are equal. Of two nodes with one symbol whose arguments have
 /// the same classes, the table has one. Links wait to be made, and nodes whose arguments were joined wait to be looked
 /// up (Downey, Sethi and Tarjan, Variations on the Common Subexpression Problem, 1980).
-#[derive(Drop)]
 pub struct Graph {
     pub terms: Terms,
     pub classes: Classes,
@@ -22,6 +21,21 @@ pub struct Graph {
     waiting: Vec<Link>,
     stale: Vec<u64>,
     alloc: Global,
+}
+
+impl Drop for Graph {
+    fn drop(self) {
+        let Self {
+            terms: _,
+            classes: _,
+            forest: _,
+            uses: _,
+            table: _,
+            waiting: _,
+            stale: _,
+            alloc: _,
+        } = self;
+    }
 }
 
 impl Graph {

@@ -26,13 +26,24 @@ pub fn list_steps(alloc: Global, graph: &Graph, left: u64, right: u64) -> Result
 }
 
 /// Steps so far, and by what they lead from node to node: along the ways in the forest, or through roots.
-#[derive(Drop)]
 struct Listing {
     steps: Steps,
     depths: Depths,
     roots: Roots,
     is_along: bool,
     alloc: Global,
+}
+
+impl Drop for Listing {
+    fn drop(self) {
+        let Self {
+            steps: _,
+            depths: _,
+            roots: _,
+            is_along: _,
+            alloc: _,
+        } = self;
+    }
 }
 
 impl Listing {
@@ -54,7 +65,13 @@ impl Listing {
     }
 
     fn up_to(self, last: u64) -> Vec<Step> {
-        let Listing { steps, .. } = self;
+        let Self {
+            steps,
+            depths: _,
+            roots: _,
+            is_along: _,
+            alloc: _,
+        } = self;
         steps.up_to(last)
     }
 

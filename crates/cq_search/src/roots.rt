@@ -3,10 +3,18 @@ use std::alloc::{AllocError, Global};
 
 /// The node above each node, which is the node itself at a root, and of each root how many nodes are joined there
 /// (Tarjan, Efficiency of a good but not linear set union algorithm, 1975).
-#[derive(Drop)]
 pub struct Roots {
     above: Vec<u64>,
     counts: Vec<u64>,
+}
+
+impl Drop for Roots {
+    fn drop(self) {
+        let Self {
+            above: _,
+            counts: _,
+        } = self;
+    }
 }
 
 impl Roots {

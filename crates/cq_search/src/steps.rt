@@ -8,11 +8,20 @@ use std::alloc::Global;
 use std::collections::HashMap;
 
 /// Steps so far, and the number of the step between two nodes.
-#[derive(Drop)]
 pub struct Steps {
     steps: Vec<Step>,
     numbers: HashMap<(u64, u64), u64, Hashing>,
     alloc: Global,
+}
+
+impl Drop for Steps {
+    fn drop(self) {
+        let Self {
+            steps: _,
+            numbers: _,
+            alloc: _,
+        } = self;
+    }
 }
 
 impl Steps {
@@ -26,8 +35,11 @@ impl Steps {
 
     /// The steps up to the one of a number.
     pub fn up_to(self, last: u64) -> Vec<Step> {
-        let Steps { steps, .. } = self;
-        let mut steps = steps;
+        let Self {
+            mut steps,
+            numbers: _,
+            alloc: _,
+        } = self;
         steps.truncate((last as usize).saturating_add(1));
         steps
     }

@@ -8,11 +8,20 @@ use std::alloc::Global;
 
 /// One node for each ground term that was met, numbered in the order in which they were put in, with its entity if it
 /// is a term of one. Arguments come before the terms that they stand in.
-#[derive(Drop)]
 pub struct Terms {
     texts: IndexSet<Name, Hashing>,
     nodes: IndexSet<Node, Hashing>,
     entities: Vec<Option<u32>>,
+}
+
+impl Drop for Terms {
+    fn drop(self) {
+        let Self {
+            texts: _,
+            nodes: _,
+            entities: _,
+        } = self;
+    }
 }
 
 impl Terms {

@@ -8,7 +8,6 @@ ghost use Rattle.cq_tables.specs.Inverse.{CountsPlaces};
 use std::alloc::{AllocError, Global};
 use std::marker::Model;
 
-#[derive(Drop)]
 pub struct Cells {
     cells: Vec<Option<u64>>,
     spots: Vec<u64>,
@@ -26,6 +25,17 @@ impl Model for Cells {
     ghost view = { view_of };
 
     ghost invariant = { IsKept };
+}
+
+impl Drop for Cells {
+    fn drop(self) {
+        let Self {
+            cells: _,
+            spots: _,
+            mentions: _,
+            alloc: _,
+        } = self;
+    }
 }
 
 impl Cells {

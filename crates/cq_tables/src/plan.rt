@@ -7,7 +7,6 @@ use std::alloc::{AllocError, Global};
 use std::marker::Model;
 
 /// The keys, each with its number among the keys of its entity, and of each entity the keys that go from it.
-#[derive(Drop)]
 pub struct Plan {
     keys: Vec<(u32, u32)>,
     slots: Vec<usize>,
@@ -24,6 +23,16 @@ impl Model for Plan {
     ghost view = { shape_of };
 
     ghost invariant = { IsPlanned };
+}
+
+impl Drop for Plan {
+    fn drop(self) {
+        let Self {
+            keys: _,
+            slots: _,
+            starting: _,
+        } = self;
+    }
 }
 
 impl Plan {

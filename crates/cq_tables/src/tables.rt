@@ -16,7 +16,6 @@ use std::rc::Rc;
 /// Numbered rows, each of one entity, each live or renamed. A live row has a cell for each foreign key of its entity:
 /// empty, or a live row of the entity to which the key goes. For each row the cells that hold it are kept, so that a
 /// renaming walks over these alone.
-#[derive(Drop)]
 pub struct Tables {
     plan: Rc<Plan>,
     kinds: Vec<u32>,
@@ -36,6 +35,19 @@ impl Model for Tables {
     ghost view = { content_of };
 
     ghost invariant = { IsKept };
+}
+
+impl Drop for Tables {
+    fn drop(self) {
+        let Self {
+            plan: _,
+            kinds: _,
+            alive: _,
+            starts: _,
+            cells: _,
+            alloc: _,
+        } = self;
+    }
 }
 
 impl Tables {

@@ -10,12 +10,22 @@ use std::alloc::{AllocError, Global};
 
 /// The generators of each entity's first row and of the first null, from 0, and the attributes and the keys of
 /// each entity by their numbers.
-#[derive(Drop)]
 pub struct Plan {
     pub starts: Vec<u64>,
     pub first_null: u64,
     pub attributes: Vec<Vec<u32>>,
     pub keys: Vec<Vec<u32>>,
+}
+
+impl Drop for Plan {
+    fn drop(self) {
+        let Self {
+            starts: _,
+            first_null: _,
+            attributes: _,
+            keys: _,
+        } = self;
+    }
 }
 
 /// The plan of an instance.

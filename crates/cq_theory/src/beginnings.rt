@@ -11,12 +11,22 @@ use std::alloc::{AllocError, Global};
 
 /// The foreign keys, attributes, path equations and observation equations that begin at each entity of a schema, and
 /// the place of each among those of its entity.
-#[derive(Drop)]
 pub struct Beginnings {
     pub keys: Groups,
     pub attributes: Groups,
     pub path_eqs: Groups,
     pub obs_eqs: Groups,
+}
+
+impl Drop for Beginnings {
+    fn drop(self) {
+        let Self {
+            keys: _,
+            attributes: _,
+            path_eqs: _,
+            obs_eqs: _,
+        } = self;
+    }
 }
 
 impl Beginnings {

@@ -11,10 +11,18 @@ use std::alloc::AllocError;
 use std::cmp::Ordering;
 
 /// A constant: a declared one by its number, or a text, which is a constant of the open type.
-#[derive(Drop)]
 pub enum Con {
     Named(u32),
     Open(Name),
+}
+
+impl Drop for Con {
+    fn drop(self) {
+        match self {
+            Self::Named(_) => (),
+            Self::Open(_) => (),
+        }
+    }
 }
 
 /// Whether no constant can have this text: it is empty or begins with `?` or `=`.

@@ -8,10 +8,18 @@ use std::alloc::{AllocError, Global};
 
 /// For each owner the places at which it stands in a list, and for each place of the list how often its owner stands
 /// before it.
-#[derive(Drop)]
 pub struct Groups {
     pub groups: Seq<Seq<usize>>,
     pub places: Seq<usize>,
+}
+
+impl Drop for Groups {
+    fn drop(self) {
+        let Self {
+            groups: _,
+            places: _,
+        } = self;
+    }
 }
 
 impl Groups {

@@ -48,7 +48,6 @@ pub struct ObsEq {
 
 /// Entities, foreign keys, attributes and equations over a typeside. Contracts see these lists, which are well sorted
 /// and in which no name stands twice among types and entities, nor among functions, foreign keys and attributes.
-#[derive(Drop)]
 pub struct Schema {
     pub typeside: Rc<Typeside>,
     pub entities: Seq<Name>,
@@ -95,6 +94,22 @@ impl Model for Schema {
         × (s.entity_table ≡ s.entities)
         × (s.key_table ≡ edge_names s.keys)
         × (s.attribute_table ≡ edge_names s.attributes) };
+}
+
+impl Drop for Schema {
+    fn drop(self) {
+        let Self {
+            typeside: _,
+            entities: _,
+            keys: _,
+            attributes: _,
+            path_eqs: _,
+            obs_eqs: _,
+            entity_table: _,
+            key_table: _,
+            attribute_table: _,
+        } = self;
+    }
 }
 
 impl Schema {

@@ -23,7 +23,6 @@ pub struct Fun {
 
 /// Types, constants with their types, and functions, all free, and at most one open type, of which every text is a
 /// constant. Contracts see these four, which are well sorted, and in whose lists no name stands twice.
-#[derive(Drop)]
 pub struct Typeside {
     pub types: Seq<Name>,
     pub constants: Seq<(Name, u32)>,
@@ -57,6 +56,20 @@ impl Model for Typeside {
         × (t.type_table ≡ t.types)
         × (t.constant_table ≡ constant_names typeside)
         × (t.function_table ≡ function_names typeside) };
+}
+
+impl Drop for Typeside {
+    fn drop(self) {
+        let Self {
+            types: _,
+            constants: _,
+            functions: _,
+            open_type: _,
+            type_table: _,
+            constant_table: _,
+            function_table: _,
+        } = self;
+    }
 }
 
 impl Typeside {

@@ -9,10 +9,15 @@ use cq_theory::Sort;
 use std::alloc::{AllocError, Global};
 
 /// The names of generators, and the sort of each.
-#[derive(Drop)]
 pub struct Scope {
     pub names: Names,
     pub sorts: Seq<Sort>,
+}
+
+impl Drop for Scope {
+    fn drop(self) {
+        let Self { names: _, sorts: _ } = self;
+    }
 }
 
 /// The names and the sorts of generators. There are none where a name stands twice.

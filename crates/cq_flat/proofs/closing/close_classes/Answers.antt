@@ -1,8 +1,9 @@
-use Rattle.std.proofs.Common.{◌≡◌, length, arith, refl, sym, ◌∙◌, ap, inl, inr, ⊎_elim}
+use Rattle.std.proofs.Common.{◌≡◌, length, arith, refl, sym, subst, ◌∙◌, ap, inl, inr, ⊎_elim}
 use Rattle.std.proofs.lemmas.Bool.{false≢true}
 use Rattle.cq_flat.proofs.Merged.{taken_within, taken_roots, closing_merged, roots_fall, closing_end, congruent_within}
 use Rattle.cq_flat.proofs.Refreshed.{closing_settled, closing_refreshed}
 use Rattle.cq_flat.proofs.Steps.{waits_none, fewer_merged, fewer_refreshed}
+use Rattle.cq_flat.specs.Closing.{AreExact}
 use Rattle.cq_flat.specs.State.{AnyNode}
 use Rattle.cq_flat.proofs.closing.close_classes.Goals as goal
 
@@ -70,4 +71,5 @@ loop-alloc-preserved c =
 pub returns : goal.returns
 returns c =
     let o = c.is_open.ensures.0 c.loop-alloc-test.false in
-    closing_end c.args.nodes.now c.args.equations.items c.loop-alloc.closing c.loop-alloc.invariant o.0 o.1
+    subst (AreExact c.args.nodes.now c.args.equations.items) (sym c.into_classes.ensures)
+    (closing_end c.args.nodes.now c.args.equations.items c.loop-alloc.closing c.loop-alloc.invariant o.0 o.1)

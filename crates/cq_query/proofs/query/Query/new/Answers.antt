@@ -1,6 +1,6 @@
 use Rattle.std.proofs.Common.{length, ap, subst, ◌∙◌, arith}
 use Rattle.cq_theory.specs.Schema.{IsSchema}
-use Rattle.cq_query.proofs.NewQueries.{new_entities, new_blocks, new_clauses, new_fault, new_refused, new_made, new_is, keys_at, attributes_at, path_eqs_at, obs_eqs_at}
+use Rattle.cq_query.proofs.NewQueries.{new_entities, new_blocks, new_clauses, new_fault, new_refused, new_made, new_is, beginnings_at}
 use Rattle.cq_query.proofs.query.Query.new.Goals as goal
 
 pub make_entities-requires : goal.make_entities-requires
@@ -36,10 +36,7 @@ invariant_of-result c = (
       c.in_ok-blocks.ensures.accepted c.in_ok-blocks.ensures.made c.as_slice-2.ensures.value
       c.from_vec.result c.in-Ok.blocks.items c.from_vec.ensures c.in-Ok.ensures.made
       (subst IsSchema c.deref.ensures c.is_well_sorted.ensures) (subst IsSchema c.deref-2.ensures c.is_well_sorted-2.ensures) c.requires.typeside c.in-Ok.ensures.accepted,
-  keys_at c.args.target.value c.deref-5.result.now c.in-Ok.beginnings.keys c.deref-5.ensures c.in-Ok.ensures.beginnings.keys,
-  attributes_at c.args.target.value c.deref-5.result.now c.in-Ok.beginnings.attributes c.deref-5.ensures c.in-Ok.ensures.beginnings.attributes,
-  path_eqs_at c.args.target.value c.deref-5.result.now c.in-Ok.beginnings.path_eqs c.deref-5.ensures c.in-Ok.ensures.beginnings.path_eqs,
-  obs_eqs_at c.args.target.value c.deref-5.result.now c.in-Ok.beginnings.obs_eqs c.deref-5.ensures c.in-Ok.ensures.beginnings.obs_eqs,
+  beginnings_at c.args.target.value c.deref-5.result.now c.in-Ok.beginnings c.deref-5.ensures c.in-Ok.ensures.beginnings,
 )
 
 pub returns-in-Ok-clause-accepted : goal.returns-in-Ok-clause-accepted

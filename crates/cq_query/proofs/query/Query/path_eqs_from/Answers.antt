@@ -6,9 +6,9 @@ use Rattle.cq_theory.proofs.Grouped.{group_within, group_read}
 use Rattle.cq_query.proofs.query.Query.path_eqs_from.Goals as goal
 
 pub of-requires : goal.of-requires
-of-requires c = group_within _ _ c.args.entity _ c.self.invariant.3 (subst (λ (q : QueryData). c.args.entity < length q.target.entities) (sym c.self.view_is) c.requires)
+of-requires c = group_within _ _ c.args.entity _ c.self.invariant.1.path_eqs (subst (λ (q : QueryData). c.args.entity < length q.target.entities) (sym c.self.view_is) c.requires)
 
 pub returns : goal.returns
 returns c =
-    group_read _ _ c.args.entity _ c.self.invariant.3 (subst (λ (q : QueryData). c.args.entity < length q.target.entities) (sym c.self.view_is) c.requires) _ c.of.ensures
+    group_read _ _ c.args.entity _ c.self.invariant.1.path_eqs (subst (λ (q : QueryData). c.args.entity < length q.target.entities) (sym c.self.view_is) c.requires) _ c.of.ensures
     ∙ ap (λ (q : QueryData). positions (path_sources q) c.args.entity) c.self.view_is
