@@ -33,7 +33,8 @@ def kind_of(words):
     if "/rt-edits-" in over:
         return "seed" if over.endswith("/seed") else "edits"
     if words[1] == "check":
-        return "edits"
+        # (a program is proved by a check of its own, and has no wrong bodies here)
+        return "proof" if "src/main.rt" in words else "edits"
     return "tests" if "--test" in words else "proof"
 
 

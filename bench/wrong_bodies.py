@@ -3,11 +3,11 @@
 
     bench/wrong_bodies.py [NAME..]
 
-The wrong bodies of a crate stand in its must-fail/, and the gate tries them; but it proves the crate once more for them, and
-for some crates that takes longer than the gate has. Those of such a crate stand in bench/wrong_bodies/NAME, in the same form.
-This copies the repository to a temporary folder, puts them into must-fail/ of their crates, of all or of those that are named,
-and runs `rt must-fail`, which has to see the prover refuse each one. Its status is that of `rt must-fail`. All of them take
-about an hour of a processor once the crates below are proved; run it when a contract of such a crate has changed.
+The gate tries the wrong bodies that stand in must-fail/ of a crate. It proves the crate once more for them, and has an hour, so
+more of them stand in bench/wrong_bodies/NAME, in the same form. This copies the repository to a temporary folder, puts these
+into must-fail/ of their crates, of all or of those that are named, and runs `rt must-fail` for them, which has to see the prover
+refuse each one. Its status is that of `rt must-fail`. By what the proofs take, all of them need some two hours of a processor;
+run it for a crate when its contracts have changed.
 """
 import pathlib
 import shutil
