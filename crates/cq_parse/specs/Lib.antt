@@ -1,6 +1,1 @@
-pub mod Splits
-pub mod Gives
-pub mod TermTrees
 pub mod Parsed
-pub mod Rules
-pub mod Decided

@@ -1,27 +1,12 @@
 //! Programs, and terms, read from their tokens.
+//!
+//! What each production reads stands below, in `cq_productions`; here stand the two texts that are read whole
+//! (`parser`), and what is told of the token that decides against one (`whole`, `refusal`).
 #![tactic(auto)]
 
-mod colimit;
-mod cursor;
-mod declaration;
-mod equation;
-mod halt;
-mod instance;
-mod item;
-mod mapping;
-mod names;
-mod options;
 pub mod parser;
-mod query;
 pub mod refusal;
-mod schema;
-mod sequence;
-mod step;
-mod term;
-mod transform;
-mod typeside;
 mod whole;
-mod words;
 
 pub use parser::{parse, parse_term};
 pub use refusal::ParseRefusal;

@@ -8,17 +8,13 @@ ghost use Rattle.cq_syntax.specs.declared.program.Program.{Program};
 ghost use Rattle.cq_parse.specs.Parsed.{IsRefused, IsTermRefused, RefusedWith, TermRefusedWith};
 ghost use Rattle.cq_parse.specs.declared.refusal.ParseRefusal.{ParseRefusal};
 
-use crate::cursor::Cursor;
-use crate::declaration::DeclarationRule;
-use crate::equation::TermRule;
-use crate::halt::Halt;
-use crate::item::{Production, many};
-use crate::options::options;
 use crate::refusal::ParseRefusal;
-use crate::step::ends;
 use crate::whole::whole;
-use crate::words::{HeadWords, NoWords};
 use cq_lex::Token;
+use cq_productions::{
+    Cursor, DeclarationRule, Halt, HeadWords, NoWords, OptionsRule, Production, TermRule, ends,
+    many,
+};
 use cq_rules::Class;
 use cq_syntax::{Program, TermSyn};
 use std::alloc::Global;
@@ -33,7 +29,7 @@ impl Production for ProgramRule {
 
     #[tactic(auto, unfolding(cq_syntax::specs::Grammar::program))]
     fn read<'a>(alloc: Global, at: Cursor<'a>) -> Result<(Program, Cursor<'a>), Halt<'a>> {
-        let (options, rest) = options(alloc, at)?;
+        let (options, rest) = OptionsRule::read(alloc, at)?;
         let (decls, rest) = many::<DeclarationRule>(alloc, rest)?;
         let rest = ends::<HeadWords>(rest, Class::End)?;
         Ok((Program { options, decls }, rest))

@@ -6,11 +6,9 @@ ghost use Rattle.cq_rules.specs.Rule.{Fits, Spells, decides};
 ghost use Rattle.cq_parse.specs.Parsed.{EndsAtEnd, IsRefusedBy, RefusedBy, refusal_for};
 ghost use Rattle.cq_parse.specs.declared.refusal.ParseRefusal.{ParseRefusal};
 
-use crate::cursor::{Cursor, classes_of};
-use crate::halt::Halt;
-use crate::item::Production;
 use crate::refusal::ParseRefusal;
 use cq_lex::Token;
+use cq_productions::{Cursor, Halt, Production, classes_of};
 use cq_rules::Why;
 use std::alloc::Global;
 

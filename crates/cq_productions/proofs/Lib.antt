@@ -1,0 +1,5 @@
+mod Loops
+mod Links
+mod Items
+mod Raws
+mod InstanceForms

@@ -1,0 +1,5 @@
+pub mod Splits
+pub mod Gives
+pub mod TermTrees
+pub mod Rules
+pub mod Decided
