@@ -22,7 +22,7 @@ import sys
 import tempfile
 
 TOP = os.path.dirname(os.path.dirname(os.path.dirname(os.path.abspath(__file__))))
-CRATES = ["cq_base", "cq_lex", "cq_rules", "cq_syntax", "cq_parse"]
+CRATES = ["cq_base", "cq_lex", "cq_rules", "cq_syntax", "cq_productions", "cq_parse"]
 KINDS = ["equations", "comments", "escapes", "brackets"]
 MIB = 1 << 20
 
