@@ -61,14 +61,24 @@ fn entry(
 {
     let mut list = Vec::with_capacity(alloc, args.len())?;
     for arg in args {
-        list.push(copy_plain(values.get(*arg))?)?;
+        list.push(value_of(values, *arg)?)?;
     }
-    let value = copy_plain(values.get(node))?;
+    let value = value_of(values, node)?;
     Ok(Entry {
         function,
         args: Seq::from_vec(list),
         value,
     })
+}
+
+/// The value of a node.
+fn value_of(values: &NodeValues, node: u64) -> Result<Value, AllocError>
+    requires placed { ArePlaced values.now }
+    requires plain { All IsPlain (values_in values.now) }
+    requires node { node < length values.now.places.items }
+    ensures { IfOk result (λ value. value ≡ value_at (values_in values.now) node) }
+{
+    copy_plain(values.get(node))
 }
 
 fn copy_plain(value: &Value) -> Result<Value, AllocError>

@@ -75,17 +75,15 @@ impl Flat {
         if nodes.len() > u32::MAX as usize {
             return Err(AllocError);
         }
-        let classes = close_classes(alloc, nodes.as_slice(), equations)?;
-        let least = least_constants(alloc, nodes.as_slice(), classes.as_slice())?;
-        let clash = clash_of(nodes.as_slice(), classes.as_slice(), least.as_slice())?;
-        let (values, nulls) = values_of(
-            alloc,
-            nodes.as_slice(),
-            classes.as_slice(),
-            least.as_slice(),
-        )?;
-        drop(least);
-        let entries = entries_of(alloc, nodes.as_slice(), classes.as_slice(), &values)?;
+        let list = nodes.as_slice();
+        let classes = close_classes(alloc, list, equations)?;
+        let numbers = classes.as_slice();
+        let constants = least_constants(alloc, list, numbers)?;
+        let least = constants.as_slice();
+        let clash = clash_of(list, numbers, least)?;
+        let (values, nulls) = values_of(alloc, list, numbers, least)?;
+        drop(constants);
+        let entries = entries_of(alloc, list, numbers, &values)?;
         Ok(Flat {
             values,
             nulls: Seq::from_vec(nulls),

@@ -11,6 +11,7 @@ pub fn is_same_entity_term(left: &EntTerm, right: &EntTerm) -> bool
 }
 
 /// Whether both are the same term of a type.
+#[cycle(type_terms)]
 pub fn is_same_type_term(left: &TypeTerm, right: &TypeTerm) -> bool
     ensures { IsTrue result ↔ (left.now ≡ right.now) }
 {
@@ -38,23 +39,29 @@ pub fn is_same_type_term(left: &TypeTerm, right: &TypeTerm) -> bool
             TypeTerm::Const(_) => false,
             TypeTerm::Att(_, _) => false,
             TypeTerm::Fun(other, others) => {
-                let args = args.as_slice();
-                let others = others.as_slice();
-                if *function != *other || args.len() != others.len() {
-                    return false;
-                }
-                for (place, arg) in args.iter().enumerate() {
-                    if !is_same_type_term(arg, &others[place]) {
-                        return false;
-                    }
-                }
-                true
+                *function == *other && are_same_type_terms(args.as_slice(), others.as_slice())
             }
         },
     }
 }
 
+#[cycle(type_terms)]
+fn are_same_type_terms(left: &[TypeTerm], right: &[TypeTerm]) -> bool
+    ensures { IsTrue result ↔ (left.now ≡ right.now) }
+{
+    if left.len() != right.len() {
+        return false;
+    }
+    for (place, term) in left.iter().enumerate() {
+        if !is_same_type_term(term, &right[place]) {
+            return false;
+        }
+    }
+    true
+}
+
 /// Whether both are the same value.
+#[cycle(values)]
 pub fn is_same_value(left: &Value, right: &Value) -> bool
     ensures { IsTrue result ↔ (left.now ≡ right.now) }
 {
@@ -73,18 +80,23 @@ pub fn is_same_value(left: &Value, right: &Value) -> bool
             Value::Const(_) => false,
             Value::Null(_) => false,
             Value::Fun(other, others) => {
-                let args = args.as_slice();
-                let others = others.as_slice();
-                if *function != *other || args.len() != others.len() {
-                    return false;
-                }
-                for (place, arg) in args.iter().enumerate() {
-                    if !is_same_value(arg, &others[place]) {
-                        return false;
-                    }
-                }
-                true
+                *function == *other && are_same_values(args.as_slice(), others.as_slice())
             }
         },
     }
+}
+
+#[cycle(values)]
+fn are_same_values(left: &[Value], right: &[Value]) -> bool
+    ensures { IsTrue result ↔ (left.now ≡ right.now) }
+{
+    if left.len() != right.len() {
+        return false;
+    }
+    for (place, value) in left.iter().enumerate() {
+        if !is_same_value(value, &right[place]) {
+            return false;
+        }
+    }
+    true
 }
