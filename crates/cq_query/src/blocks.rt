@@ -3,7 +3,7 @@ ghost use Rattle.std.specs.Prelude.{ℕ, List, [], ◌≡◌, ◌++◌, ◌<◌,
 ghost use Rattle.std.specs.Prelude.{slice_get};
 ghost use Rattle.cq_theory.specs.Beginnings.{AreBeginningsOf};
 ghost use Rattle.cq_theory.specs.Canonical.{below};
-ghost use Rattle.cq_theory.specs.Resolved.{entity_term_in, resolved};
+ghost use Rattle.cq_theory.specs.Resolved.{resolved};
 ghost use Rattle.cq_theory.specs.Groups.{positions};
 ghost use Rattle.cq_query.specs.Assigned.{IsAssigned};
 ghost use Rattle.cq_query.specs.Index.{IsIndex};
@@ -21,7 +21,7 @@ use crate::parts::Clause;
 use crate::query::Block;
 use crate::scopes::Scope;
 use cq_base::{Name, Raw, Seq};
-use cq_theory::lookup::{build, make_equation, type_term};
+use cq_theory::lookup::{build, entity_term, make_equation, type_term};
 use cq_theory::{Beginnings, Con, Edge, EntTerm, Equation, Schema, Term, TypeTerm, alone};
 use std::alloc::{AllocError, Global};
 
@@ -37,16 +37,6 @@ fn first_variable(alloc: Global) -> EntTerm
     ensures { result ≡ generator_alone 0 }
 {
     alone(alloc, 0)
-}
-
-/// The entity term, which is there where the whole term breaks no rule.
-fn entity_term(alloc: Global, term: Term) -> EntTerm
-    ensures { result ≡ entity_term_in term }
-{
-    match term {
-        Term::Ent(term) => term,
-        Term::Typ(_) => first_variable(alloc),
-    }
 }
 
 /// The term over the variables of a block.

@@ -15,7 +15,7 @@ pub(crate) mod typeside_parts;
 
 // The tests of rules and the terms that are made, for the parts of mappings and queries.
 pub use arrow_refusals::{check_given, missing, of_arrow};
-pub use builds::{build, make_equation, resolve, type_term};
+pub use builds::{build, entity_term, make_equation, resolve, type_term};
 use cq_base::Name;
 pub use declares::declare;
 pub use faults::{have_one_sort, in_part_of, is_too_large};

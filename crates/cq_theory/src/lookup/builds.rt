@@ -91,7 +91,7 @@ pub fn type_term(term: Term) -> TypeTerm
 }
 
 /// The entity term, which is there where the whole term breaks no rule.
-pub(crate) fn entity_term(alloc: Global, term: Term) -> EntTerm
+pub fn entity_term(alloc: Global, term: Term) -> EntTerm
     ensures { result ≡ entity_term_in term }
 {
     match term {
