@@ -3,21 +3,46 @@
 use cq_io::{
     DirExporter, DirFolder, Exporter, Folder, Format, PutRefusal, ReadRefusal, Sink, StdSink,
 };
+use std::alloc::Global;
 use std::fs;
-use std::test::Fail;
+use std::process::Abort;
+use std::rt::Files;
+
+/// Whether a read of at most so many bytes gives this.
+pub(crate) fn reads<F: Folder>(
+    folder: &mut F,
+    name: &str,
+    limit: u64,
+    wanted: Result<&str, ReadRefusal>,
+) -> bool {
+    match (folder.read(name, limit), wanted) {
+        (Ok(found), Ok(wanted)) => found.as_slice() == wanted.as_bytes(),
+        (Err(found), Err(wanted)) => found == wanted,
+        _ => false,
+    }
+}
+
+/// Whether a file has this name and this content.
+pub(crate) fn is_file(file: &(String, Vec<u8>), name: &str, content: &[u8]) -> bool {
+    file.0.as_str() == name && file.1.as_slice() == content
+}
+
+/// A folder, and a file of five bytes beside it.
+fn make_files<R: Abort + Files>(rt: &R) {
+    fs::create_dir_all(rt, "out/read/folder").expect(rt, "a folder");
+    fs::write(rt, "out/read/five", b"12345").expect(rt, "a file");
+}
 
 #[test]
-fn the_working_directory_is_read_up_to_a_limit(rt: HostRuntime) -> Result<(), Fail> {
-    let alloc = rt.alloc();
-    fs::create_dir_all(&rt, "out/read/folder")?;
-    fs::write(&rt, "out/read/five", b"12345")?;
-    let mut folder = DirFolder::new(rt, alloc);
-    let whole = folder.read("out/read/five", 5)?;
-    assert!(rt; whole.as_slice() == b"12345".as_slice());
-    assert!(rt; matches!(&folder.read("out/read/five", 4), Err(ReadRefusal::TooLong)));
-    assert!(rt; matches!(&folder.read("out/read/none", 4), Err(ReadRefusal::Absent)));
-    assert!(rt; matches!(&folder.read("out/read/folder", 4), Err(ReadRefusal::Failed)));
-    Ok(())
+fn the_working_directory_is_read_up_to_a_limit(rt: HostRuntime) {
+    make_files(&rt);
+    let mut folder = DirFolder::new(rt, rt.alloc());
+    assert!(rt;
+        reads(&mut folder, "out/read/five", 5, Ok("12345"))
+            && reads(&mut folder, "out/read/five", 4, Err(ReadRefusal::TooLong))
+            && reads(&mut folder, "out/read/none", 4, Err(ReadRefusal::Absent))
+            && reads(&mut folder, "out/read/folder", 4, Err(ReadRefusal::Failed))
+    );
 }
 
 #[test]
@@ -27,21 +52,28 @@ fn standard_output_takes_bytes(rt: HostRuntime) {
     assert_eq!(rt; out.write_all(b""), Ok(()));
 }
 
-#[test]
-fn exported_files_are_read_back(rt: HostRuntime) -> Result<(), Fail> {
-    let alloc = rt.alloc();
-    let mut exporter = DirExporter::new(rt, alloc, Format::Csv, "out/exported/csv")?;
-    assert_eq!(rt; exporter.put("I/E.csv", b"id\n1\n"), Ok(()));
-    assert_eq!(rt;
-        exporter.put("I/E.csv/F.csv", b"id\n"),
-        Err(PutRefusal::Failed)
+/// Whether an exporter takes two files, and refuses one between them below the first, which is no folder.
+fn takes<E: Exporter>(exporter: &mut E) -> bool {
+    exporter.put("I/E.csv", b"id\n1\n") == Ok(())
+        && exporter.put("I/E.csv/F.csv", b"id\n") == Err(PutRefusal::Failed)
+        && exporter.put("J/E.csv", b"id\n") == Ok(())
+        && exporter.kept().len() == 2
+}
+
+/// Whether a new exporter into the folder of exports takes its files.
+fn exports<R: Abort + Files + Copy>(rt: R, alloc: Global) -> bool {
+    let mut exporter = DirExporter::new(rt, alloc, Format::Csv, "out/exported/csv").expect(
+        &rt, "memory",
     );
-    assert_eq!(rt; exporter.put("J/E.csv", b"id\n"), Ok(()));
-    assert_eq!(rt; exporter.kept().len(), 2);
-    let mut folder = DirFolder::new(rt, alloc);
-    let first = folder.read("out/exported/csv/I/E.csv", 100)?;
-    let second = folder.read("out/exported/csv/J/E.csv", 100)?;
-    assert!(rt; first.as_slice() == b"id\n1\n".as_slice());
-    assert!(rt; second.as_slice() == b"id\n".as_slice());
-    Ok(())
+    takes(&mut exporter)
+}
+
+#[test]
+fn exported_files_are_read_back(rt: HostRuntime) {
+    assert!(rt; exports(rt, rt.alloc()));
+    let mut folder = DirFolder::new(rt, rt.alloc());
+    assert!(rt;
+        reads(&mut folder, "out/exported/csv/I/E.csv", 100, Ok("id\n1\n"))
+            && reads(&mut folder, "out/exported/csv/J/E.csv", 100, Ok("id\n"))
+    );
 }

@@ -2,66 +2,115 @@
 
 use cq_export::{FileLists, Handed, hand_over};
 use cq_io::{Exporter, Format, MemExporter};
-use std::alloc::{AllocError, Global};
+use std::alloc::Global;
 use std::process::Abort;
-use std::test::Fail;
 
-fn file(alloc: Global, name: &str) -> Result<(String, Vec<u8>), AllocError> {
-    let bytes = Vec::from_slice(alloc, name.as_bytes())?;
-    Ok((String::from_str(alloc, name)?, bytes))
+fn file(rt: &impl Abort, alloc: Global, name: &str) -> (String, Vec<u8>) {
+    let bytes = Vec::from_slice(alloc, name.as_bytes()).expect(rt, "memory");
+    (String::from_str(alloc, name).expect(rt, "memory"), bytes)
 }
 
 /// Two files of one format and one of the other.
-fn files(alloc: Global) -> Result<FileLists, AllocError> {
+fn files(rt: &impl Abort, alloc: Global) -> FileLists {
     let mut files = FileLists::new(alloc);
-    files.csv.push(file(alloc, "I/E.csv")?)?;
-    files.csv.push(file(alloc, "I/F.csv")?)?;
-    files.cql.push(file(alloc, "I.cql")?)?;
-    Ok(files)
+    files
+        .csv
+        .push(file(rt, alloc, "I/E.csv"))
+        .expect(rt, "memory");
+    files
+        .csv
+        .push(file(rt, alloc, "I/F.csv"))
+        .expect(rt, "memory");
+    files
+        .cql
+        .push(file(rt, alloc, "I.cql"))
+        .expect(rt, "memory");
+    files
 }
 
-/// Three exporters, of which those named fail at a put of this number.
-fn exporters(alloc: Global, failing: [&[u64]; 3]) -> Result<Vec<Box<dyn Exporter>>, AllocError> {
-    let mut exporters: Vec<Box<dyn Exporter>> = Vec::new(alloc);
-    let formats = [Format::Csv, Format::Cql, Format::Csv];
-    for (format, numbers) in formats.iter().zip(failing.iter()) {
-        let numbers = Vec::from_slice(alloc, numbers)?;
-        let exporter = MemExporter::new(alloc, *format, numbers)?;
-        exporters.push(Box::new(alloc, exporter)?)?;
+/// An exporter of a format, whose puts with these numbers fail.
+fn exporter(rt: &impl Abort, alloc: Global, format: Format, failing: &[u64]) -> Box<dyn Exporter> {
+    let failing = Vec::from_slice(alloc, failing).expect(rt, "memory");
+    let made = MemExporter::new(alloc, format, failing).expect(rt, "memory");
+    Box::new(alloc, made).expect(rt, "memory")
+}
+
+/// An exporter's format, and its puts that fail.
+type Given = (Format, &'static [u64]);
+
+fn exporters(rt: &impl Abort, alloc: Global, given: &[Given]) -> Vec<Box<dyn Exporter>> {
+    let mut exporters = Vec::new(alloc);
+    for (format, failing) in given {
+        exporters
+            .push(exporter(rt, alloc, *format, failing))
+            .expect(rt, "memory");
     }
-    Ok(exporters)
+    exporters
 }
 
 /// Whether each exporter has so many files, in order, and no others are there.
-fn hold(rt: &impl Abort, exporters: &[Box<dyn Exporter>], counts: &[usize]) {
-    assert_eq!(rt; exporters.len(), counts.len());
-    for (exporter, count) in exporters.iter().zip(counts.iter()) {
-        assert_eq!(rt; exporter.kept().len(), *count);
+fn hold(exporters: &[Box<dyn Exporter>], counts: &[usize]) -> bool {
+    exporters.len() == counts.len()
+        && exporters
+            .iter()
+            .zip(counts)
+            .all(|(exporter, count)| exporter.kept().len() == *count)
+}
+
+/// Exporters, and those of them that were moved.
+struct Parties {
+    exporters: Vec<Box<dyn Exporter>>,
+    spoiled: Vec<Box<dyn Exporter>>,
+}
+
+impl Drop for Parties {
+    fn drop(self) {
+        let Self {
+            exporters: _,
+            spoiled: _,
+        } = self;
     }
 }
 
-#[test]
-fn each_exporter_takes_the_files_of_its_format(rt: HostRuntime) -> Result<(), Fail> {
-    let alloc = rt.alloc();
-    let mut exporters = exporters(alloc, [&[], &[], &[2]])?;
-    let mut spoiled: Vec<Box<dyn Exporter>> = Vec::new(alloc);
-    spoiled.reserve(exporters.len())?;
-    let ended = hand_over(&mut exporters, &mut spoiled, &files(alloc)?);
-    assert_eq!(rt; ended, Handed::Whole);
-    hold(&rt, exporters.as_slice(), &[2, 1, 2]);
-    assert!(rt; spoiled.is_empty());
-    Ok(())
+impl Parties {
+    /// How the files are handed over.
+    fn take(&mut self, rt: &impl Abort, files: &FileLists) -> Handed {
+        self.spoiled
+            .reserve(self.exporters.len())
+            .expect(rt, "memory");
+        hand_over(&mut self.exporters, &mut self.spoiled, files)
+    }
+
+    /// Whether those that are left and those that were moved have so many files.
+    fn hold(&self, left: &[usize], moved: &[usize]) -> bool {
+        hold(self.exporters.as_slice(), left) && hold(self.spoiled.as_slice(), moved)
+    }
 }
 
+/// What these exporters have once the files are handed over, which ends so.
+fn handed(rt: &impl Abort, alloc: Global, given: &[Given], ended: Handed) -> Parties {
+    let mut parties = Parties {
+        exporters: exporters(rt, alloc, given),
+        spoiled: Vec::new(alloc),
+    };
+    assert!(rt; parties.take(rt, &files(rt, alloc)) == ended);
+    parties
+}
+
+/// The last exporter would fail at a third file.
+static SOUND: [Given; 3] = [(Format::Csv, &[]), (Format::Cql, &[]), (Format::Csv, &[2])];
+
 #[test]
-fn those_that_fail_are_moved(rt: HostRuntime) -> Result<(), Fail> {
-    let alloc = rt.alloc();
-    let mut exporters = exporters(alloc, [&[1], &[], &[0]])?;
-    let mut spoiled: Vec<Box<dyn Exporter>> = Vec::new(alloc);
-    spoiled.reserve(exporters.len())?;
-    let ended = hand_over(&mut exporters, &mut spoiled, &files(alloc)?);
-    assert_eq!(rt; ended, Handed::Spoiled);
-    hold(&rt, exporters.as_slice(), &[1]);
-    hold(&rt, spoiled.as_slice(), &[1, 0]);
-    Ok(())
+fn each_exporter_takes_the_files_of_its_format(rt: HostRuntime) {
+    let parties = handed(&rt, rt.alloc(), &SOUND, Handed::Whole);
+    assert!(rt; parties.hold(&[2, 1, 2], &[]));
+}
+
+/// The first exporter fails at its second file, and the last one at its first.
+static FAILING: [Given; 3] = [(Format::Csv, &[1]), (Format::Cql, &[]), (Format::Csv, &[0])];
+
+#[test]
+fn those_that_fail_are_moved(rt: HostRuntime) {
+    let parties = handed(&rt, rt.alloc(), &FAILING, Handed::Spoiled);
+    assert!(rt; parties.hold(&[1], &[1, 0]));
 }

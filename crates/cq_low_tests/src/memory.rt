@@ -1,46 +1,86 @@
 //! A folder, a sink and an exporter in memory.
 
+use crate::folders::{is_file, reads};
 use cq_io::{
-    Exporter, Failed, Folder, Format, MemExporter, MemFolder, MemSink, PutRefusal, ReadRefusal,
-    Sink,
+    Exporter, Failed, Format, MemExporter, MemFolder, MemSink, PutRefusal, ReadRefusal, Sink,
 };
-use std::test::Fail;
+use std::alloc::Global;
+use std::process::Abort;
 
-#[test]
-fn reads_and_writes_fail_where_they_are_told_to(rt: HostRuntime) -> Result<(), Fail> {
-    let alloc = rt.alloc();
+/// A file of this content under the one name.
+fn file(rt: &impl Abort, alloc: Global, content: &str) -> (String, Vec<u8>) {
+    let name = String::from_str(alloc, "name").expect(rt, "memory");
+    let bytes = Vec::from_slice(alloc, content.as_bytes()).expect(rt, "memory");
+    (name, bytes)
+}
+
+/// The number of the second call, in a list.
+fn second(rt: &impl Abort, alloc: Global) -> Vec<u64> {
+    Vec::from_slice(alloc, &[1]).expect(rt, "memory")
+}
+
+/// Two files of one name, in a folder whose second read fails.
+fn folder(rt: &impl Abort, alloc: Global) -> MemFolder {
     let mut files = Vec::new(alloc);
     for content in ["first", "second"] {
-        let bytes = Vec::from_slice(alloc, content.as_bytes())?;
-        files.push((String::from_str(alloc, "name")?, bytes))?;
+        files.push(file(rt, alloc, content)).expect(rt, "memory");
     }
-    let mut folder = MemFolder::new(alloc, files, Vec::from_slice(alloc, &[1])?)?;
-    let found = folder.read("name", 5)?;
-    assert!(rt; found.as_slice() == b"first".as_slice());
-    assert!(rt; matches!(&folder.read("name", 5), Err(ReadRefusal::Failed)));
-    assert!(rt; matches!(&folder.read("name", 4), Err(ReadRefusal::TooLong)));
-    assert!(rt; matches!(&folder.read("other", 4), Err(ReadRefusal::Absent)));
-
-    let mut sink = MemSink::new(alloc, Vec::from_slice(alloc, &[1])?, 4)?;
-    assert_eq!(rt; sink.write_all(b"ab"), Ok(()));
-    assert_eq!(rt; sink.write_all(b"cd"), Err(Failed));
-    assert_eq!(rt; sink.write_all(b"efg"), Err(Failed));
-    assert!(rt; sink.bytes() == b"abef".as_slice());
-    Ok(())
+    MemFolder::new(alloc, files, second(rt, alloc)).expect(rt, "memory")
 }
 
 #[test]
-fn an_exporter_keeps_what_it_takes(rt: HostRuntime) -> Result<(), Fail> {
-    let alloc = rt.alloc();
-    let failing = Vec::from_slice(alloc, &[1])?;
-    let mut exporter = MemExporter::new(alloc, Format::Cql, failing)?;
-    assert_eq!(rt; exporter.put("I.cql", b"first"), Ok(()));
-    assert_eq!(rt; exporter.put("J.cql", b"lost"), Err(PutRefusal::Failed));
-    assert_eq!(rt; exporter.put("K.cql", b""), Ok(()));
-    assert_eq!(rt; exporter.format(), Format::Cql);
-    let kept = exporter.kept();
-    assert_eq!(rt; kept.len(), 2);
-    assert!(rt; kept[0].0.as_str() == "I.cql" && kept[0].1.as_slice() == b"first".as_slice());
-    assert!(rt; kept[1].0.as_str() == "K.cql" && kept[1].1.is_empty());
-    Ok(())
+fn reads_fail_where_they_are_told_to(rt: HostRuntime) {
+    let mut folder = folder(&rt, rt.alloc());
+    assert!(rt;
+        reads(&mut folder, "name", 5, Ok("first"))
+            && reads(&mut folder, "name", 5, Err(ReadRefusal::Failed))
+            && reads(&mut folder, "name", 4, Err(ReadRefusal::TooLong))
+            && reads(&mut folder, "other", 4, Err(ReadRefusal::Absent))
+    );
+}
+
+/// A sink with room for four bytes, whose second write fails.
+fn sink(rt: &impl Abort, alloc: Global) -> MemSink {
+    MemSink::new(alloc, second(rt, alloc), 4).expect(rt, "memory")
+}
+
+/// Whether it takes the other writes, as far as there is room.
+fn writes(sink: &mut MemSink) -> bool {
+    sink.write_all(b"ab") == Ok(())
+        && sink.write_all(b"cd") == Err(Failed)
+        && sink.write_all(b"efg") == Err(Failed)
+        && sink.bytes() == b"abef".as_slice()
+}
+
+#[test]
+fn writes_fail_where_they_are_told_to(rt: HostRuntime) {
+    let mut sink = sink(&rt, rt.alloc());
+    assert!(rt; writes(&mut sink));
+}
+
+/// An exporter of literals, whose second put fails.
+fn exporter(rt: &impl Abort, alloc: Global) -> MemExporter {
+    MemExporter::new(alloc, Format::Cql, second(rt, alloc)).expect(rt, "memory")
+}
+
+/// Whether it refuses that put alone.
+fn puts(exporter: &mut MemExporter) -> bool {
+    exporter.put("I.cql", b"first") == Ok(())
+        && exporter.put("J.cql", b"lost") == Err(PutRefusal::Failed)
+        && exporter.put("K.cql", b"") == Ok(())
+        && exporter.format() == Format::Cql
+}
+
+/// Whether these are the files that it takes.
+fn are_taken(kept: &[(String, Vec<u8>)]) -> bool {
+    match kept {
+        [first, last] => is_file(first, "I.cql", b"first") && is_file(last, "K.cql", b""),
+        _ => false,
+    }
+}
+
+#[test]
+fn an_exporter_keeps_what_it_takes(rt: HostRuntime) {
+    let mut exporter = exporter(&rt, rt.alloc());
+    assert!(rt; puts(&mut exporter) && are_taken(exporter.kept()));
 }

@@ -2,10 +2,9 @@
 use cq_lex::{Kind, LexRefusal, Token, lex};
 use std::alloc::{AllocError, Global};
 use std::process::Abort;
-use std::test::Fail;
 
 // A file, and its tokens or its refusal. A token is its kind, its span and its place.
-const FILES: [(&[u8], &str); 37] = [
+static FILES: [(&[u8], &str); 37] = [
     (b"", "End 0-0 1:1"),
     (b"{", "LeftBrace 0-1 1:1 End 1-1 1:2"),
     (b"}", "RightBrace 0-1 1:1 End 1-1 1:2"),
@@ -60,13 +59,17 @@ const FILES: [(&[u8], &str); 37] = [
     (b"x \"\xff\\a\"", "BadByte 1:6"),
 ];
 
-fn write_token(out: &mut String, token: &Token) -> Result<(), AllocError> {
-    match &token.kind {
-        Kind::Word(name) => write!(out, "word {}", name.as_str())?,
-        Kind::Text(name) => write!(out, "text {}", name.as_str())?,
-        Kind::Mark(mark) => write!(out, "{mark:?}")?,
-        Kind::End => write!(out, "End")?,
+fn write_kind(out: &mut String, kind: &Kind) -> Result<(), AllocError> {
+    match kind {
+        Kind::Word(name) => write!(out, "word {}", name.as_str()),
+        Kind::Text(name) => write!(out, "text {}", name.as_str()),
+        Kind::Mark(mark) => write!(out, "{mark:?}"),
+        Kind::End => write!(out, "End"),
     }
+}
+
+fn write_token(out: &mut String, token: &Token) -> Result<(), AllocError> {
+    write_kind(out, &token.kind)?;
     let Token {
         from,
         to,
@@ -97,41 +100,49 @@ fn write_refusal(out: &mut String, refusal: LexRefusal) -> Result<(), AllocError
     write!(out, "{cause} {}:{}", place.line, place.col)
 }
 
-fn shown(rt: &impl Abort, alloc: Global, bytes: &[u8]) -> Result<String, AllocError> {
+fn shown(rt: &impl Abort, alloc: Global, bytes: &[u8]) -> String {
     assert!(rt; bytes.len() <= 1 << 23);
     let mut out = String::new(alloc);
     match lex(alloc, bytes) {
-        Ok(tokens) => write_tokens(&mut out, tokens.as_slice())?,
-        Err(refusal) => write_refusal(&mut out, refusal)?,
+        Ok(tokens) => write_tokens(&mut out, tokens.as_slice()),
+        Err(refusal) => write_refusal(&mut out, refusal),
     }
-    Ok(out)
+    .expect(rt, "memory");
+    out
+}
+
+// Stops where a file is read otherwise.
+fn try_file(rt: &impl Abort, alloc: Global, bytes: &[u8], wanted: &str) {
+    let given = shown(rt, alloc, bytes);
+    assert_eq!(rt; given.as_str(), wanted);
 }
 
 #[test]
-fn files_are_read_as_written_here(rt: HostRuntime) -> Result<(), Fail> {
+fn files_are_read_as_written_here(rt: HostRuntime) {
     for (bytes, wanted) in &FILES {
-        let given = shown(&rt, rt.alloc(), bytes)?;
-        assert_eq!(rt; given.as_str(), *wanted);
+        try_file(&rt, rt.alloc(), bytes, wanted);
     }
-    Ok(())
 }
 
 // The front, so many of the byte, and the back.
 fn around(
+    rt: &impl Abort,
     alloc: Global,
     front: &[u8],
-    byte: u8,
-    count: usize,
+    (byte, count): (u8, usize),
     back: &[u8],
-) -> Result<Vec<u8>, AllocError> {
-    let mut bytes = Vec::from_slice(alloc, front)?;
-    bytes.extend_from_slice(vec![in alloc; byte; count]?.as_slice())?;
-    bytes.extend_from_slice(back)?;
-    Ok(bytes)
+) -> Vec<u8> {
+    let mut bytes = Vec::from_slice(alloc, front).expect(rt, "memory");
+    let times = vec![in alloc; byte; count].expect(rt, "memory");
+    bytes
+        .extend_from_slice(times.as_slice())
+        .expect(rt, "memory");
+    bytes.extend_from_slice(back).expect(rt, "memory");
+    bytes
 }
 
 // A front, a byte and how often it stands behind that, a back; and the refusal.
-const LONG: [(&[u8], u8, usize, &[u8], &str); 5] = [
+static LONG: [(&[u8], u8, usize, &[u8], &str); 5] = [
     (b"", b'a', 256, b"", "LongName 1:1"),
     (b"\n ", b'a', 256, b" @", "LongName 2:2"),
     (b"\n \"", b'a', 256, b"\"", "LongName 2:2"),
@@ -140,19 +151,21 @@ const LONG: [(&[u8], u8, usize, &[u8], &str); 5] = [
 ];
 
 #[test]
-fn a_name_has_at_most_255_bytes(rt: HostRuntime) -> Result<(), Fail> {
+fn a_name_of_256_bytes_is_refused(rt: HostRuntime) {
     let alloc = rt.alloc();
     for (front, byte, count, back, wanted) in &LONG {
-        let bytes = around(alloc, front, *byte, *count, back)?;
-        let given = shown(&rt, alloc, bytes.as_slice())?;
-        assert_eq!(rt; given.as_str(), *wanted);
+        let bytes = around(&rt, alloc, front, (*byte, *count), back);
+        try_file(&rt, alloc, bytes.as_slice(), wanted);
     }
-    let longest = around(alloc, b"\"\\n", b'a', 254, b"\"+")?;
-    let given = shown(&rt, alloc, longest.as_slice())?;
-    assert!(rt;
-        given
-            .as_str()
-            .ends_with(" 0-258 1:1 Plus 258-259 1:259 End 259-259 1:260")
-    );
-    Ok(())
+}
+
+fn longest(rt: &impl Abort, alloc: Global) -> String {
+    let bytes = around(rt, alloc, b"\"\\n", (b'a', 254), b"\"+");
+    shown(rt, alloc, bytes.as_slice())
+}
+
+#[test]
+fn a_name_has_255_bytes(rt: HostRuntime) {
+    let end = " 0-258 1:1 Plus 258-259 1:259 End 259-259 1:260";
+    assert!(rt; longest(&rt, rt.alloc()).as_str().ends_with(end));
 }

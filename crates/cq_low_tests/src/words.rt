@@ -2,20 +2,23 @@
 
 use cq_io::Format;
 use cq_words::{Request, read_words};
-use std::alloc::{AllocError, Global};
-use std::test::Fail;
+use std::alloc::Global;
+use std::process::Abort;
 
-/// Runs of `p.cql`, with the depth and the choice of format.
-static RUNS: [(&str, (u32, Option<Format>)); 9] = [
-    ("run p.cql", (16, None)),
-    ("run p.cql --depth 5", (5, None)),
-    ("run --depth 5 p.cql", (5, None)),
-    ("run p.cql --depth=5", (5, None)),
-    ("run p.cql --depth +5", (5, None)),
-    ("run p.cql --depth 007", (7, None)),
-    ("run p.cql --only csv --depth 0", (0, Some(Format::Csv))),
-    ("run --only=cql p.cql --depth 64", (64, Some(Format::Cql))),
-    ("run --depth 64 -- p.cql", (64, None)),
+/// A line of words, with the depth and the choice of format.
+type Run = (&'static str, u32, Option<Format>);
+
+/// Runs of `p.cql`.
+static RUNS: [Run; 9] = [
+    ("run p.cql", 16, None),
+    ("run p.cql --depth 5", 5, None),
+    ("run --depth 5 p.cql", 5, None),
+    ("run p.cql --depth=5", 5, None),
+    ("run p.cql --depth +5", 5, None),
+    ("run p.cql --depth 007", 7, None),
+    ("run p.cql --only csv --depth 0", 0, Some(Format::Csv)),
+    ("run --only=cql p.cql --depth 64", 64, Some(Format::Cql)),
+    ("run --depth 64 -- p.cql", 64, None),
 ];
 
 /// Other files.
@@ -57,45 +60,60 @@ static REFUSED: [&str; 26] = [
     "explain p.cql I a",
 ];
 
-/// What the words between the single blanks of a line ask for, and whether that is what is wanted.
-fn asks(alloc: Global, line: &str, wanted: Option<Request<'_>>) -> Result<bool, AllocError> {
+/// The words between the single blanks of a line.
+fn words(rt: &impl Abort, alloc: Global, line: &str) -> Vec<String> {
     let mut words = Vec::new(alloc);
     for word in line.split(' ') {
-        words.push(String::from_str(alloc, word)?)?;
+        let word = String::from_str(alloc, word).expect(rt, "memory");
+        words.push(word).expect(rt, "memory");
     }
-    Ok(read_words(alloc, words.as_slice())? == wanted)
+    words
+}
+
+/// Whether this is what the words of a line ask for.
+fn asks(rt: &impl Abort, alloc: Global, line: &str, wanted: Option<Request<'_>>) -> bool {
+    let words = words(rt, alloc, line);
+    read_words(alloc, words.as_slice()).expect(rt, "memory") == wanted
+}
+
+/// Whether the words of a line ask for its run.
+fn asks_for_run(rt: &impl Abort, alloc: Global, (line, depth, only): Run) -> bool {
+    let file = "p.cql";
+    asks(rt, alloc, line, Some(Request::Run { file, depth, only }))
 }
 
 #[test]
-fn runs_with_their_options(rt: HostRuntime) -> Result<(), Fail> {
-    let alloc = rt.alloc();
-    for (line, (depth, only)) in RUNS {
-        let file = "p.cql";
-        let wanted = Some(Request::Run { file, depth, only });
-        assert!(rt; asks(alloc, line, wanted)?, "{line}");
+fn runs_with_their_options(rt: HostRuntime) {
+    for run in &RUNS {
+        assert!(rt; asks_for_run(&rt, rt.alloc(), *run), "{}", run.0);
     }
-    for (line, file) in FILES {
+}
+
+#[test]
+fn runs_of_other_files(rt: HostRuntime) {
+    for (line, file) in &FILES {
         let (depth, only) = (16, None);
-        let wanted = Some(Request::Run { file, depth, only });
-        assert!(rt; asks(alloc, line, wanted)?, "{line}");
+        let wanted = Request::Run { file, depth, only };
+        assert!(rt; asks(&rt, rt.alloc(), line, Some(wanted)), "{line}");
     }
-    Ok(())
 }
 
 #[test]
-fn words_that_ask_for_nothing(rt: HostRuntime) -> Result<(), Fail> {
-    let alloc = rt.alloc();
-    for line in REFUSED {
-        assert!(rt; asks(alloc, line, None)?, "{line}");
+fn words_that_ask_for_nothing(rt: HostRuntime) {
+    for line in &REFUSED {
+        assert!(rt; asks(&rt, rt.alloc(), line, None), "{line}");
     }
-    Ok(())
 }
 
 #[test]
-fn the_other_forms(rt: HostRuntime) -> Result<(), Fail> {
-    let alloc = rt.alloc();
-    assert!(rt; asks(alloc, "example 199999", Some(Request::Example(199_999)))?);
-    let explain = Request::Explain {
+fn the_largest_example(rt: HostRuntime) {
+    let wanted = Request::Example(199_999);
+    assert!(rt; asks(&rt, rt.alloc(), "example 199999", Some(wanted)));
+}
+
+#[test]
+fn a_question(rt: HostRuntime) {
+    let wanted = Request::Explain {
         file: "p.cql",
         instance: "I",
         left: "a",
@@ -103,6 +121,5 @@ fn the_other_forms(rt: HostRuntime) -> Result<(), Fail> {
         depth: 3,
     };
     let line = "explain p.cql --depth 3 I a -- -b";
-    assert!(rt; asks(alloc, line, Some(explain))?);
-    Ok(())
+    assert!(rt; asks(&rt, rt.alloc(), line, Some(wanted)));
 }

@@ -1,6 +1,6 @@
 use Rattle.std.proofs.Common.{◌≡◌, refl, arith}
 use Rattle.cq_tables.specs.Content.{entity_of, step_of}
-use Rattle.cq_low_tests.proofs.tables.compare_row.Goals as goal
+use Rattle.cq_low_tests.proofs.tables.compare_path.Goals as goal
 
 pub trace-requires-clause-path : goal.trace-requires-clause-path
 unfolding step_of
