@@ -51,11 +51,11 @@ fn observation_equations(schema: &Schema) -> &[ObsEq]
 }
 
 /// The observation equation at one of their places.
-fn equation_at(schema: &Schema, place: usize) -> &ObsEq
+fn equation_at(schema: &Schema, place: u32) -> &ObsEq
     requires within { place < length schema.now.obs_eqs }
     ensures { slice_get schema.now.obs_eqs place ≡ Some result.now }
 {
-    &observation_equations(schema)[place]
+    &observation_equations(schema)[place as usize]
 }
 
 /// Adds the observation equations of a row's entity, which stand at these places of the schema's, at this row.
@@ -63,7 +63,7 @@ fn push_row(
     alloc: Global,
     schema: &Schema,
     tables: &Tables,
-    places: &[usize],
+    places: &[u32],
     row: u64,
     list: &mut NodeList,
 ) -> Result<(), AllocError>
@@ -108,7 +108,7 @@ pub fn push_observations(
         if !alive {
             continue;
         }
-        let places = observations.of(tables.entity(row) as usize);
+        let places = observations.of(tables.entity(row));
         push_row(alloc, schema, tables, places, row, list)?;
     }
     Ok(())

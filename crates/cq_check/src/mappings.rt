@@ -89,36 +89,36 @@ fn list_duties<'a>(
 }
 
 /// The places before the first one that isn't below a bound.
-fn places_below(places: &[usize], bound: usize) -> &[usize]
+fn places_below(places: &[u32], bound: usize) -> &[u32]
     ensures { IsCut places.now bound result.now }
 {
     for (count, place) in places.iter().enumerate() {
-        if *place >= bound {
+        if *place as usize >= bound {
             return &places[..count];
         }
     }
     places
 }
 
-fn place_at(places: &[usize], number: usize) -> usize
+fn place_at(places: &[u32], number: usize) -> u32
     requires within { number < length places.now }
     ensures { slice_get places.now number ≡ Some result }
 {
     places[number]
 }
 
-fn equation_at(duties: &[Duty], place: usize) -> &Equation
+fn equation_at(duties: &[Duty], place: u32) -> &Equation
     requires within { place < length duties.now }
     ensures { equation_in duties.now place ≡ Some result.now }
 {
-    &duties[place].equation
+    &duties[place as usize].equation
 }
 
 /// The equations of the duties at some places.
 fn equations_at<'a>(
     alloc: Global,
     duties: &'a [Duty],
-    places: &[usize],
+    places: &[u32],
 ) -> Result<Vec<&'a Equation>, AllocError>
     requires { All (λ place. place < length duties.now) places.now }
     ensures { IfOk result (λ equations. map (λ e. Some e.now) equations.items
@@ -147,13 +147,13 @@ fn first_over(
         (IsUnmetOver mapping.now entity bound depth)) }
 {
     mapping.is_well_sorted();
-    let places = places_below(list.by_entity.of(entity as usize), bound);
+    let places = places_below(list.by_entity.of(entity), bound);
     let over = over_one(alloc, entity)?;
     let equations = equations_at(alloc, &list.duties, places)?;
     let Some(unmet) = first_unmet(alloc, &list.target, &over, &equations, depth)? else {
         return Ok(None);
     };
-    let place = place_at(places, unmet.place);
+    let place = place_at(places, unmet.place) as usize;
     let cause = unmet.cause;
     Ok(Some(Unmet { place, cause }))
 }

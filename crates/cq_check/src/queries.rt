@@ -17,21 +17,13 @@ fn source(query: &Query) -> &Schema
     &query.source
 }
 
-/// How many entities the target has.
-fn entity_count(query: &Query) -> u32
-    ensures { result ≡ length query.now.target.entities }
-{
-    query.is_well_sorted();
-    query.target.entities.len() as u32
-}
-
 /// The first entity of the target that has a duty; where none has, how many entities there are. The source is of no
 /// account for a query without duties.
 fn first_with_duties(alloc: Global, query: &Query) -> Result<u32, AllocError>
     ensures within { IfOk result (λ entity. entity ≤ length query.now.target.entities) }
     ensures none { IfOk result (λ entity. length (duties_below query.now entity) ≡ 0) }
 {
-    let count = entity_count(query);
+    let count = query.entity_count();
     for entity in 0..count {
         let duties = query.duties(alloc, entity)?;
         if !duties.is_empty() {
@@ -87,12 +79,12 @@ pub fn check_query(alloc: Global, query: &Query, depth: u32) -> Result<(), Check
     ensures many { (n : ℕ) → result ≡ Err (TooManyRows n) → IsTooWideAt query.now depth n }
 {
     let first = first_with_duties(alloc, query)?;
-    if first == entity_count(query) {
+    if first == query.entity_count() {
         return Ok(());
     }
     let prepared = Prepared::new(alloc, source(query))?;
     let mut number = 0;
-    for entity in first..entity_count(query) {
+    for entity in first..query.entity_count() {
         match check_entity(alloc, query, &prepared, entity, depth, number) {
             Ok(next) => number = next,
             Err(refusal) => return Err(refusal),

@@ -92,7 +92,7 @@ pub(crate) fn found_answers(
 {
     query.is_well_sorted();
     instance.is_instance();
-    match query.block(entity as usize) {
+    match query.block(entity) {
         Some(block) => block_answers(alloc, instance, kept, block, entity),
         None => unreachable!(),
     }

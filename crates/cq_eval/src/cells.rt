@@ -134,7 +134,7 @@ pub(crate) fn cell_columns(
     };
     for (attribute, edge) in attributes.iter().enumerate() {
         let source = &answers[edge.from as usize];
-        let Some(term) = found_term(query, attribute) else {
+        let Some(term) = found_term(query, attribute as u32) else {
             unreachable!();
         };
         if let Err(refusal) = push_cells(alloc, instance, term, source, &mut columns) {

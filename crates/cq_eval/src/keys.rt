@@ -79,7 +79,7 @@ fn key_column(
 }
 
 /// The terms that a foreign key assigns.
-fn assigned(query: &Query, key: usize) -> &[EntTerm]
+fn assigned(query: &Query, key: u32) -> &[EntTerm]
     ensures { result.now ≡ assigned_terms query.now key }
 {
     match found_terms(query, key) {
@@ -108,7 +108,7 @@ pub(crate) fn key_columns(
     for (key, edge) in keys.iter().enumerate() {
         let source = &answers[edge.from as usize];
         let target = &answers[edge.to as usize];
-        columns.push(key_column(alloc, instance, assigned(query, key), source, target)?)?;
+        columns.push(key_column(alloc, instance, assigned(query, key as u32), source, target)?)?;
     }
     Ok(Seq::from_vec(columns))
 }

@@ -75,7 +75,7 @@ fn read_entity_file<F: Folder>(
     dir: &Name,
     schema: &Schema,
     columns: &[Column],
-    entity: usize,
+    entity: u32,
 ) -> Result<EntityFile, CsvRefusal>
     requires entity { entity < length schema.now.entities }
     requires columns { columns.now ≡ columns_of schema.now entity }
@@ -85,7 +85,7 @@ fn read_entity_file<F: Folder>(
     ensures refused { IfErr result (IsRefused dir.now schema.now (F.state folder.old).files entity) }
 {
     let entities = schema.entities.as_slice();
-    let name = file_name(alloc, dir, entities[entity].as_str())?;
+    let name = file_name(alloc, dir, entities[entity as usize].as_str())?;
     match read_text(folder, name) {
         Ok((name, text)) => check_text(alloc, schema, columns, name, text),
         Err(refusal) => Err(refusal),
@@ -109,8 +109,8 @@ pub fn read_files<F: Folder>(
         ⊎ Stops dir.now schema.now (F.state folder.old).files r) }
 {
     let mut made = Vec::new(alloc);
-    for entity in 0..schema.entities.len() {
-        let list = columns[entity].as_slice();
+    for entity in 0..schema.entities.len() as u32 {
+        let list = columns[entity as usize].as_slice();
         match read_entity_file(alloc, folder, dir, schema, list, entity) {
             Ok(file) => push_file(file, &mut made)?,
             Err(refusal) => return Err(refusal),

@@ -172,7 +172,7 @@ fn read_table(
 }
 
 /// Reads the cells of an entity's file.
-fn read_entity(context: &Context, entity: usize, made: &mut Made) -> Result<(), CsvRefusal>
+fn read_entity(context: &Context, entity: u32, made: &mut Made) -> Result<(), CsvRefusal>
     requires context { IsContext context.now }
     requires entity { entity < length context.now.files.now }
     requires room { context.now.first + length made.old.labels ≤ 16000000 }
@@ -184,8 +184,8 @@ fn read_entity(context: &Context, entity: usize, made: &mut Made) -> Result<(), 
 {
     let schema: &Schema = context.schema;
     schema.is_well_sorted();
-    let file = &context.files[entity];
-    let columns = context.columns[entity].as_slice();
+    let file = &context.files[entity as usize];
+    let columns = context.columns[entity as usize].as_slice();
     // No header is so long.
     if columns.len() > 1 << 31 {
         return Err(CsvRefusal::Memory);
@@ -193,7 +193,7 @@ fn read_entity(context: &Context, entity: usize, made: &mut Made) -> Result<(), 
     let table = Table {
         file: file.name.as_str(),
         columns,
-        start: context.starts[entity],
+        start: context.starts[entity as usize],
         length: file.text.len(),
     };
     read_table(context, &table, file.text.as_slice(), made)
@@ -209,7 +209,8 @@ pub fn read_cells(context: &Context, made: &mut Made) -> Result<(), CsvRefusal>
     ensures refused { IfErr result (λ r. Refuses r (faults_in context.now made.old
         (all_cells context.now.schema.now (sheets_in context.now)))) }
 {
-    for entity in 0..context.files.len() {
+    context.schema.is_well_sorted();
+    for entity in 0..context.files.len() as u32 {
         if let Err(refusal) = read_entity(context, entity, made) {
             return Err(refusal);
         }

@@ -40,10 +40,10 @@ pub fn push_given(
 }
 
 /// The numbers of an entity, and none past the last entity.
-fn group_at(groups: &[Seq<usize>], entity: usize) -> &[usize]
+fn group_at(groups: &[Seq<u32>], entity: u32) -> &[u32]
     ensures { result.now ≡ slice_index_or groups.now entity [] }
 {
-    match groups.get(entity) {
+    match groups.get(entity as usize) {
         Some(numbers) => numbers.as_slice(),
         None => &[],
     }
@@ -53,7 +53,7 @@ fn group_at(groups: &[Seq<usize>], entity: usize) -> &[usize]
 fn push_row(
     alloc: Global,
     ground: &Ground,
-    numbers: &[usize],
+    numbers: &[u32],
     row: u64,
     list: &mut NodeList,
 ) -> Result<(), AllocError>
@@ -68,7 +68,7 @@ fn push_row(
     let schema: &Schema = ground.schema;
     let equations = schema.obs_eqs.as_slice();
     for number in numbers {
-        let equation = &equations[*number];
+        let equation = &equations[*number as usize];
         push_equation(alloc, ground, &[row], list, &equation.left, &equation.right)?;
     }
     Ok(())
@@ -79,7 +79,7 @@ fn push_entity(
     alloc: Global,
     ground: &Ground,
     groups: &Groups,
-    entity: usize,
+    entity: u32,
     rows: &[u64],
     list: &mut NodeList,
 ) -> Result<(), AllocError>
@@ -139,7 +139,7 @@ pub fn push_observations(
 {
     let groups = list_equations(alloc, ground.schema, order)?;
     for (entity, rows) in order.iter().enumerate() {
-        push_entity(alloc, ground, &groups, entity, rows.as_slice(), list)?;
+        push_entity(alloc, ground, &groups, entity as u32, rows.as_slice(), list)?;
     }
     Ok(())
 }

@@ -96,19 +96,19 @@ fn pulled_counts(
 }
 
 /// The path of a foreign key.
-fn path_of(mapping: &Mapping, key: usize) -> &[u32]
+fn path_of(mapping: &Mapping, key: u32) -> &[u32]
     requires { key < length mapping.now.keys }
     ensures { result.now ≡ key_image mapping.now key }
 {
-    mapping.keys.as_slice()[key].as_slice()
+    mapping.keys.as_slice()[key as usize].as_slice()
 }
 
 /// The term of an attribute.
-fn term_of(mapping: &Mapping, attribute: usize) -> &TypeTerm
+fn term_of(mapping: &Mapping, attribute: u32) -> &TypeTerm
     requires { attribute < length mapping.now.attributes }
     ensures { result.now ≡ attribute_image mapping.now attribute }
 {
-    &mapping.attributes.as_slice()[attribute]
+    &mapping.attributes.as_slice()[attribute as usize]
 }
 
 /// The column of each foreign key of the source.
@@ -126,7 +126,7 @@ fn pulled_keys(
     let mut columns = Vec::with_capacity(alloc, keys.len())?;
     for (key, edge) in keys.iter().enumerate() {
         let count = count_at(mapping, instance, edge.from);
-        columns.push(row_column(alloc, instance, path_of(mapping, key), count)?)?;
+        columns.push(row_column(alloc, instance, path_of(mapping, key as u32), count)?)?;
     }
     Ok(Seq::from_vec(columns))
 }
@@ -175,7 +175,7 @@ fn pulled_cells(
         return Err(SizeRefusal::Memory);
     };
     for (attribute, edge) in attributes.iter().enumerate() {
-        let term = term_of(mapping, attribute);
+        let term = term_of(mapping, attribute as u32);
         let count = count_at(mapping, instance, edge.from);
         if let Err(refusal) = push_cells(alloc, instance, term, count, &mut columns) {
             return Err(refusal);

@@ -19,7 +19,7 @@ use std::marker::Model;
 
 /// For each variable to which a foreign key assigns a term, the place of the clause. Contracts see the pairs.
 pub(crate) struct Assigned {
-    places: HashMap<Name, usize, Hashing>,
+    places: HashMap<Name, u32, Hashing>,
 }
 
 impl Model for Assigned {
@@ -46,14 +46,14 @@ impl Assigned {
     }
 
     /// The place for a variable.
-    fn place_of(&self, variable: &Name) -> Option<usize>
+    fn place_of(&self, variable: &Name) -> Option<u32>
         ensures { result ≡ lookup (same_name variable.now) self.now }
     {
         self.places.get(variable).copied()
     }
 
     /// Puts a place for a variable.
-    fn put(&mut self, variable: Name, place: usize) -> Result<(), AllocError>
+    fn put(&mut self, variable: Name, place: u32) -> Result<(), AllocError>
         ensures { OnOk result ((q : List ℕ) → lookup (same_name q) self.new
             ≡ (if same_name variable q then Some place else lookup (same_name q) self.old)) }
     {
@@ -62,7 +62,7 @@ impl Assigned {
     }
 
     /// Puts a place for a variable that has none.
-    fn add(&mut self, variable: &Name, place: usize) -> Result<(), AllocError>
+    fn add(&mut self, variable: &Name, place: u32) -> Result<(), AllocError>
         ensures { OnOk result ((q : List ℕ) → lookup (same_name q) self.new ≡ or_else (lookup (same_name q) self.old)
             (if same_name q variable.now then Some place else None)) }
     {
@@ -76,9 +76,9 @@ impl Assigned {
     fn add_clause(
         &mut self,
         target: &Schema,
-        key: usize,
+        key: u32,
         part: &Clause,
-        place: usize,
+        place: u32,
     ) -> Result<(), AllocError>
         ensures { OnOk result ((q : List ℕ) → lookup (same_name q) self.new ≡ or_else (lookup (same_name q) self.old)
             (option_map (λ _. place) (given_assigned target.now key q part.now))) }
@@ -102,13 +102,13 @@ impl Assigned {
         &mut self,
         target: &Schema,
         clauses: &[(u32, Clause)],
-        key: usize,
-        place: usize,
+        key: u32,
+        place: u32,
     ) -> Result<(), AllocError>
         ensures { OnOk result ((q : List ℕ) → lookup (same_name q) self.new ≡ or_else (lookup (same_name q) self.old)
             (option_map (λ _. place) (at_place (λ part. given_assigned target.now key q part.1) clauses.now place))) }
     {
-        match clauses.get(place) {
+        match clauses.get(place as usize) {
             Some(part) => self.add_clause(target, key, &part.1, place),
             None => Ok(()),
         }
@@ -120,8 +120,8 @@ fn assigned_among(
     alloc: Global,
     target: &Schema,
     clauses: &[(u32, Clause)],
-    places: &[usize],
-    key: usize,
+    places: &[u32],
+    key: u32,
 ) -> Result<Assigned, AllocError>
     ensures { IfOk result (λ made. (q : List ℕ) → lookup (same_name q) made ≡ first_of
         (λ place. option_map (λ _. place) (at_place (λ part. given_assigned target.now key q part.1) clauses.now place))
@@ -140,7 +140,7 @@ pub(crate) fn make_assigned(
     target: &Schema,
     clauses: &[(u32, Clause)],
     index: &Index,
-    key: usize,
+    key: u32,
 ) -> Result<Assigned, AllocError>
     requires index { IsIndex target.now clauses.now index.now }
     requires key { key < length target.now.keys }
@@ -153,14 +153,14 @@ pub(crate) fn make_assigned(
 fn assigned_at<'a>(
     target: &Schema,
     clauses: &'a [(u32, Clause)],
-    place: usize,
-    key: usize,
+    place: u32,
+    key: u32,
     variable: &Name,
 ) -> Option<&'a Raw>
     ensures { option_copied result ≡ at_place (λ part. given_assigned target.now key variable.now part.1)
         clauses.now place }
 {
-    match clauses.get(place) {
+    match clauses.get(place as usize) {
         Some(part) => assigned_given(target, key, variable, &part.1),
         None => None,
     }
@@ -171,7 +171,7 @@ pub(crate) fn find_assigned<'a>(
     target: &Schema,
     clauses: &'a [(u32, Clause)],
     assigned: &Assigned,
-    key: usize,
+    key: u32,
     variable: &Name,
 ) -> Option<&'a Raw>
     requires { IsAssigned target.now clauses.now key assigned.now }

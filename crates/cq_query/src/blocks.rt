@@ -28,8 +28,8 @@ use std::alloc::{AllocError, Global};
 /// The attributes and the foreign keys from an entity.
 #[derive(Clone, Copy)]
 struct Edges<'a> {
-    attributes: &'a [usize],
-    keys: &'a [usize],
+    attributes: &'a [u32],
+    keys: &'a [u32],
 }
 
 /// The first variable alone, which stands only in parts that break a rule.
@@ -111,7 +111,7 @@ fn push_test_in(
     alloc: Global,
     source: &Schema,
     scopes: &[Scope],
-    entity: usize,
+    entity: u32,
     part: &Clause,
     made: &mut Vec<Equation>,
 ) -> Result<(), AllocError>
@@ -119,7 +119,7 @@ fn push_test_in(
     ensures { OnOk result (made.new.items ≡ made.old.items
         ++ test_made source.now (scope_or_none (slice_get scopes.now entity)) part.now) }
 {
-    push_test(alloc, source, &scopes[entity], part, made)
+    push_test(alloc, source, &scopes[entity as usize], part, made)
 }
 
 /// That many lists without equations.
@@ -148,8 +148,15 @@ fn build_tests(
 {
     let mut lists = empty_lists(alloc, scopes.len())?;
     for part in clauses {
-        let entity = entities[part.0 as usize] as usize;
-        push_test_in(alloc, source, scopes, entity, &part.1, &mut lists[entity])?;
+        let entity = entities[part.0 as usize];
+        push_test_in(
+            alloc,
+            source,
+            scopes,
+            entity,
+            &part.1,
+            &mut lists[entity as usize],
+        )?;
     }
     Ok(lists)
 }
@@ -159,14 +166,14 @@ fn make_attribute(
     alloc: Global,
     making: &Making,
     index: &Index,
-    attribute: usize,
+    attribute: u32,
 ) -> Result<TypeTerm, AllocError>
     requires index { IsIndex making.now.target.now making.now.clauses.now index.now }
     ensures { IfOk result (λ made. made ≡ attribute_made
         making.now.source.now making.now.target.now making.now.scopes.now making.now.clauses.now attribute) }
 {
     let target = making.target;
-    let Some(edge) = target.attributes.as_slice().get(attribute) else {
+    let Some(edge) = target.attributes.as_slice().get(attribute as usize) else {
         return Ok(TypeTerm::Const(Con::Named(0)));
     };
     let scope = making.scopes.get(edge.from as usize);
@@ -179,7 +186,7 @@ fn build_attributes(
     alloc: Global,
     making: &Making,
     index: &Index,
-    attributes: &[usize],
+    attributes: &[u32],
 ) -> Result<Vec<TypeTerm>, AllocError>
     requires index { IsIndex making.now.target.now making.now.clauses.now index.now }
     ensures { IfOk result (λ made. made.items ≡ map
@@ -199,7 +206,7 @@ fn build_assigned(
     making: &Making,
     scope: Option<&Scope>,
     assigned: &Assigned,
-    key: usize,
+    key: u32,
     vars: &[(Name, u32)],
 ) -> Result<Vec<EntTerm>, AllocError>
     requires { IsAssigned making.now.target.now making.now.clauses.now key assigned.now }
@@ -222,7 +229,7 @@ fn build_assigned_to(
     from: Option<&Scope>,
     to: Option<&Scope>,
     assigned: &Assigned,
-    key: usize,
+    key: u32,
 ) -> Result<Vec<EntTerm>, AllocError>
     requires { IsAssigned making.now.target.now making.now.clauses.now key assigned.now }
     ensures { IfOk result (λ made. made.items ≡ map
@@ -248,7 +255,7 @@ fn make_key_at(
     alloc: Global,
     making: &Making,
     index: &Index,
-    key: usize,
+    key: u32,
     edge: &Edge,
 ) -> Result<Vec<EntTerm>, AllocError>
     requires index { IsIndex making.now.target.now making.now.clauses.now index.now }
@@ -263,10 +270,10 @@ fn make_key_at(
     Ok(terms)
 }
 
-fn key_at(target: &Schema, key: usize) -> Option<&Edge>
+fn key_at(target: &Schema, key: u32) -> Option<&Edge>
     ensures { option_copied result ≡ slice_get target.now.keys key }
 {
-    target.keys.as_slice().get(key)
+    target.keys.as_slice().get(key as usize)
 }
 
 /// The terms that a foreign key assigns to the variables of the block to which it leads.
@@ -274,7 +281,7 @@ fn make_key(
     alloc: Global,
     making: &Making,
     index: &Index,
-    key: usize,
+    key: u32,
 ) -> Result<Vec<EntTerm>, AllocError>
     requires index { IsIndex making.now.target.now making.now.clauses.now index.now }
     ensures { IfOk result (λ made. made.items ≡ key_made
@@ -290,7 +297,7 @@ fn build_keys(
     alloc: Global,
     making: &Making,
     index: &Index,
-    keys: &[usize],
+    keys: &[u32],
 ) -> Result<Vec<Seq<EntTerm>>, AllocError>
     requires index { IsIndex making.now.target.now making.now.clauses.now index.now }
     ensures { IfOk result (λ made. made.items ≡ map
@@ -318,12 +325,12 @@ fn copy_variables(alloc: Global, vars: &[(Name, u32)]) -> Result<Vec<(Name, u32)
 fn build_variables(
     alloc: Global,
     scopes: &[Scope],
-    entity: usize,
+    entity: u32,
 ) -> Result<Vec<(Name, u32)>, AllocError>
     requires { entity < length scopes.now }
     ensures { IfOk result (λ made. made.items ≡ scope_or_none (slice_get scopes.now entity)) }
 {
-    copy_variables(alloc, scopes[entity].vars())
+    copy_variables(alloc, scopes[entity as usize].vars())
 }
 
 /// The block of an entity with these where equations, by the attributes and foreign keys from it.
@@ -332,7 +339,7 @@ fn make_block(
     making: &Making,
     index: &Index,
     edges: &Edges,
-    entity: usize,
+    entity: u32,
     tests: Vec<Equation>,
 ) -> Result<Block, AllocError>
     requires index { IsIndex making.now.target.now making.now.clauses.now index.now }
@@ -365,7 +372,7 @@ fn make_block_at(
     making: &Making,
     index: &Index,
     beginnings: &Beginnings,
-    entity: usize,
+    entity: u32,
     tests: Vec<Equation>,
 ) -> Result<Block, AllocError>
     requires making { IsMaking making.now }
@@ -409,9 +416,10 @@ pub(crate) fn build_blocks(
         making.scopes,
         making.clauses,
     )?;
+    making.target.is_well_sorted();
     let mut made = Vec::new(alloc);
     for tests in lists {
-        let entity = made.len();
+        let entity = made.len() as u32;
         made.push(make_block_at(alloc, making, index, beginnings, entity, tests)?)?;
     }
     Ok(made)

@@ -73,9 +73,9 @@ fn find_starts(alloc: Global, query: &Query, counts: &[u32]) -> Result<(Vec<u32>
 {
     let mut starts = Vec::new(alloc);
     let mut total = 0;
-    for entity in 0..query.target.entities.len() {
+    for entity in 0..query.entity_count() {
         starts.push(total)?;
-        let count = number_at(counts, entity);
+        let count = number_at(counts, entity as usize);
         let Some(end) = end_of(total, count, query.variable_count(entity)) else {
             return Err(SizeRefusal::TooLarge);
         };

@@ -28,7 +28,7 @@ impl Query {
         ensures presentation { IfOk result (λ made. IsPresentation self.now.source made) }
     {
         self.is_well_sorted();
-        frozen_block(alloc, self, entity as usize)
+        frozen_block(alloc, self, entity)
     }
 
     /// The duties of an entity of the target, in this order: for each foreign key from it, each where equation of the
@@ -40,15 +40,15 @@ impl Query {
         ensures { IfOk result (λ made. made.items ≡ duties_at self.now entity) }
     {
         let mut made = Vec::new(alloc);
-        push_key_duties(alloc, self, entity as usize, &mut made)?;
-        push_path_duties(alloc, self, entity as usize, &mut made)?;
-        push_observation_duties(alloc, self, entity as usize, &mut made)?;
+        push_key_duties(alloc, self, entity, &mut made)?;
+        push_path_duties(alloc, self, entity, &mut made)?;
+        push_observation_duties(alloc, self, entity, &mut made)?;
         Ok(made)
     }
 }
 
 /// The frozen presentation of a block.
-fn frozen_block(alloc: Global, query: &Query, entity: usize) -> Result<Presentation, AllocError>
+fn frozen_block(alloc: Global, query: &Query, entity: u32) -> Result<Presentation, AllocError>
     ensures { IfOk result (λ made. made ≡ frozen_at query.now entity) }
 {
     let Some(block) = query.block(entity) else {
@@ -78,7 +78,7 @@ fn frozen_generators(alloc: Global, vars: &[(Name, u32)]) -> Result<Vec<(Name, S
 fn push_key_duties(
     alloc: Global,
     query: &Query,
-    entity: usize,
+    entity: u32,
     made: &mut Vec<Equation>,
 ) -> Result<(), AllocError>
     requires { entity < length query.now.target.entities }
@@ -95,14 +95,14 @@ fn push_key_duties(
 fn push_key_duty(
     alloc: Global,
     query: &Query,
-    key: usize,
+    key: u32,
     made: &mut Vec<Equation>,
 ) -> Result<(), AllocError>
     ensures { OnOk result (made.new.items ≡ made.old.items
         ++ key_duties query.now key (slice_get query.now.target.keys key)) }
 {
     match query.key(key) {
-        Some(edge) => push_assigned_tests(alloc, query, key, edge.to as usize, made),
+        Some(edge) => push_assigned_tests(alloc, query, key, edge.to, made),
         None => Ok(()),
     }
 }
@@ -111,8 +111,8 @@ fn push_key_duty(
 fn push_assigned_tests(
     alloc: Global,
     query: &Query,
-    key: usize,
-    entity: usize,
+    key: u32,
+    entity: u32,
     made: &mut Vec<Equation>,
 ) -> Result<(), AllocError>
     ensures { OnOk result (made.new.items ≡ made.old.items
@@ -128,7 +128,7 @@ fn push_assigned_tests(
 fn push_tests(
     alloc: Global,
     query: &Query,
-    key: usize,
+    key: u32,
     tests: &[Equation],
     made: &mut Vec<Equation>,
 ) -> Result<(), AllocError>
@@ -143,7 +143,7 @@ fn push_tests(
 fn push_path_duties(
     alloc: Global,
     query: &Query,
-    entity: usize,
+    entity: u32,
     made: &mut Vec<Equation>,
 ) -> Result<(), AllocError>
     requires { entity < length query.now.target.entities }
@@ -160,8 +160,8 @@ fn push_path_duties(
 fn push_path_duty(
     alloc: Global,
     query: &Query,
-    entity: usize,
-    number: usize,
+    entity: u32,
+    number: u32,
     made: &mut Vec<Equation>,
 ) -> Result<(), AllocError>
     ensures { OnOk result (made.new.items ≡ made.old.items
@@ -184,7 +184,7 @@ fn push_path_duty(
 fn push_sides(
     alloc: Global,
     query: &Query,
-    entity: usize,
+    entity: u32,
     left: &[u32],
     right: &[u32],
     made: &mut Vec<Equation>,
@@ -220,7 +220,7 @@ pub(crate) fn push_equal_terms(
 fn push_observation_duties(
     alloc: Global,
     query: &Query,
-    entity: usize,
+    entity: u32,
     made: &mut Vec<Equation>,
 ) -> Result<(), AllocError>
     requires { entity < length query.now.target.entities }
@@ -237,8 +237,8 @@ fn push_observation_duties(
 fn push_observation_duty(
     alloc: Global,
     query: &Query,
-    entity: usize,
-    number: usize,
+    entity: u32,
+    number: u32,
     made: &mut Vec<Equation>,
 ) -> Result<(), AllocError>
     ensures { OnOk result (made.new.items ≡ made.old.items
@@ -253,7 +253,7 @@ fn push_observation_duty(
 fn push_translated(
     alloc: Global,
     query: &Query,
-    entity: usize,
+    entity: u32,
     left: &TypeTerm,
     right: &TypeTerm,
     made: &mut Vec<Equation>,

@@ -109,8 +109,8 @@ fn key_owners(
 pub(crate) fn attribute_among<'a>(
     target: &Schema,
     clauses: &'a [(u32, Clause)],
-    places: &[usize],
-    attribute: usize,
+    places: &[u32],
+    attribute: u32,
 ) -> Option<&'a Raw>
     ensures { option_copied result ≡ first_of (at_place (λ part. given_attribute target.now attribute part.1)
         clauses.now) places.now }
@@ -127,19 +127,19 @@ pub(crate) fn attribute_among<'a>(
 fn attribute_at<'a>(
     target: &Schema,
     clauses: &'a [(u32, Clause)],
-    place: usize,
-    attribute: usize,
+    place: u32,
+    attribute: u32,
 ) -> Option<&'a Raw>
     ensures { option_copied result ≡ at_place (λ part. given_attribute target.now attribute part.1) clauses.now place }
 {
-    match clauses.get(place) {
+    match clauses.get(place as usize) {
         Some(part) => attribute_given(target, attribute, &part.1),
         None => None,
     }
 }
 
 /// Whether the clause at one of these places is that of the foreign key.
-fn is_key_among(target: &Schema, clauses: &[(u32, Clause)], places: &[usize], key: usize) -> bool
+fn is_key_among(target: &Schema, clauses: &[(u32, Clause)], places: &[u32], key: u32) -> bool
     ensures { result ≡ list_any (is_at_place (λ part. given_key target.now key part.1) clauses.now) places.now }
 {
     for place in places {
@@ -150,10 +150,10 @@ fn is_key_among(target: &Schema, clauses: &[(u32, Clause)], places: &[usize], ke
     false
 }
 
-fn is_key_at(target: &Schema, clauses: &[(u32, Clause)], place: usize, key: usize) -> bool
+fn is_key_at(target: &Schema, clauses: &[(u32, Clause)], place: u32, key: u32) -> bool
     ensures { result ≡ is_at_place (λ part. given_key target.now key part.1) clauses.now place }
 {
-    match clauses.get(place) {
+    match clauses.get(place as usize) {
         Some(part) => key_given(target, key, &part.1),
         None => false,
     }
@@ -164,7 +164,7 @@ pub(crate) fn find_attribute<'a>(
     target: &Schema,
     clauses: &'a [(u32, Clause)],
     index: &Index,
-    attribute: usize,
+    attribute: u32,
 ) -> Option<&'a Raw>
     requires index { IsIndex target.now clauses.now index.now }
     requires attribute { attribute < length target.now.attributes }
@@ -174,7 +174,7 @@ pub(crate) fn find_attribute<'a>(
     attribute_among(target, clauses, places, attribute)
 }
 
-pub(crate) fn has_key(target: &Schema, clauses: &[(u32, Clause)], index: &Index, key: usize) -> bool
+pub(crate) fn has_key(target: &Schema, clauses: &[(u32, Clause)], index: &Index, key: u32) -> bool
     requires index { IsIndex target.now clauses.now index.now }
     requires key { key < length target.now.keys }
     ensures { result ≡ key_there target.now clauses.now key }

@@ -23,22 +23,22 @@ use cq_theory::lookup::missing;
 use cq_theory::{ArrowRefusal, Beginnings, Schema, Symbol};
 use std::alloc::Global;
 
-fn is_attribute(attribute: usize, symbol: Option<Symbol>) -> bool
+fn is_attribute(attribute: u32, symbol: Option<Symbol>) -> bool
     ensures { result ≡ is_the_attribute attribute symbol }
 {
     match symbol {
-        Some(Symbol::Attribute(number)) => number as usize == attribute,
+        Some(Symbol::Attribute(number)) => number == attribute,
         Some(Symbol::Key(_)) => false,
         Some(Symbol::Function(_)) => false,
         None => false,
     }
 }
 
-pub(crate) fn is_key(key: usize, symbol: Option<Symbol>) -> bool
+pub(crate) fn is_key(key: u32, symbol: Option<Symbol>) -> bool
     ensures { result ≡ is_the_key key symbol }
 {
     match symbol {
-        Some(Symbol::Key(number)) => number as usize == key,
+        Some(Symbol::Key(number)) => number == key,
         Some(Symbol::Attribute(_)) => false,
         Some(Symbol::Function(_)) => false,
         None => false,
@@ -48,7 +48,7 @@ pub(crate) fn is_key(key: usize, symbol: Option<Symbol>) -> bool
 /// The term that a clause gives to the attribute.
 pub(crate) fn attribute_given<'a>(
     target: &Schema,
-    attribute: usize,
+    attribute: u32,
     part: &'a Clause,
 ) -> Option<&'a Raw>
     ensures { option_copied result ≡ given_attribute target.now attribute part.now }
@@ -68,7 +68,7 @@ pub(crate) fn attribute_given<'a>(
 }
 
 /// Whether a clause is that of the foreign key.
-pub(crate) fn key_given(target: &Schema, key: usize, part: &Clause) -> bool
+pub(crate) fn key_given(target: &Schema, key: u32, part: &Clause) -> bool
     ensures { result ≡ given_key target.now key part.now }
 {
     match part {
@@ -82,7 +82,7 @@ pub(crate) fn key_given(target: &Schema, key: usize, part: &Clause) -> bool
 /// The term that a clause assigns to the variable for the foreign key.
 pub(crate) fn assigned_given<'a>(
     target: &Schema,
-    key: usize,
+    key: u32,
     variable: &Name,
     part: &'a Clause,
 ) -> Option<&'a Raw>
@@ -106,7 +106,7 @@ fn check_attribute(
     target: &Schema,
     clauses: &[(u32, Clause)],
     index: &Index,
-    attribute: usize,
+    attribute: u32,
 ) -> Result<(), ArrowRefusal>
     requires index { IsIndex target.now clauses.now index.now }
     ensures accepted { IfOk result (λ _. missing_attribute target.now clauses.now attribute
@@ -115,7 +115,7 @@ fn check_attribute(
         ⊎ (missing_attribute target.now clauses.now attribute (slice_get target.now.attributes attribute)
         ≡ Some refusal)) }
 {
-    let Some(edge) = target.attributes.as_slice().get(attribute) else {
+    let Some(edge) = target.attributes.as_slice().get(attribute as usize) else {
         return Ok(());
     };
     if find_attribute(target, clauses, index, attribute).is_none() {
@@ -128,7 +128,7 @@ fn check_key(
     target: &Schema,
     clauses: &[(u32, Clause)],
     index: &Index,
-    key: usize,
+    key: u32,
 ) -> Result<(), ArrowRefusal>
     requires index { IsIndex target.now clauses.now index.now }
     ensures accepted { IfOk result (λ _. missing_key target.now clauses.now key
@@ -136,7 +136,7 @@ fn check_key(
     ensures refused { IfErr result (λ refusal. (refusal ≡ ArrowRefusal.Memory)
         ⊎ (missing_key target.now clauses.now key (slice_get target.now.keys key) ≡ Some refusal)) }
 {
-    let Some(edge) = target.keys.as_slice().get(key) else {
+    let Some(edge) = target.keys.as_slice().get(key as usize) else {
         return Ok(());
     };
     if !has_key(target, clauses, index, key) {
@@ -150,7 +150,7 @@ fn check_variables(
     target: &Schema,
     clauses: &[(u32, Clause)],
     assigned: &Assigned,
-    key: usize,
+    key: u32,
     vars: &[(Name, u32)],
 ) -> Result<(), ArrowRefusal>
     requires { IsAssigned target.now clauses.now key assigned.now }
@@ -172,7 +172,7 @@ fn check_variables_of(
     target: &Schema,
     clauses: &[(u32, Clause)],
     index: &Index,
-    key: usize,
+    key: u32,
     vars: &[(Name, u32)],
 ) -> Result<(), ArrowRefusal>
     requires index { IsIndex target.now clauses.now index.now }
@@ -191,7 +191,7 @@ fn check_assigned(
     scopes: &[Scope],
     clauses: &[(u32, Clause)],
     index: &Index,
-    key: usize,
+    key: u32,
 ) -> Result<(), ArrowRefusal>
     requires index { IsIndex target.now clauses.now index.now }
     ensures accepted { IfOk result (λ _. missing_variables target.now scopes.now clauses.now key
@@ -199,7 +199,7 @@ fn check_assigned(
     ensures refused { IfErr result (λ refusal. (refusal ≡ ArrowRefusal.Memory)
         ⊎ (missing_variables target.now scopes.now clauses.now key (slice_get target.now.keys key) ≡ Some refusal)) }
 {
-    let Some(edge) = target.keys.as_slice().get(key) else {
+    let Some(edge) = target.keys.as_slice().get(key as usize) else {
         return Ok(());
     };
     match scopes.get(edge.to as usize) {
@@ -212,7 +212,7 @@ fn check_attributes(
     target: &Schema,
     clauses: &[(u32, Clause)],
     index: &Index,
-    attributes: &[usize],
+    attributes: &[u32],
 ) -> Result<(), ArrowRefusal>
     requires index { IsIndex target.now clauses.now index.now }
     ensures accepted { IfOk result (λ _. missing_attributes target.now clauses.now attributes.now ≡ None) }
@@ -229,7 +229,7 @@ fn check_keys(
     target: &Schema,
     clauses: &[(u32, Clause)],
     index: &Index,
-    keys: &[usize],
+    keys: &[u32],
 ) -> Result<(), ArrowRefusal>
     requires index { IsIndex target.now clauses.now index.now }
     ensures accepted { IfOk result (λ _. missing_keys target.now clauses.now keys.now ≡ None) }
@@ -249,7 +249,7 @@ fn check_all_assigned(
     scopes: &[Scope],
     clauses: &[(u32, Clause)],
     index: &Index,
-    keys: &[usize],
+    keys: &[u32],
 ) -> Result<(), ArrowRefusal>
     requires index { IsIndex target.now clauses.now index.now }
     ensures accepted { IfOk result (λ _. missing_assigned target.now scopes.now clauses.now keys.now ≡ None) }
@@ -268,7 +268,7 @@ fn check_entity(
     making: &Making,
     index: &Index,
     beginnings: &Beginnings,
-    entity: usize,
+    entity: u32,
 ) -> Result<(), ArrowRefusal>
     requires index { IsIndex making.now.target.now making.now.clauses.now index.now }
     requires beginnings { AreBeginningsOf making.now.target.now beginnings.now }
@@ -289,8 +289,8 @@ fn check_lists(
     alloc: Global,
     making: &Making,
     index: &Index,
-    attributes: &[usize],
-    keys: &[usize],
+    attributes: &[u32],
+    keys: &[u32],
 ) -> Result<(), ArrowRefusal>
     requires index { IsIndex making.now.target.now making.now.clauses.now index.now }
     ensures accepted { IfOk result (λ _. missing_in
@@ -326,7 +326,8 @@ pub(crate) fn check_missing(
         ⊎ (missing_part making.now.target.now making.now.scopes.now making.now.clauses.now ≡ Some refusal)) }
 {
     let target = making.target;
-    for entity in 0..target.entities.len() {
+    target.is_well_sorted();
+    for entity in 0..target.entities.len() as u32 {
         check_entity(alloc, making, index, beginnings, entity)?;
     }
     Ok(())

@@ -140,55 +140,68 @@ impl Query {
         let _blocks = self.blocks.len();
     }
 
+    /// How many entities the target has.
+    pub fn entity_count(&self) -> u32
+        ensures { result ≡ length self.now.target.entities }
+    {
+        self.is_well_sorted();
+        self.target.entities.len() as u32
+    }
+
     /// The block of an entity of the target.
-    pub fn block(&self, entity: usize) -> Option<&Block>
+    pub fn block(&self, entity: u32) -> Option<&Block>
         ensures { option_copied result ≡ slice_get self.now.blocks entity }
     {
-        self.blocks.as_slice().get(entity)
+        self.blocks.as_slice().get(entity as usize)
     }
 
     /// A foreign key of the target.
-    pub(crate) fn key(&self, key: usize) -> Option<&Edge>
+    pub(crate) fn key(&self, key: u32) -> Option<&Edge>
         ensures { option_copied result ≡ slice_get self.now.target.keys key }
     {
-        self.target.keys.as_slice().get(key)
+        self.target.keys.as_slice().get(key as usize)
     }
 
     /// A path equation of the target.
-    pub(crate) fn path_eq(&self, number: usize) -> Option<&PathEq>
+    pub(crate) fn path_eq(&self, number: u32) -> Option<&PathEq>
         ensures { option_copied result ≡ slice_get self.now.target.path_eqs number }
     {
-        self.target.path_eqs.as_slice().get(number)
+        self.target.path_eqs.as_slice().get(number as usize)
     }
 
     /// An observation equation of the target.
-    pub(crate) fn obs_eq(&self, number: usize) -> Option<&ObsEq>
+    pub(crate) fn obs_eq(&self, number: u32) -> Option<&ObsEq>
         ensures { option_copied result ≡ slice_get self.now.target.obs_eqs number }
     {
-        self.target.obs_eqs.as_slice().get(number)
+        self.target.obs_eqs.as_slice().get(number as usize)
     }
 
     /// The place of a foreign key of the target among those of its entity.
-    pub(crate) fn key_place(&self, key: usize) -> Option<usize>
+    pub(crate) fn key_place(&self, key: u32) -> Option<u32>
         ensures { result ≡ slice_get (places (key_sources self.now)) key }
     {
-        self.beginnings.keys.places.as_slice().get(key).copied()
+        self.beginnings
+            .keys
+            .places
+            .as_slice()
+            .get(key as usize)
+            .copied()
     }
 
     /// The place of an attribute of the target among those of its entity.
-    pub(crate) fn attribute_place(&self, attribute: usize) -> Option<usize>
+    pub(crate) fn attribute_place(&self, attribute: u32) -> Option<u32>
         ensures { result ≡ slice_get (places (attribute_sources self.now)) attribute }
     {
         self.beginnings
             .attributes
             .places
             .as_slice()
-            .get(attribute)
+            .get(attribute as usize)
             .copied()
     }
 
     /// The numbers of the foreign keys from an entity of the target.
-    pub(crate) fn keys_from(&self, entity: usize) -> &[usize]
+    pub(crate) fn keys_from(&self, entity: u32) -> &[u32]
         requires { entity < length self.now.target.entities }
         ensures { result.now ≡ positions (key_sources self.now) entity }
     {
@@ -196,7 +209,7 @@ impl Query {
     }
 
     /// The numbers of the attributes from an entity of the target.
-    pub(crate) fn attributes_from(&self, entity: usize) -> &[usize]
+    pub(crate) fn attributes_from(&self, entity: u32) -> &[u32]
         requires { entity < length self.now.target.entities }
         ensures { result.now ≡ positions (attribute_sources self.now) entity }
     {
@@ -204,7 +217,7 @@ impl Query {
     }
 
     /// The numbers of the path equations that begin at an entity of the target.
-    pub(crate) fn path_eqs_from(&self, entity: usize) -> &[usize]
+    pub(crate) fn path_eqs_from(&self, entity: u32) -> &[u32]
         requires { entity < length self.now.target.entities }
         ensures { result.now ≡ positions (path_sources self.now) entity }
     {
@@ -212,7 +225,7 @@ impl Query {
     }
 
     /// The numbers of the observation equations at an entity of the target.
-    pub(crate) fn obs_eqs_from(&self, entity: usize) -> &[usize]
+    pub(crate) fn obs_eqs_from(&self, entity: u32) -> &[u32]
         requires { entity < length self.now.target.entities }
         ensures { result.now ≡ positions (observation_sources self.now) entity }
     {
@@ -220,7 +233,7 @@ impl Query {
     }
 
     /// How many variables the block of an entity has.
-    pub(crate) fn variable_count(&self, entity: usize) -> u32
+    pub(crate) fn variable_count(&self, entity: u32) -> u32
         ensures count { result ≡ length (variables_at self.now entity) }
         ensures few { result ≤ 16000000 }
     {

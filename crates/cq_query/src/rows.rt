@@ -37,7 +37,7 @@ pub(crate) struct Layout<'a> {
 /// A row of an entity, with its generators.
 #[derive(Clone, Copy)]
 struct Row<'a> {
-    entity: usize,
+    entity: u32,
     number: u32,
     terms: &'a [EntTerm],
 }
@@ -60,7 +60,7 @@ fn row_terms_from(
     alloc: Global,
     layout: &Layout,
     start: u32,
-    entity: usize,
+    entity: u32,
     row: u32,
 ) -> Result<Vec<EntTerm>, AllocError>
     requires { start + size_of layout.now.query.now layout.now.sheet.now.counts entity ≤ 16000000 }
@@ -68,24 +68,24 @@ fn row_terms_from(
         ≡ terms_from layout.now.query.now layout.now.sheet.now.counts entity row (Some start)) }
 {
     let width = layout.query.variable_count(entity);
-    if row < number_at(layout.sheet.counts.as_slice(), entity) {
+    if row < number_at(layout.sheet.counts.as_slice(), entity as usize) {
         generators_at(alloc, start, row, width)
     } else {
         Ok(Vec::new(alloc))
     }
 }
 
-fn start_at(starts: &[u32], entity: usize) -> Option<u32>
+fn start_at(starts: &[u32], entity: u32) -> Option<u32>
     ensures { result ≡ slice_get starts.now entity }
 {
-    starts.get(entity).copied()
+    starts.get(entity as usize).copied()
 }
 
 /// The generators of a row, one for each variable.
 fn row_terms(
     alloc: Global,
     layout: &Layout,
-    entity: usize,
+    entity: u32,
     row: u32,
 ) -> Result<Vec<EntTerm>, AllocError>
     requires layout { IsLayout layout.now }
@@ -99,10 +99,10 @@ fn row_terms(
 }
 
 /// The row to which a foreign key leads.
-fn key_row(sheet: &Sheet, key: usize, row: u32) -> u32
+fn key_row(sheet: &Sheet, key: u32, row: u32) -> u32
     ensures { result ≡ slice_index (slice_index_or sheet.now.keys key []) row }
 {
-    match sheet.keys.as_slice().get(key) {
+    match sheet.keys.as_slice().get(key as usize) {
         Some(column) => number_at(column.as_slice(), row as usize),
         None => number_at(&[], row as usize),
     }
@@ -114,8 +114,8 @@ fn push_key_terms(
     alloc: Global,
     layout: &Layout,
     row: &Row,
-    key: usize,
-    to: usize,
+    key: u32,
+    to: u32,
     made: &mut Vec<Equation>,
 ) -> Result<(), AllocError>
     requires layout { IsLayout layout.now }
@@ -135,7 +135,7 @@ fn push_key_equations(
     alloc: Global,
     layout: &Layout,
     row: &Row,
-    key: usize,
+    key: u32,
     made: &mut Vec<Equation>,
 ) -> Result<(), AllocError>
     requires layout { IsLayout layout.now }
@@ -144,7 +144,7 @@ fn push_key_equations(
         ++ key_equations layout.now.query.now layout.now.sheet.now row.now.entity row.now.number key) }
 {
     match layout.query.key(key) {
-        Some(edge) => push_key_terms(alloc, layout, row, key, edge.to as usize, made),
+        Some(edge) => push_key_terms(alloc, layout, row, key, edge.to, made),
         None => Ok(()),
     }
 }
@@ -174,7 +174,7 @@ fn push_cell_equation(
     layout: &Layout,
     row: &Row,
     column: &[Value],
-    attribute: usize,
+    attribute: u32,
     made: &mut Vec<Equation>,
 ) -> Result<(), AllocError>
     requires layout { IsLayout layout.now }
@@ -194,7 +194,7 @@ fn push_cell(
     alloc: Global,
     layout: &Layout,
     row: &Row,
-    attribute: usize,
+    attribute: u32,
     made: &mut Vec<Equation>,
 ) -> Result<(), AllocError>
     requires layout { IsLayout layout.now }
@@ -203,7 +203,7 @@ fn push_cell(
         ++ cell_equation layout.now.query.now layout.now.sheet.now layout.now.nulls row.now.entity row.now.number
         attribute ∷ []) }
 {
-    match layout.sheet.cells.as_slice().get(attribute) {
+    match layout.sheet.cells.as_slice().get(attribute as usize) {
         Some(column) => {
             push_cell_equation(alloc, layout, row, column.as_slice(), attribute, made)
         }
@@ -235,7 +235,7 @@ fn push_row_tests(
     alloc: Global,
     query: &Query,
     terms: &[EntTerm],
-    entity: usize,
+    entity: u32,
     made: &mut Vec<Equation>,
 ) -> Result<(), AllocError>
     ensures { OnOk result (made.new.items ≡ made.old.items
@@ -251,7 +251,7 @@ fn push_row_tests(
 fn push_row(
     alloc: Global,
     layout: &Layout,
-    entity: usize,
+    entity: u32,
     row: u32,
     made: &mut Vec<Equation>,
 ) -> Result<(), AllocError>
@@ -276,7 +276,7 @@ fn push_row(
 fn push_entity_rows(
     alloc: Global,
     layout: &Layout,
-    entity: usize,
+    entity: u32,
     made: &mut Vec<Equation>,
 ) -> Result<(), AllocError>
     requires layout { IsLayout layout.now }
@@ -284,7 +284,7 @@ fn push_entity_rows(
     ensures { OnOk result (made.new.items ≡ made.old.items
         ++ entity_equations layout.now.query.now layout.now.sheet.now layout.now.nulls entity) }
 {
-    let count = number_at(layout.sheet.counts.as_slice(), entity);
+    let count = number_at(layout.sheet.counts.as_slice(), entity as usize);
     for row in 0..count {
         push_row(alloc, layout, entity, row, made)?;
     }
@@ -303,7 +303,7 @@ pub(crate) fn push_rows(
         (below (length layout.now.query.now.target.entities))) }
 {
     let query = layout.query;
-    for entity in 0..query.target.entities.len() {
+    for entity in 0..query.entity_count() {
         push_entity_rows(alloc, layout, entity, made)?;
     }
     Ok(())

@@ -36,12 +36,12 @@ fn push_rows_sorts(vars: &[(Name, u32)], count: u32, made: &mut Vec<Sort>) -> Re
 fn push_entity_sorts(
     query: &Query,
     counts: &[u32],
-    entity: usize,
+    entity: u32,
     made: &mut Vec<Sort>,
 ) -> Result<(), AllocError>
     ensures { OnOk result (made.new.items ≡ made.old.items ++ row_sorts query.now counts.now entity) }
 {
-    let count = number_at(counts, entity);
+    let count = number_at(counts, entity as usize);
     match query.block(entity) {
         Some(block) => push_rows_sorts(block.vars.as_slice(), count, made),
         None => push_rows_sorts(&[], count, made),
@@ -53,7 +53,7 @@ fn push_all_sorts(query: &Query, counts: &[u32], made: &mut Vec<Sort>) -> Result
     ensures { OnOk result (made.new.items ≡ made.old.items
         ++ flat_map (row_sorts query.now counts.now) (below (length query.now.target.entities))) }
 {
-    for entity in 0..query.target.entities.len() {
+    for entity in 0..query.entity_count() {
         push_entity_sorts(query, counts, entity, made)?;
     }
     Ok(())

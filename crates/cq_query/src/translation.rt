@@ -11,23 +11,23 @@ use cq_theory::{Con, EntTerm, TypeTerm};
 use std::alloc::{AllocError, Global};
 
 /// The terms that a foreign key of the target assigns.
-pub fn found_terms(query: &Query, key: usize) -> Option<&Seq<EntTerm>>
+pub fn found_terms(query: &Query, key: u32) -> Option<&Seq<EntTerm>>
     ensures { option_copied result ≡ found_terms_of query.now key }
 {
-    let edge = query.target.keys.as_slice().get(key)?;
-    let block = query.block(edge.from as usize)?;
+    let edge = query.target.keys.as_slice().get(key as usize)?;
+    let block = query.block(edge.from)?;
     let place = query.key_place(key)?;
-    block.keys.as_slice().get(place)
+    block.keys.as_slice().get(place as usize)
 }
 
 /// The term of an attribute of the target.
-pub fn found_term(query: &Query, attribute: usize) -> Option<&TypeTerm>
+pub fn found_term(query: &Query, attribute: u32) -> Option<&TypeTerm>
     ensures { option_copied result ≡ found_term_of query.now attribute }
 {
-    let edge = query.target.attributes.as_slice().get(attribute)?;
-    let block = query.block(edge.from as usize)?;
+    let edge = query.target.attributes.as_slice().get(attribute as usize)?;
+    let block = query.block(edge.from)?;
     let place = query.attribute_place(attribute)?;
-    block.attributes.as_slice().get(place)
+    block.attributes.as_slice().get(place as usize)
 }
 
 /// The terms that a key assigns, with these terms in place of their generators.
@@ -35,7 +35,7 @@ pub(crate) fn put_assigned(
     alloc: Global,
     query: &Query,
     terms: &[EntTerm],
-    key: usize,
+    key: u32,
 ) -> Result<Vec<EntTerm>, AllocError>
     ensures { IfOk result (λ made. made.items ≡ map (put terms.now) (assigned query.now key)) }
 {
@@ -50,7 +50,7 @@ pub(crate) fn put_attribute(
     alloc: Global,
     query: &Query,
     terms: &[EntTerm],
-    attribute: usize,
+    attribute: u32,
 ) -> Result<TypeTerm, AllocError>
     ensures { IfOk result (λ made. made ≡ put_type terms.now (attribute_term query.now attribute)) }
 {
@@ -64,14 +64,14 @@ pub(crate) fn put_attribute(
 pub(crate) fn terms_along(
     alloc: Global,
     query: &Query,
-    entity: usize,
+    entity: u32,
     path: &[u32],
 ) -> Result<Vec<EntTerm>, AllocError>
     ensures { IfOk result (λ made. made.items ≡ along query.now (variable_terms query.now entity) path.now) }
 {
     let mut here = generators(alloc, 0, query.variable_count(entity))?;
     for key in path {
-        here = put_assigned(alloc, query, here.as_slice(), *key as usize)?;
+        here = put_assigned(alloc, query, here.as_slice(), *key)?;
     }
     Ok(here)
 }
@@ -80,7 +80,7 @@ pub(crate) fn terms_along(
 pub(crate) fn translate(
     alloc: Global,
     query: &Query,
-    entity: usize,
+    entity: u32,
     term: &TypeTerm,
 ) -> Result<TypeTerm, AllocError>
     ensures { IfOk result (λ made. made ≡ translated query.now (variable_terms query.now entity) term.now) }
@@ -90,7 +90,7 @@ pub(crate) fn translate(
         TypeTerm::Const(constant) => Ok(TypeTerm::Const(constant.clone()?)),
         TypeTerm::Att(attribute, term) => {
             let terms = terms_along(alloc, query, entity, term.path.as_slice())?;
-            put_attribute(alloc, query, terms.as_slice(), *attribute as usize)
+            put_attribute(alloc, query, terms.as_slice(), *attribute)
         }
         TypeTerm::Fun(function, args) => {
             let mut made = Vec::new(alloc);

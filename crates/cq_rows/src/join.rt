@@ -80,7 +80,7 @@ pub fn join_rule(
         rows.new merged (RuleHolds (theory_at origin.now) tables.old at.row at.place)) }
 {
     let RuleAt { row, place } = at;
-    let rule = &path_equations(origin.schema)[place];
+    let rule = &path_equations(origin.schema)[place as usize];
     if !tables.live(row) {
         return Ok(false);
     }

@@ -51,7 +51,7 @@ fn retry_rule(
     if row >= tables.made() {
         return Ok(());
     }
-    if place >= path_equations(origin.schema).len() {
+    if place as usize >= path_equations(origin.schema).len() {
         return Ok(());
     }
     join_rule(alloc, origin, tables, rows, waits, RuleAt { row, place })?;
@@ -116,7 +116,7 @@ fn pass_row(
     }
     let outline: &Outline = origin.outline;
     let mut merged = false;
-    for place in outline.path_equations.of(tables.entity(row) as usize) {
+    for place in outline.path_equations.of(tables.entity(row)) {
         let one = join_rule(
             alloc,
             origin,

@@ -6,7 +6,7 @@ use std::alloc::{AllocError, Global};
 #[derive(Clone, Copy)]
 pub struct RuleAt {
     pub row: u64,
-    pub place: usize,
+    pub place: u32,
 }
 
 /// An equation of the presentation by its number, or a path equation at a row.

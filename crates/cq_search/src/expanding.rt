@@ -84,18 +84,10 @@ fn advance(
 }
 
 /// The numbers of what begins at an entity.
-fn beginning_at(groups: &Groups, entity: u32) -> &[usize] {
+fn beginning_at(groups: &Groups, entity: u32) -> &[u32] {
     match groups.groups.as_slice().get(entity as usize) {
         Some(numbers) => numbers.as_slice(),
         None => &[],
-    }
-}
-
-/// A number of an equation or of a foreign key.
-fn as_number(number: usize) -> Result<u32, Halt> {
-    match u32::try_from(number) {
-        Ok(number) => Ok(number),
-        Err(_) => Err(Halt::Absent),
     }
 }
 
@@ -134,17 +126,17 @@ fn put_path_eqs(
     alloc: Global,
     graph: &mut Graph,
     schema: &Schema,
-    numbers: &[usize],
+    numbers: &[u32],
     node: u64,
 ) -> Result<(), Halt> {
     for number in numbers {
-        let Some(equation) = schema.path_eqs.as_slice().get(*number) else {
+        let Some(equation) = schema.path_eqs.as_slice().get(*number as usize) else {
             return Err(Halt::Absent);
         };
         let (left, right) = path_sides(alloc, graph, schema, equation, node, Wanted::AnyEqual)?;
         if !graph.are_joined(left, right) {
             let sides = path_sides(alloc, graph, schema, equation, node, Wanted::Itself)?;
-            graph.equate(sides.0, sides.1, Reason::Path(as_number(*number)?, node))?;
+            graph.equate(sides.0, sides.1, Reason::Path(*number, node))?;
         }
     }
     Ok(())
@@ -174,17 +166,17 @@ fn put_obs_eqs(
     alloc: Global,
     graph: &mut Graph,
     schema: &Schema,
-    numbers: &[usize],
+    numbers: &[u32],
     node: u64,
 ) -> Result<(), Halt> {
     for number in numbers {
-        let Some(equation) = schema.obs_eqs.as_slice().get(*number) else {
+        let Some(equation) = schema.obs_eqs.as_slice().get(*number as usize) else {
             return Err(Halt::Absent);
         };
         let (left, right) = obs_sides(alloc, graph, schema, equation, node, Wanted::AnyEqual)?;
         if !graph.are_joined(left, right) {
             let sides = obs_sides(alloc, graph, schema, equation, node, Wanted::Itself)?;
-            graph.equate(sides.0, sides.1, Reason::Obs(as_number(*number)?, node))?;
+            graph.equate(sides.0, sides.1, Reason::Obs(*number, node))?;
         }
     }
     Ok(())
@@ -216,14 +208,7 @@ fn follow(
     };
     if graph.classes.follow(node) {
         for key in beginning_at(&beginnings.keys, entity) {
-            put_key(
-                alloc,
-                graph,
-                schema,
-                node,
-                as_number(*key)?,
-                Wanted::AnyEqual,
-            )?;
+            put_key(alloc, graph, schema, node, *key, Wanted::AnyEqual)?;
         }
     }
     Ok(())

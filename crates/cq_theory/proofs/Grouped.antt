@@ -1,5 +1,5 @@
 -- Lists by places: groups, and writes at one number.
-use Rattle.std.proofs.Common.{ℕ, zero, suc, true, false, List, [], ◌∷◌, ◌++◌, Some, ◌≡◌, ◌≢◌, ◌<◌, ◌+◌, ◌==◌, if◌then◌else◌, inl, inr, map, take, length, get_or, slice_set, refl, sym, ap, ◌∙◌, arith, eq-eqb}
+use Rattle.std.proofs.Common.{ℕ, zero, suc, true, false, List, [], ◌∷◌, ◌++◌, Some, ◌≡◌, ◌≢◌, ◌<◌, ◌≤◌, ◌+◌, ◌==◌, if◌then◌else◌, inl, inr, map, take, length, get_or, slice_set, refl, sym, ap, ◌∙◌, arith, eq-eqb}
 use Rattle.std.specs.Prelude.{slice_get}
 use Rattle.std.specs.List.{range_with_len}
 use Rattle.std.proofs.lemmas.Bool.{cases_eq, ne_eqb}
@@ -48,6 +48,20 @@ positions_from-append s (y ∷ ys) x e =
           positions_other y (ys ++ x ∷ []) e unlike s ∙ rest ∙ ap (λ l. l ++ (if x == e then (s + suc (length ys)) ∷ [] else [])) (sym (positions_other y ys e unlike s))
     ]
 
+-- an owner stands at no more places than there are
+positions_from-few : (s : ℕ) (xs : List ℕ) (e : ℕ) → length (positions_from s xs e) ≤ length xs
+positions_from-few s [] e = omega arith
+positions_from-few s (x ∷ xs) e =
+    let rest : length (positions_from (s + 1) xs e) ≤ length xs = positions_from-few (s + 1) xs e in
+    elim (cases_eq x e) [
+      | inl same ↦
+          let here : length (positions_from s (x ∷ xs) e) ≡ suc (length (positions_from (s + 1) xs e)) = ap length (positions_same x xs e (eq-eqb x e same) s) in
+          omega (arith, here, rest)
+      | inr other ↦
+          let here : length (positions_from s (x ∷ xs) e) ≡ length (positions_from (s + 1) xs e) = ap length (positions_other x xs e (ne_eqb x e other) s) in
+          omega (arith, here, rest)
+    ]
+
 -- one more member
 pub positions-append : (xs : List ℕ) (x e : ℕ) → positions (xs ++ x ∷ []) e ≡ positions xs e ++ (if x == e then length xs ∷ [] else [])
 positions-append xs x e =
@@ -62,6 +76,13 @@ module _ (count n member : ℕ) (members : List ℕ) (groups : List (List ℕ)) 
 
   pub place_read : length (get_or groups member []) ≡ place_of members n
   place_read = ap length group_before ∙ ap (λ m. length (positions (take n members) m)) is
+
+  -- so a place fits the numbers that members have
+  pub place_few : length (get_or groups member []) ≤ n
+  place_few =
+      let few : length (positions (take n members) member) ≤ length (take n members) = positions_from-few 0 (take n members) member in
+      let size : length (take n members) ≡ n = length-take-le n members (omega arith) in
+      omega (arith, ap length group_before, few, size)
 
   -- a number is put at the end of its group
   pub grouped_more : (group : List ℕ) → group ≡ get_or groups member [] ++ n ∷ [] → slice_set groups member group ≡ map (positions (take (n + 1) members)) (below count)

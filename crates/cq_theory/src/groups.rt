@@ -9,8 +9,8 @@ use std::alloc::{AllocError, Global};
 /// For each owner the places at which it stands in a list, and for each place of the list how often its owner stands
 /// before it.
 pub struct Groups {
-    pub groups: Seq<Seq<usize>>,
-    pub places: Seq<usize>,
+    pub groups: Seq<Seq<u32>>,
+    pub places: Seq<u32>,
 }
 
 impl Drop for Groups {
@@ -23,17 +23,21 @@ impl Drop for Groups {
 }
 
 impl Groups {
-    /// The groups of a list of owners, each of which is below `count`.
+    /// The groups of a list of owners, each of which is below `count`. A place has 32 bits, so a list of 2^32 owners,
+    /// which has 16 GiB, is want of memory.
     pub fn new(alloc: Global, count: usize, owners: &[u32]) -> Result<Groups, AllocError>
         requires { All (λ owner. owner < count) owners.now }
         ensures { IfOk result (λ made. AreGroups owners.now count made) }
     {
+        if owners.len() > u32::MAX as usize {
+            return Err(AllocError);
+        }
         let mut groups = empty_groups(alloc, count)?;
         let mut places = Vec::new(alloc);
         for (number, owner) in owners.iter().enumerate() {
             let group = &mut groups[*owner as usize];
-            places.push(group.len())?;
-            group.push(number)?;
+            places.push(group.len() as u32)?;
+            group.push(number as u32)?;
         }
         Ok(Groups {
             groups: sealed(alloc, groups)?,
@@ -42,11 +46,11 @@ impl Groups {
     }
 
     /// The places at which an owner stands.
-    pub fn of(&self, owner: usize) -> &[usize]
+    pub fn of(&self, owner: u32) -> &[u32]
         requires { owner < length self.now.groups }
         ensures { slice_get self.now.groups owner ≡ Some result.now }
     {
-        self.groups.as_slice()[owner].as_slice()
+        self.groups.as_slice()[owner as usize].as_slice()
     }
 }
 

@@ -100,11 +100,11 @@ fn images_of(
     }
 }
 
-/// The rows of an entity, and none where there is no such entity.
-fn rows_at(rows: &[Seq<u32>], entity: usize) -> &[u32]
-    ensures { result.now ≡ slice_index_or rows.now entity [] }
+/// The rows at a place, and none past the end.
+fn rows_at(rows: &[Seq<u32>], place: usize) -> &[u32]
+    ensures { result.now ≡ slice_index_or rows.now place [] }
 {
-    match rows.get(entity) {
+    match rows.get(place) {
         Some(images) => images.as_slice(),
         None => &[],
     }

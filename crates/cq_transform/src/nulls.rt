@@ -34,15 +34,10 @@ fn value_in(alloc: Global, standings: &[Standing], generator: u32) -> Result<Val
 }
 
 /// The value of an attribute at a row, and a constant where there is none.
-fn cell_at(
-    alloc: Global,
-    target: &Instance,
-    attribute: usize,
-    row: u32,
-) -> Result<Value, AllocError>
+fn cell_at(alloc: Global, target: &Instance, attribute: u32, row: u32) -> Result<Value, AllocError>
     ensures { IfOk result (λ made. made ≡ cell_in target.now.tables attribute row) }
 {
-    match target.sheet().cells.as_slice().get(attribute) {
+    match target.sheet().cells.as_slice().get(attribute as usize) {
         Some(column) => match column.as_slice().get(row as usize) {
             Some(value) => copied(alloc, value),
             None => Ok(Value::Const(Con::Named(0))),
@@ -138,7 +133,7 @@ fn find_generators(
 fn find_cell(
     alloc: Global,
     target: &Instance,
-    attribute: usize,
+    attribute: u32,
     image: u32,
     cell: &Value,
     found: &mut Vec<Option<Value>>,
@@ -159,7 +154,7 @@ fn find_cell(
 fn find_column(
     alloc: Global,
     target: &Instance,
-    attribute: usize,
+    attribute: u32,
     images: &[u32],
     column: &[Value],
     found: &mut Vec<Option<Value>>,
@@ -178,20 +173,25 @@ fn find_column(
 }
 
 /// The entity from which an attribute goes.
-fn entity_of(source: &Instance, attribute: usize) -> u32
+fn entity_of(source: &Instance, attribute: u32) -> u32
     ensures { (edge : AnyEdge) → slice_get source.now.schema.attributes attribute ≡ Some edge → result ≡ edge.from }
 {
-    match source.schema().attributes.as_slice().get(attribute) {
+    match source
+        .schema()
+        .attributes
+        .as_slice()
+        .get(attribute as usize)
+    {
         Some(edge) => edge.from,
         None => 0,
     }
 }
 
 /// The column of an attribute, and none where there is no such attribute.
-fn column_at(source: &Instance, attribute: usize) -> &[Value]
+fn column_at(source: &Instance, attribute: u32) -> &[Value]
     ensures { result.now ≡ slice_index_or source.now.tables.sheet.cells attribute [] }
 {
-    match source.sheet().cells.as_slice().get(attribute) {
+    match source.sheet().cells.as_slice().get(attribute as usize) {
         Some(column) => column.as_slice(),
         None => &[],
     }
@@ -214,7 +214,7 @@ fn find_attribute(
     source: &Instance,
     target: &Instance,
     rows: &[Seq<u32>],
-    attribute: usize,
+    attribute: u32,
     found: &mut Vec<Option<Value>>,
 ) -> Result<(), AllocError>
     requires { attribute < length source.now.schema.attributes }
@@ -234,10 +234,12 @@ fn find_attribute(
 }
 
 /// How many attributes there are.
-fn attribute_count(source: &Instance) -> usize
+fn attribute_count(source: &Instance) -> u32
     ensures { result ≡ length source.now.schema.attributes }
 {
-    source.schema().attributes.len()
+    let schema = source.schema();
+    schema.is_well_sorted();
+    schema.attributes.len() as u32
 }
 
 /// Finds the values of the nulls in the cells of the source. `rows` has the row to which each row of each entity goes.

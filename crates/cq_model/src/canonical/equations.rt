@@ -134,7 +134,7 @@ fn push_row(
     alloc: Global,
     sheet: &Sheet,
     numbers: &Numbers,
-    entity: usize,
+    entity: u32,
     row: u32,
     made: &mut Vec<Equation>,
 ) -> Result<(), AllocError>
@@ -142,14 +142,14 @@ fn push_row(
     requires row { row < slice_index sheet.now.counts entity }
     ensures { OnOk result (made.new.items ≡ made.old.items ++ made_of.row_made sheet.now numbers.now entity row) }
 {
-    let generator = number_at(numbers.starts.as_slice(), entity) + row;
+    let generator = number_at(numbers.starts.as_slice(), entity as usize) + row;
     let at = Row {
         number: row,
         generator,
     };
-    let attributes = list_at(numbers.attributes.as_slice(), entity);
+    let attributes = list_at(numbers.attributes.as_slice(), entity as usize);
     push_cells(alloc, sheet, numbers, at, attributes, made)?;
-    let keys = list_at(numbers.keys.as_slice(), entity);
+    let keys = list_at(numbers.keys.as_slice(), entity as usize);
     push_keys(alloc, sheet, numbers, at, keys, made)?;
     Ok(())
 }
@@ -159,13 +159,13 @@ fn push_entity(
     alloc: Global,
     sheet: &Sheet,
     numbers: &Numbers,
-    entity: usize,
+    entity: u32,
     made: &mut Vec<Equation>,
 ) -> Result<(), AllocError>
     requires { made_of.HaveRoom sheet.now numbers.now }
     ensures { OnOk result (made.new.items ≡ made.old.items ++ made_of.entity_made sheet.now numbers.now entity) }
 {
-    let count = number_at(sheet.counts.as_slice(), entity);
+    let count = number_at(sheet.counts.as_slice(), entity as usize);
     for row in 0..count {
         push_row(alloc, sheet, numbers, entity, row, made)?;
     }
@@ -179,10 +179,11 @@ fn push_rows(
     numbers: &Numbers,
     made: &mut Vec<Equation>,
 ) -> Result<(), AllocError>
-    requires { made_of.HaveRoom sheet.now numbers.now }
+    requires room { made_of.HaveRoom sheet.now numbers.now }
+    requires entities { length sheet.now.counts < 2 ^ 32 }
     ensures { OnOk result (made.new.items ≡ made.old.items ++ made_of.rows_made sheet.now numbers.now) }
 {
-    for entity in 0..sheet.counts.len() {
+    for entity in 0..sheet.counts.len() as u32 {
         push_entity(alloc, sheet, numbers, entity, made)?;
     }
     Ok(())
@@ -195,7 +196,8 @@ pub(crate) fn build_equations(
     numbers: &Numbers,
     entries: &[Entry],
 ) -> Result<Vec<Equation>, AllocError>
-    requires { made_of.HaveRoom sheet.now numbers.now }
+    requires room { made_of.HaveRoom sheet.now numbers.now }
+    requires entities { length sheet.now.counts < 2 ^ 32 }
     ensures { IfOk result (λ made. made.items ≡ made_of.equations sheet.now numbers.now entries.now) }
 {
     let mut equations = Vec::new(alloc);

@@ -26,12 +26,11 @@ fn push_row_sorts(entity: u32, count: u32, made: &mut Vec<Sort>) -> Result<(), A
 }
 
 /// Appends the sorts of an entity's rows.
-fn push_entity_sorts(counts: &[u32], entity: usize, made: &mut Vec<Sort>) -> Result<(), AllocError>
-    requires { entity < 2 ^ 32 }
+fn push_entity_sorts(counts: &[u32], entity: u32, made: &mut Vec<Sort>) -> Result<(), AllocError>
     ensures { OnOk result (made.new.items ≡ made.old.items ++ made_of.row_sorts counts.now entity) }
 {
-    let count = number_at(counts, entity);
-    push_row_sorts(entity as u32, count, made)
+    let count = number_at(counts, entity as usize);
+    push_row_sorts(entity, count, made)
 }
 
 /// Appends the sorts of all rows.
@@ -40,7 +39,7 @@ fn push_all_sorts(counts: &[u32], made: &mut Vec<Sort>) -> Result<(), AllocError
     ensures { OnOk result (made.new.items ≡ made.old.items
         ++ flat_map (made_of.row_sorts counts.now) (below (length counts.now))) }
 {
-    for entity in 0..counts.len() {
+    for entity in 0..counts.len() as u32 {
         push_entity_sorts(counts, entity, made)?;
     }
     Ok(())

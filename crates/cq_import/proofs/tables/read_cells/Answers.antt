@@ -6,6 +6,9 @@ use Rattle.cq_import.proofs.CellLists.{AreReading, entities_left, entities_end, 
 use Rattle.cq_import.proofs.Faulty.{refuses_same}
 use Rattle.cq_import.proofs.tables.read_cells.Goals as goal
 
+pub overflow_cast-entity-end : goal.overflow_cast-entity-end
+overflow_cast-entity-end c = omega (arith, c.requires.context.files, c.is_well_sorted.ensures.entity_numbers)
+
 pub loop-entity-init : goal.loop-entity-init
 loop-entity-init c =
     let context = c.args.context.now in

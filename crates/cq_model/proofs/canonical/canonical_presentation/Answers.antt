@@ -53,7 +53,11 @@ build_equations-requires c =
     let nulls_are : length c.as_slice-nulls.result.now ≡ length M.algebra.nulls = ap length c.as_slice-nulls.ensures in
     let numbers_are : c.in_ok-numbers.numbers ≡ made.numbers_of (length S.entities) S.keys S.attributes M.sheet.counts (length M.algebra.nulls) =
     c.in_ok-numbers.ensures ∙ (λ i. made.numbers_of (entities i) (keys_are i) (attributes_are i) (c.as_slice-counts.ensures i) (nulls_are i)) in
-    subst (made.HaveRoom c.args.sheet.now) (sym numbers_are) (canonical.room S M schema c.requires.model.well_formed c.requires.few)
+    let well = c.requires.model.well_formed in
+    record {
+      room = subst (made.HaveRoom c.args.sheet.now) (sym numbers_are) (canonical.room S M schema well c.requires.few);
+      entities = omega (arith, well.entities, schema.entity_numbers);
+    }
 
 pub returns : goal.returns
 returns c =

@@ -1,8 +1,8 @@
-use Rattle.std.proofs.Common.{ℕ, List, [], ◌∷◌, ◌++◌, ◌≡◌, ◌<◌, map, length, get_or, refl, sym, ap, ◌∙◌, arith}
+use Rattle.std.proofs.Common.{ℕ, List, [], ◌∷◌, ◌++◌, ◌≡◌, ◌<◌, ◌≤◌, map, length, get_or, refl, sym, ap, ◌∙◌, arith}
 use Rattle.std.proofs.lemmas.List.{map-set, length-map, get_or-map}
 use Rattle.std.proofs.lemmas.List.FromFn.{length-map-range_with_len, map-range_with_len_more}
 use Rattle.cq_theory.specs.Groups.{place_of}
-use Rattle.cq_theory.proofs.Grouped.{grouped_more, place_read}
+use Rattle.cq_theory.proofs.Grouped.{grouped_more, place_few, place_read}
 use Rattle.cq_theory.proofs.groups.Groups.new.Goals as goal
 
 pub index_mut-group-requires : goal.index_mut-group-requires
@@ -10,6 +10,21 @@ index_mut-group-requires c =
     let size : length c.loop-number.groups.items ≡ c.args.count =
     sym (length-map c.loop-number.groups.items (λ group. group.items)) ∙ ap length c.loop-number.invariant.0 ∙ length-map-range_with_len _ 0 c.args.count in
     omega (arith, c.requires c.loop-number.number 0 c.loop-number-test.true, c.loop-number.groups.ok.0)
+
+pub overflow_cast-len : goal.overflow_cast-len
+overflow_cast-len c =
+    let n : ℕ = c.loop-number.number in
+    let members : List ℕ = c.args.owners.now in
+    let member : ℕ = get_or members n 0 in
+    let within : member < c.args.count = c.requires n 0 c.loop-number-test.true in
+    let size : length c.loop-number.groups.items ≡ c.args.count =
+    sym (length-map c.loop-number.groups.items (λ group. group.items)) ∙ ap length c.loop-number.invariant.0 ∙ length-map-range_with_len _ 0 c.args.count in
+    let old_group : c.index_mut-group.result.now.items ≡ get_or (map (λ group. group.items) c.loop-number.groups.items) member [] =
+    ap (λ group. group.items) c.index_mut-group.ensures.value
+    ∙ sym (get_or-map (λ group. group.items) c.loop-number.groups.items member c.index_mut-group.result.now [] (omega arith)) in
+    let few : length (get_or (map (λ group. group.items) c.loop-number.groups.items) member []) ≤ n =
+    place_few c.args.count n member members (map (λ group. group.items) c.loop-number.groups.items) c.loop-number.invariant.0 c.loop-number-test.true refl within in
+    omega (arith, c.len.ensures, c.index_mut-group.result.now.ok.0, ap length old_group, few, c.loop-number-test.true, c.if-owners.false)
 
 pub loop-number-preserved : goal.loop-number-preserved
 loop-number-preserved c =
