@@ -1,5 +1,5 @@
 -- One row for each generator of an entity.
-use Rattle.std.proofs.Common.{◌≡◌, ◌≢◌, ℕ, ◌+◌, ◌<◌, true, List, [], ◌∷◌, ◌++◌, length, get_or, Some, None, cond, eqb, refl, sym, ◌∙◌, ap, arith, map, ⊎_elim, length-append}
+use Rattle.std.proofs.Common.{◌≡◌, ◌≢◌, ℕ, ◌+◌, ◌<◌, true, List, [], ◌∷◌, ◌++◌, length, get_or, Some, None, cond, eqb, refl, sym, ◌∙◌, ap, subst, arith, map, ⊎_elim, length-append}
 use Rattle.std.proofs.lemmas.Bool.{cases_eq, eq-eqb, ne_eqb}
 use Rattle.std.proofs.lemmas.List.{get_or_append_left, get_or_push}
 use Rattle.std.proofs.lemmas.Option.{same_Some, none-some}
@@ -171,3 +171,7 @@ no_entity (Entity n) h = absurd (h n refl)
 
 pub found_type : (xs : List (Name × Sort)) (ys : List (Name × Sort)) (i : ℕ) (x : Name × Sort) → xs ≡ ys → i < length xs → x ≡ get_or xs i x → ((e : ℕ) → x.1 ≡ Entity e → ⊥) → slice_get (map generator_entity ys) i ≡ Some None
 found_type xs ys i x same l is other = rw (← same) (read_mapped generator_entity xs i x l is ∙ ap (λ y. Some y) (no_entity x.1 other))
+
+-- all generators have been read
+pub HasRows-all : (s : Theory) (m : Content) (rows : List ℕ) (n : ℕ) → HasRows s m rows n → n ≡ length s.generators → HasRows s m rows (length s.generators)
+HasRows-all s m rows n h q = subst (λ (k : ℕ). HasRows s m rows k) q h

@@ -1,6 +1,8 @@
-use Rattle.std.proofs.Common.{refl, ◌∙◌, arith}
+use Rattle.std.proofs.Common.{refl, ◌∙◌, ap, length, arith}
+use Rattle.std.proofs.lemmas.List.{length-map}
+use Rattle.cq_rows.specs.Plain.{generator_entity}
 use Rattle.cq_rows.specs.Origin.{theory_at}
-use Rattle.cq_rows.proofs.Beginning.{HasRows-none, HasRows-more, HasRows-other, found_entity, found_type}
+use Rattle.cq_rows.proofs.Beginning.{HasRows-none, HasRows-more, HasRows-other, HasRows-all, found_entity, found_type}
 use Rattle.cq_rows.proofs.grow.begin.Goals as goal
 
 pub loop-generator-init : goal.loop-generator-init
@@ -33,3 +35,11 @@ loop-generator-preserved c =
       rows = rw c.in_ok-push-2.ensures.items (HasRows-more s c.loop-generator.tables c.add_row.new.self c.loop-generator.entries.items c.loop-generator.generator-index c.in-Entity.entity c.in_ok-row.row c.loop-generator.invariant.rows c.in_ok-row.ensures.ok c.in_ok-row.ensures.whole found);
       some = λ _. (c.loop-generator.generator-index, c.in-Entity.entity, found);
     }
+
+pub returns-clause-begun : goal.returns-clause-begun
+returns-clause-begun c =
+    HasRows-all (theory_at c.args.origin.now) c.loop-generator.tables c.loop-generator.entries.items c.loop-generator.generator-index c.loop-generator.invariant.rows
+    (omega (arith, length-map c.args.origin.now.presentation.now.generators generator_entity, ap length c.as_slice-generator-items.ensures, c.loop-generator.auto.generator-index-end, c.loop-generator-test.false))
+
+pub returns-clause-some : goal.returns-clause-some
+returns-clause-some c = c.loop-generator.invariant.some
