@@ -18,8 +18,14 @@ pub fn try_case(
     let files = files_of(alloc, entry)?;
     let words = words_of(alloc, entry.words())?;
     let came = outcome(alloc, words.as_slice(), files)?;
-    let told = format!(in alloc; "{}\n{}{}", part.name, part.lines, part.end())?;
+    let told = told_by(alloc, part.name, part)?;
     tally.add(alloc, entry.title(), told.as_str(), came.as_str())
+}
+
+/// What a part tells of a run with this status.
+pub fn told_by(alloc: Global, status: &str, part: Part<'_>) -> Result<String, AllocError> {
+    let lines = part.written(alloc)?;
+    format!(in alloc; "{status}\n{lines}")
 }
 
 /// The words of a line.
@@ -47,13 +53,13 @@ fn files_of(alloc: Global, entry: Entry<'_>) -> Result<Vec<(String, Vec<u8>)>, A
 
 /// The head of an entry with its text.
 fn program(alloc: Global, entry: Entry<'_>) -> Result<String, AllocError> {
-    let text = entry.part("text");
-    format!(in alloc; "{}{}{}", entry.head, text.lines, text.end())
+    let text = entry.part("text").written(alloc)?;
+    format!(in alloc; "{}{text}", entry.head)
 }
 
 /// A file that a part gives.
 fn further_file(alloc: Global, part: Part<'_>) -> Result<(String, Vec<u8>), AllocError> {
-    let content = format!(in alloc; "{}{}", part.lines, part.end())?;
+    let content = part.written(alloc)?;
     let name = match part.rest.strip_suffix(" not ended") {
         Some(name) => name,
         None => part.rest,

@@ -24,6 +24,10 @@
 //! - `-- rows`: texts, each in a line (see `rows`);
 //! - `-- programs`: texts that are read as programs, each in a line (see `programs`);
 //! - `-- questions`: questions, each in a line (see `questions`).
+//!
+//! In the lines of heads, texts, files and statuses, and in each row, `~3~x~` stands for `xxx` (see `repeated`).
+use crate::repeated::written_out;
+use std::alloc::{AllocError, Global};
 
 /// The words of a case that doesn't say its own.
 const USUAL: &str = "run p.cql";
@@ -45,8 +49,14 @@ impl<'a> Part<'a> {
         Part { name, rest, lines }
     }
 
+    /// The lines written out, with the last end of line.
+    pub fn written(self, alloc: Global) -> Result<String, AllocError> {
+        let lines = format!(in alloc; "{}{}", self.lines, self.end())?;
+        written_out(alloc, lines.as_str())
+    }
+
     /// The end of the last line.
-    pub fn end(self) -> &'static str {
+    fn end(self) -> &'static str {
         if self.lines.is_empty() || self.rest.ends_with("not ended") {
             ""
         } else {

@@ -32,7 +32,7 @@ fn head_of(alloc: Global, text: &str, before: String) -> Result<String, AllocErr
     if head.name.is_empty() {
         Ok(before)
     } else {
-        format!(in alloc; "{}{}", head.lines, head.end())
+        head.written(alloc)
     }
 }
 

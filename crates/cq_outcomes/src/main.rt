@@ -9,6 +9,7 @@ mod examples;
 mod judge;
 mod programs;
 mod questions;
+mod repeated;
 mod rows;
 mod tally;
 

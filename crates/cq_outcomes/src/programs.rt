@@ -3,6 +3,7 @@
 //!     -- programs
 //!     options prover = auto timeout = "5"
 use crate::entry::Part;
+use crate::repeated::written_out;
 use crate::tally::Tally;
 use cq_lex::lex;
 use cq_parse::parse;
@@ -13,15 +14,21 @@ const PROGRAM: &str = "a program";
 
 /// Tries each text of a part.
 pub fn try_programs(alloc: Global, part: Part<'_>, tally: &mut Tally) -> Result<(), AllocError> {
-    for text in part.lines.lines() {
-        let came = if is_program(alloc, text) {
-            PROGRAM
-        } else {
-            "no program"
-        };
-        tally.add(alloc, text, PROGRAM, came)?;
+    for row in part.lines.lines() {
+        try_program(alloc, row, tally)?;
     }
     Ok(())
+}
+
+/// Tries a text.
+fn try_program(alloc: Global, row: &str, tally: &mut Tally) -> Result<(), AllocError> {
+    let text = written_out(alloc, row)?;
+    let came = if is_program(alloc, text.as_str()) {
+        PROGRAM
+    } else {
+        "no program"
+    };
+    tally.add(alloc, row, PROGRAM, came)
 }
 
 /// Whether a text is read as a program.

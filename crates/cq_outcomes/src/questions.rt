@@ -5,8 +5,11 @@
 //!     -- questions
 //!     I; a; b => different 1 2
 //!     J; a; b => refused 1:1 37 NoInstance
+//!
+//! A part `-- leaf zero` in front of them says what `$` is a sum of, as it does for `rows`.
 use crate::case::{file, outcome};
 use crate::entry::{Entry, Part, cut};
+use crate::repeated::filled;
 use crate::tally::Tally;
 use std::alloc::{AllocError, Global};
 
@@ -31,24 +34,36 @@ fn try_question(
     tally: &mut Tally,
 ) -> Result<(), AllocError> {
     let (question, answer) = cut(row, " => ");
+    let told = told_by(alloc, entry, answer)?;
+    let came = answer_to(alloc, entry, question)?;
+    tally.add(alloc, row, told.as_str(), came.as_str())
+}
+
+/// What an answer tells, with its status.
+fn told_by(alloc: Global, entry: Entry<'_>, answer: &str) -> Result<String, AllocError> {
     let status = if answer.starts_with("refused ") {
         "refused"
     } else {
         "ok"
     };
-    let told = format!(in alloc; "{status}\n{answer}\n")?;
-    let came = answer_to(alloc, entry, question)?;
-    tally.add(alloc, row, told.as_str(), came.as_str())
+    let answer = filled(alloc, answer, entry.part("leaf").rest)?;
+    format!(in alloc; "{status}\n{answer}\n")
 }
 
 /// What is answered to a question.
 fn answer_to(alloc: Global, entry: Entry<'_>, question: &str) -> Result<String, AllocError> {
-    let (instance, terms) = cut(question, "; ");
-    let (left, right) = cut(terms, "; ");
-    let words = words(alloc, &["explain", "p.cql", instance, left, right])?;
+    let question = filled(alloc, question, entry.part("leaf").rest)?;
+    let words = asking(alloc, question.as_str())?;
     let mut files = Vec::new(alloc);
     files.push(file(alloc, "p.cql", entry.head)?)?;
     outcome(alloc, words.as_slice(), files)
+}
+
+/// The words that ask a question.
+fn asking(alloc: Global, question: &str) -> Result<Vec<String>, AllocError> {
+    let (instance, terms) = cut(question, "; ");
+    let (left, right) = cut(terms, "; ");
+    words(alloc, &["explain", "p.cql", instance, left, right])
 }
 
 /// These words, of which some may be empty or have blanks.

@@ -12,9 +12,10 @@
 //! Parts of the same entry, in front of the rows, say more:
 //! - `-- front mapping F = literal :`: what each text begins with, and a blank behind it;
 //! - `-- listed`: what is written of each text that is accepted;
-//! - `-- leaf zero`: a term: `$` in a text stands for the sum of 256 of these, a term of 255 symbols besides.
-use crate::case::{file, outcome, words_of};
+//! - `-- leaf zero`: a term: `$` in a text stands for the sum of 256 of these (see `repeated`).
+use crate::case::{file, outcome, told_by, words_of};
 use crate::entry::{Entry, Part, cut};
+use crate::repeated::filled;
 use crate::tally::Tally;
 use std::alloc::{AllocError, Global};
 
@@ -72,8 +73,7 @@ fn wanted(
     column: usize,
 ) -> Result<String, AllocError> {
     if told.is_empty() {
-        let listed = entry.part("listed");
-        return format!(in alloc; "ok\n{}{}", listed.lines, listed.end());
+        return told_by(alloc, "ok", entry.part("listed"));
     }
     let line = entry.head.lines().count().saturating_add(1);
     format!(in alloc; "refused\nrefused {line}:{column} {told}\n")
@@ -87,24 +87,4 @@ fn came(alloc: Global, entry: Entry<'_>, front: &str, text: &str) -> Result<Stri
     files.push(file(alloc, "p.cql", text.as_str())?)?;
     let words = words_of(alloc, entry.words())?;
     outcome(alloc, words.as_slice(), files)
-}
-
-/// A text with a sum of leaves in the place of its first `$`.
-fn filled(alloc: Global, text: &str, leaf: &str) -> Result<String, AllocError> {
-    match text.split_once("$") {
-        Some((before, behind)) => {
-            let sum = sum(alloc, leaf, 8)?;
-            format!(in alloc; "{before}{sum}{behind}")
-        }
-        None => String::from_str(alloc, text),
-    }
-}
-
-/// The sum of so many leaves as two is multiplied with itself so often.
-fn sum(alloc: Global, leaf: &str, times: usize) -> Result<String, AllocError> {
-    let mut term = String::from_str(alloc, leaf)?;
-    for _time in 0..times {
-        term = format!(in alloc; "plus({term}, {term})")?;
-    }
-    Ok(term)
 }

@@ -1,5 +1,5 @@
-//! Files that are cut, and words, terms and rows at their limits and past them.
-use crate::tests::{RUN, ends, folder, run, words};
+//! Files that are cut, and rows at their limit and past it.
+use crate::tests::{RUN, folder, run, words};
 use cq_io::MemSink;
 use cq_run::Status;
 use std::alloc::{AllocError, Global};
@@ -46,53 +46,6 @@ fn each_beginning_of_a_file(rt: HostRuntime) -> Result<(), Fail> {
             assert!(rt; is_judged(alloc, text)?, "{length}");
         }
     }
-    Ok(())
-}
-
-#[test]
-fn a_word_past_its_limit(rt: HostRuntime) -> Result<(), Fail> {
-    let alloc = rt.alloc();
-    let mut text = String::from_str(alloc, "typeside ")?;
-    for _letter in 0..256 {
-        text.push_str("a")?;
-    }
-    let mut folder = folder(alloc, text.as_str(), &[])?;
-    assert!(rt;
-        ends(
-            alloc,
-            RUN,
-            &mut folder,
-            100,
-            Status::Refused,
-            "refused 1:10 14 LongName\n"
-        )?
-    );
-    Ok(())
-}
-
-/// A file whose one equation has a left side of this many functions above a constant.
-fn deep(alloc: Global, functions: usize) -> Result<String, AllocError> {
-    let mut term = String::from_str(alloc, "Al")?;
-    for _function in 0..functions {
-        term = format!(in alloc; "h({term})")?;
-    }
-    format!(in alloc;
-        "typeside T = literal {{ types s constants Al : s functions h : s -> s }}
-schema S = literal : T {{ }}
-instance I = literal : S {{ equations {term} = Al }}"
-    )
-}
-
-#[test]
-fn a_term_of_64_levels_and_one_of_65(rt: HostRuntime) -> Result<(), Fail> {
-    let alloc = rt.alloc();
-    let (status, out) = outcome(alloc, deep(alloc, 63)?.as_str(), 10000)?;
-    assert_eq!(rt; status, Status::Ok);
-    assert!(rt; out.bytes().starts_with(b"instance I : S\nnulls 62\n?0 s\n"));
-    assert!(rt; out.bytes().ends_with(b"\nh(?61) = Al\nend\n"));
-    let (status, out) = outcome(alloc, deep(alloc, 64)?.as_str(), 10000)?;
-    assert_eq!(rt; status, Status::Refused);
-    assert!(rt; out.bytes() == b"refused 3:166 22 TooDeep\n".as_slice());
     Ok(())
 }
 

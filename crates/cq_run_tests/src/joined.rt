@@ -1,43 +1,8 @@
-//! Joined schemas and names at their limits and past them.
+//! A joined schema at its limit and past it.
 use crate::tests::{RUN, ends, folder};
 use cq_run::Status;
 use std::alloc::{AllocError, Global};
 use std::test::Fail;
-
-/// A typeside and three schemas, which stand in front of the joined one.
-const HEAD: &str =
-    "typeside T = literal { types s n constants Al Bob : s zero : n functions h : s -> s }
-schema A = literal : T { entities X attributes n1 : X -> s }
-schema B = literal : T { entities Y }
-schema C = literal : T { entities Z foreign_keys k : Z -> Z path_equations k = Z }
-";
-
-/// A colimit of a schema and one with an entity of so many letters, and an added equation without a meaning.
-fn lengthy(alloc: Global, letters: usize) -> Result<String, AllocError> {
-    let mut entity = String::new(alloc);
-    for _letter in 0..letters {
-        entity.push('e')?;
-    }
-    format!(in alloc;
-        "{HEAD}schema P = literal : T {{ entities {entity} }}
-schema_colimit D = quotient A + P : T {{ path_equations Q = A_X }}
-"
-    )
-}
-
-#[test]
-fn a_joined_name_at_the_limit_and_past_it(rt: HostRuntime) -> Result<(), Fail> {
-    let alloc = rt.alloc();
-    for (letters, written) in [
-        (253, "refused 6:56 42 Unknown\n"),
-        (254, "refused 6:1 72 LongName 2\n"),
-    ] {
-        let text = lengthy(alloc, letters)?;
-        let mut folder = folder(alloc, text.as_str(), &[])?;
-        assert!(rt; ends(alloc, RUN, &mut folder, 100, Status::Refused, written)?);
-    }
-    Ok(())
-}
 
 /// A schema of 15,625 entities, and a joined schema that has them once.
 fn many(alloc: Global) -> Result<String, AllocError> {

@@ -20,10 +20,8 @@ mod limits;
 #[cfg(test)]
 mod moves;
 #[cfg(test)]
-mod open_types;
-#[cfg(test)]
-mod programs;
-#[cfg(test)]
 mod questions;
+#[cfg(test)]
+mod terms;
 #[cfg(test)]
 mod tests;

@@ -1,7 +1,7 @@
 //! Questions about the instances of a program, and what is answered.
 use crate::devices::{both, devices_with};
 use crate::exporting::{are_of, have};
-use crate::tests::{ends, folder, run, words};
+use crate::tests::{folder, run, words};
 use cq_io::{Format, MemSink};
 use cq_run::Status;
 use std::alloc::{AllocError, Global};
@@ -13,8 +13,8 @@ schema S = literal : T { entities E attributes x : E -> s }
 instance I = literal : S { generators a b : E }
 ";
 
-/// A foreign key for long paths, and a function for large terms.
-const LARGE: &str = "typeside T = literal { types n constants one : n functions plus : n, n -> n }
+/// An instance whose foreign key is not decided at depth 0.
+const DEEP: &str = "typeside T = literal { types n constants one : n functions plus : n, n -> n }
 schema S = literal : T { entities E foreign_keys f : E -> E path_equations f.f = f attributes x : E -> n }
 instance I = literal : S { generators a : E }
 ";
@@ -33,70 +33,6 @@ fn cut<'a>(row: &'a str, mark: &str) -> (&'a str, &'a str) {
         Some(halves) => halves,
         None => (row, ""),
     }
-}
-
-/// A term of as many symbols as two is multiplied with itself so often, less one.
-fn sum(alloc: Global, times: usize) -> Result<String, AllocError> {
-    let mut term = String::from_str(alloc, "one")?;
-    for _time in 1..times {
-        term = format!(in alloc; "plus({term}, {term})")?;
-    }
-    Ok(term)
-}
-
-/// Whether the question whether a term is one is answered so, by the program of large terms.
-fn is_told(alloc: Global, term: &str, status: Status, written: &str) -> Result<bool, AllocError> {
-    let mut folder = folder(alloc, LARGE, &[])?;
-    let line = ["explain", "p.cql", "I", "one", term];
-    ends(alloc, &line, &mut folder, 20000, status, written)
-}
-
-/// What is told of a term past a limit.
-const BAD: &str = "refused 1:1 38 BadTerm\n";
-
-/// 1,023 symbols.
-#[test]
-fn a_sum_at_the_limit(rt: HostRuntime) -> Result<(), Fail> {
-    let alloc = rt.alloc();
-    let sum = sum(alloc, 10)?;
-    let written = format!(in alloc; "different one {sum}\n")?;
-    assert!(rt; is_told(alloc, &sum, Status::Ok, &written)?);
-    Ok(())
-}
-
-/// 1,025 symbols.
-#[test]
-fn a_sum_past_the_limit(rt: HostRuntime) -> Result<(), Fail> {
-    let alloc = rt.alloc();
-    let sum = sum(alloc, 10)?;
-    let larger = format!(in alloc; "plus({sum}, one)")?;
-    assert!(rt; is_told(alloc, &larger, Status::Refused, BAD)?);
-    Ok(())
-}
-
-/// A text with a piece of it so many times behind its front, and its end: of 64 levels and of 65, and of 8 MiB and of
-/// a byte more.
-static LONG: [(&str, (&str, usize), &str, Status, &str); 4] = [
-    ("a", (".f", 62), ".x", Status::Ok, "different one ?1\n"),
-    ("a", (".f", 63), ".x", Status::Refused, BAD),
-    ("a.x", (" ", 8388605), "", Status::Ok, "different one ?0\n"),
-    ("a.x", (" ", 8388606), "", Status::Refused, BAD),
-];
-
-/// A text with a piece so many times between its ends.
-fn long(alloc: Global, front: &str, piece: (&str, usize), end: &str) -> Result<String, AllocError> {
-    let pieces = piece.0.repeat(alloc, piece.1)?;
-    format!(in alloc; "{front}{pieces}{end}")
-}
-
-#[test]
-fn terms_at_their_limits(rt: HostRuntime) -> Result<(), Fail> {
-    let alloc = rt.alloc();
-    for (front, piece, end, status, written) in &LONG {
-        let term = long(alloc, front, *piece, end)?;
-        assert!(rt; is_told(alloc, &term, *status, written)?, "{written}");
-    }
-    Ok(())
 }
 
 /// Whether the sides of a row are equal by a list of steps with a rule, whose last step has these sides.
@@ -163,7 +99,7 @@ static ASKED: [Asked; 10] = [
     },
     Asked {
         words: &["explain", "--depth", "0", "p.cql", "I", "a", "a"],
-        text: LARGE,
+        text: DEEP,
         room: 100,
         status: Status::Refused,
         written: "refused 3:1 61 Depth\n",
