@@ -1,5 +1,5 @@
 mod Loops
+mod Alternatives
 mod Links
 mod Items
 mod Raws
-mod InstanceForms

@@ -1,10 +1,14 @@
 //! Declarations.
 ghost use Rattle.std.specs.Prelude.{◌≡◌};
+ghost use Rattle.cq_rules.specs.Outcome.{first_place, mapped};
 ghost use Rattle.cq_rules.specs.Rule.{read};
 ghost use Rattle.cq_syntax.specs.Expressions.{declared};
+ghost use Rattle.cq_syntax.specs.declared.program.Body.TheVariants as bodies;
+ghost use Rattle.cq_syntax.specs.declared.program.Body.{Body};
 ghost use Rattle.cq_syntax.specs.Grammar as grammar;
 ghost use Rattle.cq_productions.specs.Decided as decided;
 ghost use Rattle.cq_productions.specs.Gives.{Gives};
+ghost use Rattle.cq_productions.specs.Parts.{declared_by, operation};
 
 use crate::colimit::ColimitRule;
 use crate::cursor::Cursor;
@@ -15,14 +19,32 @@ use crate::mapping::MappingRule;
 use crate::names::SpotRule;
 use crate::query::QueryRule;
 use crate::schema::SchemaRule;
+use crate::sequence::around;
 use crate::step::{is_next, place_of, skip};
 use crate::transform::TransformRule;
 use crate::typeside::TypesideRule;
 use crate::words::OperationWords;
 use cq_base::Place;
 use cq_rules::Class;
-use cq_syntax::{Body, Decl, Spot};
+use cq_syntax::{
+    Body, ColimitLit, Decl, InstanceExp, MappingExp, QueryLit, SchemaExp, Spot, TransformExp,
+    TypesideLit,
+};
 use std::alloc::Global;
+use std::marker::PhantomData;
+
+/// What is declared, where operations that are left out are refused as such.
+pub struct OperationRule<P>(PhantomData<P>);
+
+impl<P: Production> Production for OperationRule<P> {
+    type Tree = P::Tree;
+
+    ghost rule = { operation P.rule };
+
+    fn read<'a>(alloc: Global, at: Cursor<'a>) -> Result<(P::Tree, Cursor<'a>), Halt<'a>> {
+        or_left_out::<OperationWords, P>(alloc, at)
+    }
+}
 
 /// A declaration's word, its name, `=`, and what it declares.
 fn kind<'a, P: Production>(
@@ -33,10 +55,7 @@ fn kind<'a, P: Production>(
     ensures { Gives result (read (grammar.kind word P.rule) at.entry.tokens.now) }
 {
     let rest = skip(at, word)?;
-    let (name, rest) = SpotRule::read(alloc, rest)?;
-    let rest = skip(rest, Class::Equals)?;
-    let (tree, rest) = or_left_out::<OperationWords, P>(alloc, rest)?;
-    Ok(((name, tree), rest))
+    around::<SpotRule, OperationRule<P>>(alloc, Class::Equals, rest)
 }
 
 fn declared(place: Place, name: Spot, body: Body) -> Decl
@@ -54,6 +73,85 @@ fn declared(place: Place, name: Spot, body: Body) -> Decl
     }
 }
 
+/// What a declaration may declare.
+trait Declarable: Production {
+    ghost body_of: { Self.Tree → Body };
+
+    /// The body of a declaration of it.
+    fn body(tree: Self::Tree) -> Body
+        ensures { result ≡ body_of tree };
+}
+
+impl Declarable for TypesideRule {
+    ghost body_of = { bodies.Typeside };
+
+    fn body(tree: TypesideLit) -> Body {
+        Body::Typeside(tree)
+    }
+}
+
+impl Declarable for SchemaRule {
+    ghost body_of = { bodies.Schema };
+
+    fn body(tree: SchemaExp) -> Body {
+        Body::Schema(tree)
+    }
+}
+
+impl Declarable for ColimitRule {
+    ghost body_of = { bodies.Colimit };
+
+    fn body(tree: ColimitLit) -> Body {
+        Body::Colimit(tree)
+    }
+}
+
+impl Declarable for MappingRule {
+    ghost body_of = { bodies.Mapping };
+
+    fn body(tree: MappingExp) -> Body {
+        Body::Mapping(tree)
+    }
+}
+
+impl Declarable for QueryRule {
+    ghost body_of = { bodies.Query };
+
+    fn body(tree: QueryLit) -> Body {
+        Body::Query(tree)
+    }
+}
+
+impl Declarable for InstanceRule {
+    ghost body_of = { bodies.Instance };
+
+    fn body(tree: InstanceExp) -> Body {
+        Body::Instance(tree)
+    }
+}
+
+impl Declarable for TransformRule {
+    ghost body_of = { bodies.Transform };
+
+    fn body(tree: TransformExp) -> Body {
+        Body::Transform(tree)
+    }
+}
+
+/// A declaration that begins with this word.
+fn declaration<'a, D: Declarable>(
+    alloc: Global,
+    word: Class,
+    at: Cursor<'a>,
+) -> Result<(Decl, Cursor<'a>), Halt<'a>>
+    ensures { Gives result (mapped (declared_by D.body_of (first_place at.entry.tokens.now))
+        (read (grammar.kind word D.rule) at.entry.tokens.now)) }
+{
+    let place = place_of(at);
+    let ((name, tree), rest) = kind::<D>(alloc, word, at)?;
+    Ok((declared(place, name, D::body(tree)), rest))
+}
+
 /// A declaration.
 pub struct DeclarationRule;
 
@@ -62,35 +160,26 @@ impl Production for DeclarationRule {
 
     ghost rule = { grammar.declaration };
 
-    #[tactic(auto, unfolding(cq_syntax::specs::Grammar::declaration))]
     fn read<'a>(alloc: Global, at: Cursor<'a>) -> Result<(Decl, Cursor<'a>), Halt<'a>> {
-        let place = place_of(at);
         if is_next(at, Class::Typeside) {
-            let ((name, tree), rest) = kind::<TypesideRule>(alloc, Class::Typeside, at)?;
-            return Ok((declared(place, name, Body::Typeside(tree)), rest));
+            return declaration::<TypesideRule>(alloc, Class::Typeside, at);
         }
         if is_next(at, Class::Schema) {
-            let ((name, tree), rest) = kind::<SchemaRule>(alloc, Class::Schema, at)?;
-            return Ok((declared(place, name, Body::Schema(tree)), rest));
+            return declaration::<SchemaRule>(alloc, Class::Schema, at);
         }
         if is_next(at, Class::SchemaColimit) {
-            let ((name, tree), rest) = kind::<ColimitRule>(alloc, Class::SchemaColimit, at)?;
-            return Ok((declared(place, name, Body::Colimit(tree)), rest));
+            return declaration::<ColimitRule>(alloc, Class::SchemaColimit, at);
         }
         if is_next(at, Class::Mapping) {
-            let ((name, tree), rest) = kind::<MappingRule>(alloc, Class::Mapping, at)?;
-            return Ok((declared(place, name, Body::Mapping(tree)), rest));
+            return declaration::<MappingRule>(alloc, Class::Mapping, at);
         }
         if is_next(at, Class::Query) {
-            let ((name, tree), rest) = kind::<QueryRule>(alloc, Class::Query, at)?;
-            return Ok((declared(place, name, Body::Query(tree)), rest));
+            return declaration::<QueryRule>(alloc, Class::Query, at);
         }
         if is_next(at, Class::Instance) {
-            let ((name, tree), rest) = kind::<InstanceRule>(alloc, Class::Instance, at)?;
-            return Ok((declared(place, name, Body::Instance(tree)), rest));
+            return declaration::<InstanceRule>(alloc, Class::Instance, at);
         }
-        let ((name, tree), rest) = kind::<TransformRule>(alloc, Class::Transform, at)?;
-        Ok((declared(place, name, Body::Transform(tree)), rest))
+        declaration::<TransformRule>(alloc, Class::Transform, at)
     }
 }
 

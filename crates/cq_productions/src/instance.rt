@@ -1,22 +1,23 @@
 //! Instances.
 ghost use Rattle.std.specs.Prelude.{◌≡◌};
-ghost use Rattle.cq_rules.specs.Class.{is};
-ghost use Rattle.cq_rules.specs.Rule.{braces, read};
-ghost use Rattle.cq_syntax.specs.LeftOut.{section_words};
+ghost use Rattle.cq_rules.specs.Outcome.{mapped};
+ghost use Rattle.cq_rules.specs.Rule.{read};
 ghost use Rattle.cq_syntax.specs.Grammar as grammar;
+ghost use Rattle.cq_syntax.specs.declared.program.InstanceExp.TheVariants as instances;
 ghost use Rattle.cq_productions.specs.Gives.{Gives};
+ghost use Rattle.cq_productions.specs.Parts as parts;
+ghost use Rattle.cq_productions.specs.Parts.{coproduct_of};
 ghost use Rattle.cq_productions.specs.Rules.{from_equations, from_generators};
 
 use crate::colimit::SummandsRule;
 use crate::cursor::Cursor;
 use crate::equation::EquationRule;
 use crate::halt::Halt;
-use crate::item::{Production, section};
-use crate::names::{GroupRule, SpotRule, of_two, text};
-use crate::options::{OptionsRule, SettingRule};
-use crate::sequence::{around, over, section_and};
-use crate::step::{ends, is_next, skip};
-use crate::words::SectionWords;
+use crate::item::Production;
+use crate::names::{GroupRule, SpotRule, TextRule, of_two};
+use crate::options::OptionsRule;
+use crate::sequence::{EndedRule, around, behind, both, over, section_and};
+use crate::step::{is_next, skip};
 use cq_base::{Name, Seq};
 use cq_rules::Class;
 use cq_syntax::{EqSyn, GroupSyn, InstanceExp, InstanceLit, Opt, Spot};
@@ -53,8 +54,8 @@ impl Production for FromGeneratorsRule {
 fn instance_literal<'a>(
     alloc: Global,
     at: Cursor<'a>,
-) -> Result<(InstanceLit, Cursor<'a>), Halt<'a>>
-    ensures { Gives result (read grammar.instance_literal at.entry.tokens.now) }
+) -> Result<(InstanceExp, Cursor<'a>), Halt<'a>>
+    ensures { Gives result (mapped instances.Literal (read grammar.instance_literal at.entry.tokens.now)) }
 {
     let rest = skip(at, Class::Literal)?;
     let ((schema, (generators, (equations, options))), rest) = over::<FromGeneratorsRule>(
@@ -66,47 +67,100 @@ fn instance_literal<'a>(
         equations,
         options,
     };
-    Ok((instance, rest))
+    Ok((InstanceExp::Literal(instance), rest))
 }
 
 /// A coproduct of instances over a schema.
 #[tactic(auto, unfolding(cq_syntax::specs::Grammar::coproduct))]
-fn coproduct<'a>(alloc: Global, at: Cursor<'a>) -> Result<((Seq<Spot>, Spot), Cursor<'a>), Halt<'a>>
-    ensures { Gives result (read grammar.coproduct at.entry.tokens.now) }
+fn coproduct<'a>(alloc: Global, at: Cursor<'a>) -> Result<(InstanceExp, Cursor<'a>), Halt<'a>>
+    ensures { Gives result (mapped coproduct_of (read grammar.coproduct at.entry.tokens.now)) }
 {
     let rest = skip(at, Class::Coproduct)?;
-    around::<SummandsRule, SpotRule>(alloc, Class::Colon, rest)
+    let ((summands, schema), rest) = around::<SummandsRule, SpotRule>(alloc, Class::Colon, rest)?;
+    Ok((InstanceExp::Coproduct(summands, schema), rest))
+}
+
+/// The instance of this word and two names.
+fn of_names(word: Class, left: Spot, right: Spot) -> InstanceExp
+    ensures { result ≡ parts.of_names word (left, right) }
+{
+    match word {
+        Class::Delta => InstanceExp::Delta(left, right),
+        Class::Sigma => InstanceExp::Sigma(left, right),
+        Class::Eval => InstanceExp::Eval(left, right),
+        Class::Coeval => InstanceExp::Coeval(left, right),
+        _ => InstanceExp::Pushout(left, right),
+    }
+}
+
+/// An instance that a word and two names make.
+fn word_and_names<'a>(
+    alloc: Global,
+    word: Class,
+    at: Cursor<'a>,
+) -> Result<(InstanceExp, Cursor<'a>), Halt<'a>>
+    ensures { Gives result (mapped (parts.of_names word) (read (grammar.of_two word) at.entry.tokens.now)) }
+{
+    let ((left, right), rest) = of_two(alloc, word, at)?;
+    Ok((of_names(word, left, right), rest))
 }
 
 /// Nothing, or options in braces.
-fn braced_options<'a>(alloc: Global, at: Cursor<'a>) -> Result<(Seq<Opt>, Cursor<'a>), Halt<'a>>
-    ensures { Gives result (read (braces (is Class.LeftBrace) (is Class.Options) grammar.setting section_words
-        (is Class.RightBrace)) at.entry.tokens.now) }
-{
-    if !is_next(at, Class::LeftBrace) {
-        return Ok((Seq::from_vec(Vec::new(alloc)), at));
+pub struct BracedOptionsRule;
+
+impl Production for BracedOptionsRule {
+    type Tree = Seq<Opt>;
+
+    ghost rule = { parts.braced_options };
+
+    #[tactic(auto, unfolding(cq_syntax::specs::Grammar::options))]
+    fn read<'a>(alloc: Global, at: Cursor<'a>) -> Result<(Seq<Opt>, Cursor<'a>), Halt<'a>> {
+        if !is_next(at, Class::LeftBrace) {
+            return Ok((Seq::from_vec(Vec::new(alloc)), at));
+        }
+        behind::<EndedRule<OptionsRule>>(alloc, Class::LeftBrace, at)
     }
-    let rest = skip(at, Class::LeftBrace)?;
-    let (options, rest) = section::<SettingRule>(alloc, Class::Options, rest)?;
-    let rest = ends::<SectionWords>(rest, Class::RightBrace)?;
-    Ok((options, rest))
+}
+
+/// The schema of an import, and its options.
+pub struct SchemaAndOptionsRule;
+
+impl Production for SchemaAndOptionsRule {
+    type Tree = (Spot, Seq<Opt>);
+
+    ghost rule = { parts.schema_and_options };
+
+    fn read<'a>(alloc: Global, at: Cursor<'a>) -> Result<(Self::Tree, Cursor<'a>), Halt<'a>> {
+        both::<SpotRule, BracedOptionsRule>(alloc, at)
+    }
+}
+
+/// The instance of this word and a folder.
+fn of_folder(word: Class, folder: Name, schema: Spot, options: Seq<Opt>) -> InstanceExp
+    ensures { result ≡ parts.of_folder word (folder, (schema, options)) }
+{
+    match word {
+        Class::ImportCsv => InstanceExp::ImportCsv(folder, schema, options),
+        _ => InstanceExp::ImportCsv2(folder, schema, options),
+    }
 }
 
 /// A word, and the folder of files of comma-separated values that are imported.
-#[tactic(auto, unfolding(cq_syntax::specs::Grammar::import, cq_syntax::specs::Grammar::text))]
+#[tactic(auto, unfolding(cq_syntax::specs::Grammar::import))]
 fn import<'a>(
     alloc: Global,
     word: Class,
     at: Cursor<'a>,
-) -> Result<((Name, (Spot, Seq<Opt>)), Cursor<'a>), Halt<'a>>
-    ensures { Gives result (read (grammar.import word) at.entry.tokens.now) }
+) -> Result<(InstanceExp, Cursor<'a>), Halt<'a>>
+    ensures { Gives result (mapped (parts.of_folder word) (read (grammar.import word) at.entry.tokens.now)) }
 {
     let rest = skip(at, word)?;
-    let (folder, rest) = text(alloc, rest)?;
-    let rest = skip(rest, Class::Colon)?;
-    let (schema, rest) = SpotRule::read(alloc, rest)?;
-    let (options, rest) = braced_options(alloc, rest)?;
-    Ok(((folder, (schema, options)), rest))
+    let ((folder, (schema, options)), rest) = around::<TextRule, SchemaAndOptionsRule>(
+        alloc,
+        Class::Colon,
+        rest,
+    )?;
+    Ok((of_folder(word, folder, schema, options), rest))
 }
 
 /// An instance.
@@ -117,41 +171,31 @@ impl Production for InstanceRule {
 
     ghost rule = { grammar.instance };
 
-    #[tactic(auto, unfolding(crate::proofs::InstanceForms::instance_forms))]
     fn read<'a>(alloc: Global, at: Cursor<'a>) -> Result<(InstanceExp, Cursor<'a>), Halt<'a>> {
         if is_next(at, Class::Literal) {
-            let (literal, rest) = instance_literal(alloc, at)?;
-            return Ok((InstanceExp::Literal(literal), rest));
+            return instance_literal(alloc, at);
         }
         if is_next(at, Class::Delta) {
-            let ((mapping, instance), rest) = of_two(alloc, Class::Delta, at)?;
-            return Ok((InstanceExp::Delta(mapping, instance), rest));
+            return word_and_names(alloc, Class::Delta, at);
         }
         if is_next(at, Class::Sigma) {
-            let ((mapping, instance), rest) = of_two(alloc, Class::Sigma, at)?;
-            return Ok((InstanceExp::Sigma(mapping, instance), rest));
+            return word_and_names(alloc, Class::Sigma, at);
         }
         if is_next(at, Class::Eval) {
-            let ((query, instance), rest) = of_two(alloc, Class::Eval, at)?;
-            return Ok((InstanceExp::Eval(query, instance), rest));
+            return word_and_names(alloc, Class::Eval, at);
         }
         if is_next(at, Class::Coeval) {
-            let ((query, instance), rest) = of_two(alloc, Class::Coeval, at)?;
-            return Ok((InstanceExp::Coeval(query, instance), rest));
+            return word_and_names(alloc, Class::Coeval, at);
         }
         if is_next(at, Class::Coproduct) {
-            let ((summands, schema), rest) = coproduct(alloc, at)?;
-            return Ok((InstanceExp::Coproduct(summands, schema), rest));
+            return coproduct(alloc, at);
         }
         if is_next(at, Class::Pushout) {
-            let ((left, right), rest) = of_two(alloc, Class::Pushout, at)?;
-            return Ok((InstanceExp::Pushout(left, right), rest));
+            return word_and_names(alloc, Class::Pushout, at);
         }
         if is_next(at, Class::ImportCsv) {
-            let ((folder, (schema, options)), rest) = import(alloc, Class::ImportCsv, at)?;
-            return Ok((InstanceExp::ImportCsv(folder, schema, options), rest));
+            return import(alloc, Class::ImportCsv, at);
         }
-        let ((folder, (schema, options)), rest) = import(alloc, Class::ImportCsv2, at)?;
-        Ok((InstanceExp::ImportCsv2(folder, schema, options), rest))
+        import(alloc, Class::ImportCsv2, at)
     }
 }

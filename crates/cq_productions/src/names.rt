@@ -45,6 +45,20 @@ pub fn text<'a>(alloc: Global, at: Cursor<'a>) -> Result<(Name, Cursor<'a>), Hal
     }
 }
 
+/// A text.
+pub struct TextRule;
+
+impl Production for TextRule {
+    type Tree = Name;
+
+    ghost rule = { grammar.text };
+
+    #[tactic(auto, unfolding(cq_syntax::specs::Grammar::text))]
+    fn read<'a>(alloc: Global, at: Cursor<'a>) -> Result<(Name, Cursor<'a>), Halt<'a>> {
+        text(alloc, at)
+    }
+}
+
 /// A name with its place.
 pub struct SpotRule;
 

@@ -11,7 +11,7 @@ use crate::equation::{BindRule, EquationRule};
 use crate::halt::Halt;
 use crate::item::{Item, Production, many, section};
 use crate::names::{GroupRule, NameRule};
-use crate::sequence::{between, in_braces, many_and_options, section_and};
+use crate::sequence::{BracesRule, around, between, many_and_options, section_and};
 use crate::step::{place_of, skip};
 use cq_base::{Name, Seq};
 use cq_rules::Class;
@@ -25,10 +25,7 @@ fn given<'a, P: Production>(
 ) -> Result<((Name, P::Tree), Cursor<'a>), Halt<'a>>
     ensures { Gives result (read (rules.given P.rule) at.entry.tokens.now) }
 {
-    let (name, rest) = NameRule::read(alloc, at)?;
-    let rest = skip(rest, Class::Arrow)?;
-    let (tree, rest) = in_braces::<P>(alloc, rest)?;
-    Ok(((name, tree), rest))
+    around::<NameRule, BracesRule<P>>(alloc, Class::Arrow, at)
 }
 
 /// Terms that are given for names.

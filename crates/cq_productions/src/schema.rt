@@ -4,6 +4,7 @@ ghost use Rattle.cq_rules.specs.Rule.{read};
 ghost use Rattle.cq_syntax.specs.Grammar as grammar;
 ghost use Rattle.cq_productions.specs.Decided as decided;
 ghost use Rattle.cq_productions.specs.Gives.{Gives};
+ghost use Rattle.cq_productions.specs.Parts.{of_entity_and};
 ghost use Rattle.cq_productions.specs.Rules as rules;
 
 use crate::cursor::Cursor;
@@ -12,12 +13,13 @@ use crate::halt::Halt;
 use crate::item::{Item, Production};
 use crate::names::{NameRule, PathRule, SpotRule, SpotsRule};
 use crate::options::OptionsRule;
-use crate::sequence::{around, behind, over, section_and};
+use crate::sequence::{around, behind, both, over, section_and};
 use crate::step::{is_next, place_of, skip};
 use cq_base::{Name, Seq};
 use cq_rules::Class;
 use cq_syntax::{EdgeSyn, ObsSyn, Opt, PathEqSyn, SchemaExp, SchemaLit, Spot};
 use std::alloc::Global;
+use std::marker::PhantomData;
 
 /// The sorts from which and to which a key or an attribute goes.
 pub struct EndsRule;
@@ -81,15 +83,34 @@ impl Item for PathEquationRule {
 }
 
 /// Nothing, or a colon and an entity.
-#[tactic(auto, unfolding(cq_syntax::specs::Grammar::of_entity))]
-pub fn of_entity<'a>(alloc: Global, at: Cursor<'a>) -> Result<(Option<Name>, Cursor<'a>), Halt<'a>>
-    ensures { Gives result (read grammar.of_entity at.entry.tokens.now) }
-{
-    if !is_next(at, Class::Colon) {
-        return Ok((None, at));
+pub struct OfEntityRule;
+
+impl Production for OfEntityRule {
+    type Tree = Option<Name>;
+
+    ghost rule = { grammar.of_entity };
+
+    #[tactic(auto, unfolding(cq_syntax::specs::Grammar::of_entity))]
+    fn read<'a>(alloc: Global, at: Cursor<'a>) -> Result<(Option<Name>, Cursor<'a>), Halt<'a>> {
+        if !is_next(at, Class::Colon) {
+            return Ok((None, at));
+        }
+        let (entity, rest) = behind::<NameRule>(alloc, Class::Colon, at)?;
+        Ok((Some(entity), rest))
     }
-    let (entity, rest) = behind::<NameRule>(alloc, Class::Colon, at)?;
-    Ok((Some(entity), rest))
+}
+
+/// The entity of a variable's values if that is told, a dot, and the production.
+pub struct OfEntityAndRule<P>(PhantomData<P>);
+
+impl<P: Production> Production for OfEntityAndRule<P> {
+    type Tree = (Option<Name>, P::Tree);
+
+    ghost rule = { of_entity_and P.rule };
+
+    fn read<'a>(alloc: Global, at: Cursor<'a>) -> Result<(Self::Tree, Cursor<'a>), Halt<'a>> {
+        around::<OfEntityRule, P>(alloc, Class::Dot, at)
+    }
 }
 
 /// A variable, the entity of its values if that is told, a dot, and the production.
@@ -99,10 +120,7 @@ pub fn bound<'a, P: Production>(
 ) -> Result<((Name, (Option<Name>, P::Tree)), Cursor<'a>), Halt<'a>>
     ensures { Gives result (read (rules.bound P.rule) at.entry.tokens.now) }
 {
-    let (variable, rest) = NameRule::read(alloc, at)?;
-    let (entity, rest) = of_entity(alloc, rest)?;
-    let (tree, rest) = behind::<P>(alloc, Class::Dot, rest)?;
-    Ok(((variable, (entity, tree)), rest))
+    both::<NameRule, OfEntityAndRule<P>>(alloc, at)
 }
 
 /// An equation for each member of an entity.

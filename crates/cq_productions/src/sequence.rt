@@ -4,6 +4,7 @@ ghost use Rattle.cq_rules.specs.Class.{is};
 ghost use Rattle.cq_rules.specs.Rule.{many, read, section, seq, skip};
 ghost use Rattle.cq_syntax.specs.Grammar as grammar;
 ghost use Rattle.cq_productions.specs.Gives.{Gives};
+ghost use Rattle.cq_productions.specs.Parts as parts;
 ghost use Rattle.cq_productions.specs.Rules.{between, over};
 
 use crate::cursor::Cursor;
@@ -17,6 +18,7 @@ use cq_base::Seq;
 use cq_rules::Class;
 use cq_syntax::{Opt, Spot};
 use std::alloc::Global;
+use std::marker::PhantomData;
 
 /// The production behind a token of this class.
 pub fn behind<'a, P: Production>(
@@ -81,17 +83,58 @@ pub fn many_and_options<'a, I: Item>(
     Ok(((items, options), rest))
 }
 
+/// A production, and the brace that ends it.
+pub struct EndedRule<P>(PhantomData<P>);
+
+impl<P: Production> Production for EndedRule<P> {
+    type Tree = P::Tree;
+
+    ghost rule = { parts.ended P.rule };
+
+    fn read<'a>(alloc: Global, at: Cursor<'a>) -> Result<(P::Tree, Cursor<'a>), Halt<'a>> {
+        let (tree, rest) = P::read(alloc, at)?;
+        let rest = ends::<SectionWords>(rest, Class::RightBrace)?;
+        Ok((tree, rest))
+    }
+}
+
 /// A production in braces.
-pub fn in_braces<'a, P: Production>(
-    alloc: Global,
-    at: Cursor<'a>,
-) -> Result<(P::Tree, Cursor<'a>), Halt<'a>>
-    ensures { Gives result (read (grammar.in_braces P.rule) at.entry.tokens.now) }
-{
-    let rest = skip(at, Class::LeftBrace)?;
-    let (tree, rest) = P::read(alloc, rest)?;
-    let rest = ends::<SectionWords>(rest, Class::RightBrace)?;
-    Ok((tree, rest))
+pub struct BracesRule<P>(PhantomData<P>);
+
+impl<P: Production> Production for BracesRule<P> {
+    type Tree = P::Tree;
+
+    ghost rule = { grammar.in_braces P.rule };
+
+    fn read<'a>(alloc: Global, at: Cursor<'a>) -> Result<(P::Tree, Cursor<'a>), Halt<'a>> {
+        behind::<EndedRule<P>>(alloc, Class::LeftBrace, at)
+    }
+}
+
+/// A name, and a production in braces.
+pub struct NamedRule<P>(PhantomData<P>);
+
+impl<P: Production> Production for NamedRule<P> {
+    type Tree = (Spot, P::Tree);
+
+    ghost rule = { parts.named P.rule };
+
+    fn read<'a>(alloc: Global, at: Cursor<'a>) -> Result<(Self::Tree, Cursor<'a>), Halt<'a>> {
+        both::<SpotRule, BracesRule<P>>(alloc, at)
+    }
+}
+
+/// Two names with an arrow between them, and a production in braces.
+pub struct ToNamedRule<P>(PhantomData<P>);
+
+impl<P: Production> Production for ToNamedRule<P> {
+    type Tree = (Spot, (Spot, P::Tree));
+
+    ghost rule = { parts.to_named P.rule };
+
+    fn read<'a>(alloc: Global, at: Cursor<'a>) -> Result<(Self::Tree, Cursor<'a>), Halt<'a>> {
+        around::<SpotRule, NamedRule<P>>(alloc, Class::Arrow, at)
+    }
 }
 
 /// A colon, a name, and a production in braces.
@@ -101,10 +144,7 @@ pub fn over<'a, P: Production>(
 ) -> Result<((Spot, P::Tree), Cursor<'a>), Halt<'a>>
     ensures { Gives result (read (over P.rule) at.entry.tokens.now) }
 {
-    let rest = skip(at, Class::Colon)?;
-    let (name, rest) = SpotRule::read(alloc, rest)?;
-    let (tree, rest) = in_braces::<P>(alloc, rest)?;
-    Ok(((name, tree), rest))
+    behind::<NamedRule<P>>(alloc, Class::Colon, at)
 }
 
 /// A colon, two names with an arrow between them, and a production in braces.
@@ -114,10 +154,5 @@ pub fn between<'a, P: Production>(
 ) -> Result<((Spot, (Spot, P::Tree)), Cursor<'a>), Halt<'a>>
     ensures { Gives result (read (between P.rule) at.entry.tokens.now) }
 {
-    let rest = skip(at, Class::Colon)?;
-    let (source, rest) = SpotRule::read(alloc, rest)?;
-    let rest = skip(rest, Class::Arrow)?;
-    let (target, rest) = SpotRule::read(alloc, rest)?;
-    let (tree, rest) = in_braces::<P>(alloc, rest)?;
-    Ok(((source, (target, tree)), rest))
+    behind::<ToNamedRule<P>>(alloc, Class::Colon, at)
 }

@@ -1,19 +1,18 @@
 //! Typesides.
 ghost use Rattle.std.specs.Prelude.{◌≡◌};
-ghost use Rattle.cq_rules.specs.Rule.{read};
 ghost use Rattle.cq_syntax.specs.Grammar as grammar;
 ghost use Rattle.cq_productions.specs.Decided as decided;
-ghost use Rattle.cq_productions.specs.Gives.{Gives};
-ghost use Rattle.cq_productions.specs.Rules.{arguments, comma_name, signature, typeside_end, values};
+ghost use Rattle.cq_productions.specs.Parts as parts;
+ghost use Rattle.cq_productions.specs.Rules.{arguments, comma_name, signature, values};
 
 use crate::cursor::Cursor;
 use crate::halt::Halt;
-use crate::item::{Item, Production, first_and_many, or_left_out, section, some};
+use crate::item::{Item, Production, first_and_many, or_left_out, some};
 use crate::names::{NameRule, SpotRule, SpotsRule};
-use crate::options::{is_value, options};
-use crate::sequence::{around, behind};
-use crate::step::{ends, is_next, name_in, skip, split};
-use crate::words::{SectionWords, TypesideWords};
+use crate::options::{OptionsRule, is_value};
+use crate::sequence::{EndedRule, around, behind, both, section_and};
+use crate::step::{is_next, name_in, skip, split};
+use crate::words::TypesideWords;
 use cq_base::{Name, Seq};
 use cq_rules::{Class, Why};
 use cq_syntax::{FunSyn, GroupSyn, Opt, Spot, TypesideLit};
@@ -169,29 +168,85 @@ impl Item for FunctionsRule {
 }
 
 /// Nothing, or `literals` and the open type.
-#[tactic(auto, unfolding(cq_syntax::specs::Grammar::open_type))]
-fn open_type<'a>(alloc: Global, at: Cursor<'a>) -> Result<(Option<Spot>, Cursor<'a>), Halt<'a>>
-    ensures { Gives result (read grammar.open_type at.entry.tokens.now) }
-{
-    if !is_next(at, Class::Literals) {
-        return Ok((None, at));
+pub struct OpenTypeRule;
+
+impl Production for OpenTypeRule {
+    type Tree = Option<Spot>;
+
+    ghost rule = { grammar.open_type };
+
+    #[tactic(auto, unfolding(cq_syntax::specs::Grammar::open_type))]
+    fn read<'a>(alloc: Global, at: Cursor<'a>) -> Result<(Option<Spot>, Cursor<'a>), Halt<'a>> {
+        if !is_next(at, Class::Literals) {
+            return Ok((None, at));
+        }
+        let (name, rest) = behind::<SpotRule>(alloc, Class::Literals, at)?;
+        Ok((Some(name), rest))
     }
-    let (name, rest) = behind::<SpotRule>(alloc, Class::Literals, at)?;
-    Ok((Some(name), rest))
 }
 
 /// The options of a typeside, and the brace that ends it.
-pub struct TypesideEndRule;
+pub struct FromOptionsRule;
 
-impl Production for TypesideEndRule {
+impl Production for FromOptionsRule {
     type Tree = Seq<Opt>;
 
-    ghost rule = { typeside_end };
+    ghost rule = { parts.from_options };
 
     fn read<'a>(alloc: Global, at: Cursor<'a>) -> Result<(Seq<Opt>, Cursor<'a>), Halt<'a>> {
-        let (options, rest) = options(alloc, at)?;
-        let rest = ends::<SectionWords>(rest, Class::RightBrace)?;
-        Ok((options, rest))
+        or_left_out::<TypesideWords, EndedRule<OptionsRule>>(alloc, at)
+    }
+}
+
+/// The sections from the functions on.
+pub struct FromFunctionsRule;
+
+impl Production for FromFunctionsRule {
+    type Tree = (Seq<FunSyn>, Seq<Opt>);
+
+    ghost rule = { parts.from_functions };
+
+    fn read<'a>(alloc: Global, at: Cursor<'a>) -> Result<(Self::Tree, Cursor<'a>), Halt<'a>> {
+        section_and::<FunctionsRule, FromOptionsRule>(alloc, Class::Functions, at)
+    }
+}
+
+/// The sections from the constants on.
+pub struct FromConstantsRule;
+
+impl Production for FromConstantsRule {
+    type Tree = (Seq<GroupSyn>, <FromFunctionsRule as Production>::Tree);
+
+    ghost rule = { parts.from_constants };
+
+    fn read<'a>(alloc: Global, at: Cursor<'a>) -> Result<(Self::Tree, Cursor<'a>), Halt<'a>> {
+        section_and::<ConstantsRule, FromFunctionsRule>(alloc, Class::Constants, at)
+    }
+}
+
+/// The sections from the open type on.
+pub struct FromOpenTypeRule;
+
+impl Production for FromOpenTypeRule {
+    type Tree = (Option<Spot>, <FromConstantsRule as Production>::Tree);
+
+    ghost rule = { parts.from_open_type };
+
+    fn read<'a>(alloc: Global, at: Cursor<'a>) -> Result<(Self::Tree, Cursor<'a>), Halt<'a>> {
+        both::<OpenTypeRule, FromConstantsRule>(alloc, at)
+    }
+}
+
+/// The sections from the types on.
+pub struct FromTypesRule;
+
+impl Production for FromTypesRule {
+    type Tree = (Seq<Spot>, <FromOpenTypeRule as Production>::Tree);
+
+    ghost rule = { parts.from_types };
+
+    fn read<'a>(alloc: Global, at: Cursor<'a>) -> Result<(Self::Tree, Cursor<'a>), Halt<'a>> {
+        section_and::<SpotRule, FromOpenTypeRule>(alloc, Class::Types, at)
     }
 }
 
@@ -206,12 +261,9 @@ impl Production for TypesideRule {
     #[tactic(auto, unfolding(cq_syntax::specs::Grammar::typeside))]
     fn read<'a>(alloc: Global, at: Cursor<'a>) -> Result<(TypesideLit, Cursor<'a>), Halt<'a>> {
         let rest = skip(at, Class::Literal)?;
-        let rest = skip(rest, Class::LeftBrace)?;
-        let (types, rest) = section::<SpotRule>(alloc, Class::Types, rest)?;
-        let (literals, rest) = open_type(alloc, rest)?;
-        let (constants, rest) = section::<ConstantsRule>(alloc, Class::Constants, rest)?;
-        let (functions, rest) = section::<FunctionsRule>(alloc, Class::Functions, rest)?;
-        let (options, rest) = or_left_out::<TypesideWords, TypesideEndRule>(alloc, rest)?;
+        let ((types, (literals, (constants, (functions, options)))), rest) = behind::<
+            FromTypesRule,
+        >(alloc, Class::LeftBrace, rest)?;
         let typeside = TypesideLit {
             types,
             literals,
