@@ -160,7 +160,7 @@ fn sort_of_word(
 }
 
 /// Where an edge leads from an entity.
-pub(crate) fn followed_from(edge: &Edge, entity: u32) -> Option<u32>
+fn followed_from(edge: &Edge, entity: u32) -> Option<u32>
     ensures { result ≡ followed (Some edge.now) entity }
 {
     if edge.from == entity {
@@ -171,7 +171,7 @@ pub(crate) fn followed_from(edge: &Edge, entity: u32) -> Option<u32>
 }
 
 /// Where the edge with this number leads from an entity.
-fn edge_target(edges: &[Edge], number: u32, entity: Option<u32>) -> Option<u32>
+pub(crate) fn edge_target(edges: &[Edge], number: u32, entity: Option<u32>) -> Option<u32>
     ensures { result ≡ option_and_then (followed (slice_get edges.now number)) entity }
 {
     match entity {
