@@ -16,6 +16,7 @@ pub mod ResolvedSorts
 pub mod KnownTerms
 pub mod DeclaredParts
 pub mod PartLoops
+pub mod Waiting
 pub mod MadeTypesides
 pub mod PathKeys
 pub mod RawSources

@@ -192,7 +192,8 @@ fn build_args(
 {
     let mut terms = Vec::new(alloc);
     for arg in args {
-        terms.push(type_term(build(alloc, schema, names, sorts, arg)?))?;
+        let term = build(alloc, schema, names, sorts, arg)?;
+        terms.push(type_term(term))?;
     }
     Ok(terms)
 }

@@ -1,9 +1,9 @@
 //! The parts of a presentation.
 ghost use Rattle.std.specs.Prelude.{◌≡◌, ◌-◌, ◌<◌, ◌^◌, ◌⊎◌, ◌++◌, ◌∷◌, [], IfOk, IfErr, Some, None, length};
-ghost use Rattle.std.specs.Prelude.{◌+◌, map, option_map, is_some, IfSome};
+ghost use Rattle.std.specs.Prelude.{◌+◌, map, option_map, is_some, IfSome, take};
 ghost use Rattle.cq_base.specs.Names.{AreDistinct};
 ghost use Rattle.cq_theory.specs.Presentation.{IsPresentation};
-ghost use Rattle.cq_theory.specs.Resolve.{sort_named, first_fault, equation_fault, are_of_one_sort};
+ghost use Rattle.cq_theory.specs.Resolve.{sort_named, first_fault, equation_fault, are_of_one_sort, in_part};
 ghost use Rattle.cq_theory.specs.Resolved.{resolved};
 ghost use Rattle.cq_theory.specs.Parts.{presentation_fault, presented, equation_of, sort_or_first, generator_fault};
 ghost use Rattle.cq_theory.specs.Parts.{first_generator_fault, generator_names, generator_sorts};
@@ -201,6 +201,27 @@ fn resolve_equation(
     }
 }
 
+/// The equation that part `part` of the call gives.
+fn resolve_part(
+    alloc: Global,
+    schema: &Schema,
+    names: &Names,
+    sorts: &[Sort],
+    part: u32,
+    written: &(Raw, Raw),
+) -> Result<Equation, TheoryRefusal>
+    ensures accepted { IfOk result (λ _. equation_fault schema.now names.now sorts.now written.now ≡ None) }
+    ensures made { IfOk result (λ made. made ≡ equation_of (resolved schema.now names.now sorts.now written.now.0)
+        (resolved schema.now names.now sorts.now written.now.1)) }
+    ensures refused { IfErr result (λ refusal. (refusal ≡ TheoryRefusal.Memory)
+        ⊎ (option_map (in_part part) (equation_fault schema.now names.now sorts.now written.now) ≡ Some refusal)) }
+{
+    match resolve_equation(alloc, schema, names, sorts, &written.0, &written.1) {
+        Ok(equation) => Ok(equation),
+        Err(rule) => Err(in_part_of(part, rule)),
+    }
+}
+
 /// The equations, or the first, counted from `first`, that breaks a rule, with the least rule that it breaks. What was
 /// written is given back as it is read, so that it doesn't stand beside all that is made of it.
 fn resolve_equations(
@@ -224,13 +245,11 @@ fn resolve_equations(
     let mut part = first;
     let mut waiting = equations;
     waiting.reverse();
-    'waiting: while let Some((left, right)) = waiting.pop() {
-        match resolve_equation(alloc, schema, names, sorts, &left, &right) {
-            Ok(equation) => made.push(equation)?,
-            Err(rule) => return Err(in_part_of(part, rule)),
-        }
+    'waiting: while let Some(written) = waiting.last() {
+        let equation = resolve_part(alloc, schema, names, sorts, part, written)?;
+        made.push(equation)?;
         part += 1;
-        give_back(&mut waiting);
+        give_back_last(&mut waiting);
     }
     Ok(made)
 }
@@ -238,10 +257,11 @@ fn resolve_equations(
 /// How many items leave a list before its memory is given back.
 const GIVEN_BACK: usize = 4096;
 
-/// Gives back what a list no longer needs, each time that some thousand items have left it.
-fn give_back<T>(waiting: &mut Vec<T>)
-    ensures { waiting.new.items ≡ waiting.old.items }
+/// Gives back the last item of a list, and each time that some thousand items have left it what it no longer needs.
+fn give_back_last<T: Drop>(waiting: &mut Vec<T>)
+    ensures { waiting.new.items ≡ take (length waiting.old.items - 1) waiting.old.items }
 {
+    waiting.pop();
     if waiting.len() % GIVEN_BACK == 0 {
         waiting.shrink_to_fit();
     }

@@ -1,6 +1,8 @@
 //! The rules of a term, one pass for each.
-ghost use Rattle.std.specs.Prelude.{◌≡◌, ◌||◌, is_none, map, length, IfSome, Some};
+ghost use Rattle.std.specs.Prelude.{◌≡◌, ◌||◌, is_none, map, length, IfSome, Some, None, option_map};
+ghost use Rattle.std.specs.Prelude.{option_and_then, slice_get, if◌then◌else◌};
 ghost use Rattle.std.specs.List.{list_any};
+ghost use Rattle.cq_theory.specs.declared.presentation.Sort.TheVariants.{Plain, Entity};
 ghost use Rattle.cq_theory.specs.Sorts.{followed};
 ghost use Rattle.cq_theory.specs.Resolve.{constant_of, text_constant, symbol_of, has_unknown as unknown_in};
 ghost use Rattle.cq_theory.specs.Resolve.{has_wrong_count as wrong_count_in, has_reserved as reserved_in};
@@ -158,11 +160,52 @@ fn sort_of_word(
 }
 
 /// Where an edge leads from an entity.
-pub(crate) fn followed_from(edge: &Edge, entity: u32) -> Option<u32>
+fn followed_from(edge: &Edge, entity: u32) -> Option<u32>
     ensures { result ≡ followed (Some edge.now) entity }
 {
     if edge.from == entity {
         Some(edge.to)
+    } else {
+        None
+    }
+}
+
+/// Where the edge with this number leads from an entity.
+pub(crate) fn edge_target(edges: &[Edge], number: u32, entity: Option<u32>) -> Option<u32>
+    ensures { result ≡ option_and_then (followed (slice_get edges.now number)) entity }
+{
+    match entity {
+        Some(entity) => match edges.get(number as usize) {
+            Some(edge) => followed_from(edge, entity),
+            None => None,
+        },
+        None => None,
+    }
+}
+
+fn entity_sort(number: Option<u32>) -> Option<Sort>
+    ensures { result ≡ option_map Entity number }
+{
+    match number {
+        Some(number) => Some(Sort::Entity(number)),
+        None => None,
+    }
+}
+
+fn plain_sort(number: Option<u32>) -> Option<Sort>
+    ensures { result ≡ option_map Plain number }
+{
+    match number {
+        Some(number) => Some(Sort::Plain(number)),
+        None => None,
+    }
+}
+
+fn plain_where(is_plain: bool, number: u32) -> Option<Sort>
+    ensures { result ≡ (if is_plain then Some (Plain number) else None) }
+{
+    if is_plain {
+        Some(Sort::Plain(number))
     } else {
         None
     }
@@ -223,25 +266,22 @@ fn sort_of_application(
 {
     match schema.find_symbol(name) {
         Some(Symbol::Function(function)) => {
-            let function = schema.typeside.functions.as_slice().get(function as usize)?;
-            if are_plain(schema, names, sorts, args, function.args.as_slice()) {
-                Some(Sort::Plain(function.result))
-            } else {
-                None
+            let functions = schema.typeside.functions.as_slice();
+            match functions.get(function as usize) {
+                Some(function) => plain_where(
+                    are_plain(schema, names, sorts, args, function.args.as_slice()),
+                    function.result,
+                ),
+                None => None,
             }
         }
         Some(Symbol::Key(key)) => {
-            let entity = entity_of_only(schema, names, sorts, args)?;
-            let target = followed_from(schema.keys.as_slice().get(key as usize)?, entity)?;
-            Some(Sort::Entity(target))
+            let entity = entity_of_only(schema, names, sorts, args);
+            entity_sort(edge_target(schema.keys.as_slice(), key, entity))
         }
         Some(Symbol::Attribute(attribute)) => {
-            let entity = entity_of_only(schema, names, sorts, args)?;
-            let target = followed_from(
-                schema.attributes.as_slice().get(attribute as usize)?,
-                entity,
-            )?;
-            Some(Sort::Plain(target))
+            let entity = entity_of_only(schema, names, sorts, args);
+            plain_sort(edge_target(schema.attributes.as_slice(), attribute, entity))
         }
         None => None,
     }

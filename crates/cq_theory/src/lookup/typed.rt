@@ -1,5 +1,7 @@
 //! Terms with their sorts, made in one walk over what is written.
-ghost use Rattle.std.specs.Prelude.{◌≡◌, IfOk, Some, None, map, option_map, option_and_then, if◌then◌else◌};
+ghost use Rattle.std.specs.Prelude.{◌≡◌, ◌∷◌, [], IfOk, Some, None, map, option_map, option_and_then, slice_get};
+ghost use Rattle.std.specs.Prelude.{if◌then◌else◌};
+ghost use Rattle.cq_theory.specs.EntTerm.{extended};
 ghost use Rattle.cq_theory.specs.declared.constant.Con.TheVariants.{Named};
 ghost use Rattle.cq_theory.specs.Sorts.{followed};
 ghost use Rattle.cq_theory.specs.Resolve.{constant_of, constant_sort, text_constant, text_sort, word_constant};
@@ -10,9 +12,9 @@ ghost use Rattle.cq_theory.specs.Resolved.{symbol_term};
 use crate::constant::Con;
 use crate::lookup::Symbol;
 use crate::lookup::builds::{entity_term, generator, type_term, with_key};
-use crate::lookup::passes::{entity_of_sort, followed_from, is_plain_sort};
+use crate::lookup::passes::{edge_target, entity_of_sort, is_plain_sort};
 use crate::presentation::Sort;
-use crate::schema::{Edge, Schema};
+use crate::schema::Schema;
 use crate::term::{EntTerm, Term, TypeTerm};
 use cq_base::{Name, Names, Raw, Seq};
 use std::alloc::{AllocError, Global};
@@ -72,6 +74,56 @@ fn typed_text(schema: &Schema, text: &Name) -> Result<Option<(Term, Sort)>, Allo
     }
 }
 
+/// The function of these arguments, with its type.
+fn typed_function(number: u32, kind: u32, args: Option<Seq<TypeTerm>>) -> Option<(Term, Sort)>
+    ensures { result ≡ option_map (λ made. (Term.Typ (TypeTerm.Fun number made), Sort.Plain kind)) args }
+{
+    match args {
+        Some(args) => Some((Term::Typ(TypeTerm::Fun(number, args)), Sort::Plain(kind))),
+        None => None,
+    }
+}
+
+/// The foreign key of the term of this entity, with the entity that it leads to.
+fn typed_key(
+    schema: &Schema,
+    number: u32,
+    made: Option<(EntTerm, u32)>,
+) -> Result<Option<(Term, Sort)>, AllocError>
+    ensures { IfOk result (λ found. found ≡ option_and_then (λ m. option_map
+        (λ target. (Term.Ent (extended m.0 (number ∷ [])), Sort.Entity target))
+        (followed (slice_get schema.now.keys number) m.1)) made) }
+{
+    match made {
+        Some((term, entity)) => match edge_target(schema.keys.as_slice(), number, Some(entity)) {
+            Some(target) => Ok(Some((Term::Ent(with_key(term, number)?), Sort::Entity(target)))),
+            None => Ok(None),
+        },
+        None => Ok(None),
+    }
+}
+
+/// The attribute of the term of this entity, with its type.
+fn typed_attribute(
+    schema: &Schema,
+    number: u32,
+    made: Option<(EntTerm, u32)>,
+) -> Option<(Term, Sort)>
+    ensures { result ≡ option_and_then (λ m. option_map
+        (λ target. (Term.Typ (TypeTerm.Att number m.0), Sort.Plain target))
+        (followed (slice_get schema.now.attributes number) m.1)) made }
+{
+    match made {
+        Some((term, entity)) => {
+            match edge_target(schema.attributes.as_slice(), number, Some(entity)) {
+                Some(target) => Some((Term::Typ(TypeTerm::Att(number, term)), Sort::Plain(target))),
+                None => None,
+            }
+        }
+        None => None,
+    }
+}
+
 /// The term with its sort, where its names, counts and sorts are right.
 #[cycle(typed)]
 pub(crate) fn typed_term(
@@ -112,65 +164,24 @@ fn typed_application(
 {
     match schema.find_symbol(name) {
         Some(Symbol::Function(number)) => {
-            let Some(function) = schema.typeside.functions.as_slice().get(number as usize) else {
-                return Ok(None);
-            };
-            match typed_args(alloc, schema, names, sorts, args, function.args.as_slice())? {
-                Some(args) => Ok(Some((
-                    Term::Typ(TypeTerm::Fun(number, args)),
-                    Sort::Plain(function.result),
-                ))),
+            let functions = schema.typeside.functions.as_slice();
+            match functions.get(number as usize) {
+                Some(function) => {
+                    let types = function.args.as_slice();
+                    let made = typed_args(alloc, schema, names, sorts, args, types)?;
+                    Ok(typed_function(number, function.result, made))
+                }
                 None => Ok(None),
             }
         }
         Some(Symbol::Key(number)) => {
-            let Some(edge) = schema.keys.as_slice().get(number as usize) else {
-                return Ok(None);
-            };
-            match typed_along(alloc, schema, names, sorts, args, edge)? {
-                Some((term, target)) => Ok(Some((
-                    Term::Ent(with_key(term, number)?),
-                    Sort::Entity(target),
-                ))),
-                None => Ok(None),
-            }
+            let made = typed_only(alloc, schema, names, sorts, args)?;
+            typed_key(schema, number, made)
         }
         Some(Symbol::Attribute(number)) => {
-            let Some(edge) = schema.attributes.as_slice().get(number as usize) else {
-                return Ok(None);
-            };
-            match typed_along(alloc, schema, names, sorts, args, edge)? {
-                Some((term, target)) => Ok(Some((
-                    Term::Typ(TypeTerm::Att(number, term)),
-                    Sort::Plain(target),
-                ))),
-                None => Ok(None),
-            }
+            let made = typed_only(alloc, schema, names, sorts, args)?;
+            Ok(typed_attribute(schema, number, made))
         }
-        None => Ok(None),
-    }
-}
-
-/// The one argument, and where the edge leads from its entity.
-#[cycle(typed)]
-fn typed_along(
-    alloc: Global,
-    schema: &Schema,
-    names: &Names,
-    sorts: &[Sort],
-    args: &[Raw],
-    edge: &Edge,
-) -> Result<Option<(EntTerm, u32)>, AllocError>
-    ensures { IfOk result (λ found. found ≡ option_map
-        (λ target. (first_entity_term (map (resolved schema.now names.now sorts.now) args.now), target))
-        (option_and_then (followed (Some edge.now))
-        (entity_in (only (map (raw_sort schema.now names.now sorts.now) args.now))))) }
-{
-    let Some((term, entity)) = typed_only(alloc, schema, names, sorts, args)? else {
-        return Ok(None);
-    };
-    match followed_from(edge, entity) {
-        Some(target) => Ok(Some((term, target))),
         None => Ok(None),
     }
 }
