@@ -1,7 +1,7 @@
 //! What stands in short in a text.
 //!
-//! `~N~piece~` stands for the piece N times. In the piece `#` stands for the number of the turn, from 0 on, and `#+` for
-//! the next number.
+//! `~N~piece~` stands for the piece N times. In the piece `#` stands for the number of the turn, from 0 on, and `#+`
+//! for the next number.
 //!
 //!     a~3~.f~.x                  a.f.f.f.x
 //!     ~2~?# s, ~?2 s             ?0 s, ?1 s, ?2 s
