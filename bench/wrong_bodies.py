@@ -6,8 +6,8 @@
 The gate tries the wrong bodies that stand in must-fail/ of a crate. It proves the crate once more for them, and has an hour, so
 more of them stand in bench/wrong_bodies/NAME, in the same form. This copies the repository to a temporary folder, puts these
 into must-fail/ of their crates, of all or of those that are named, and runs `rt must-fail` for them, which has to see the prover
-refuse each one. Its status is that of `rt must-fail`. By what the proofs take, all of them need some two hours of a processor;
-run it for a crate when its contracts have changed.
+refuse each one. Its status is that of `rt must-fail`. By what the proofs take, all of them need some two and a half hours of a
+processor; run it for a crate when its contracts have changed.
 """
 import pathlib
 import shutil
