@@ -9,7 +9,7 @@ use Rattle.cq_theory.specs.declared.value.Entry.{Entry}
 use Rattle.cq_theory.specs.Tables.{count_of, key_at, cell_at}
 use Rattle.cq_theory.specs.Canonical.{below}
 use Rattle.cq_theory.specs.ValueText.{value_text, null_text, application_text, function_name}
-use Rattle.cq_model.specs.InstanceData.{InstanceData}
+use Rattle.cq_instance.specs.InstanceData.{InstanceData}
 use Rattle.cq_text.specs.Grouped.{numbers_from}
 use Rattle.cq_text.specs.Literal.{content_of}
 use Rattle.cq_text.specs.Transcript.{edge_name, name_or_empty}

@@ -9,7 +9,7 @@ ghost use Rattle.cq_csv.specs.Records.{AddsFields, HasWritten, file_text};
 
 use crate::fields::{push_name_field, push_null_field, push_value_field};
 use crate::records::{finish, push_field, start, write};
-use cq_model::Instance;
+use cq_instance::Instance;
 use cq_theory::value_text::push_application;
 use cq_theory::{Entry, Typeside};
 use csv::{ByteRecord, Writer};

@@ -11,7 +11,7 @@ use crate::algebra::algebra_text;
 use crate::records::{finish, start, write};
 use crate::rows::{push_header, push_row};
 use cq_base::Name;
-use cq_model::Instance;
+use cq_instance::Instance;
 use cq_text::edges::{attributes_by_entity, keys_by_entity};
 use csv::ByteRecord;
 use std::alloc::{AllocError, Global};

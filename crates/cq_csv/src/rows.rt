@@ -7,7 +7,7 @@ ghost use Rattle.cq_csv.specs.Records.{AddsFields};
 
 use crate::fields::{push_cell_field, push_name_field, push_number_field};
 use crate::records::push_field;
-use cq_model::Instance;
+use cq_instance::Instance;
 use cq_theory::Edge;
 use csv::ByteRecord;
 use std::alloc::AllocError;

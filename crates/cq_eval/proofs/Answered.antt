@@ -22,9 +22,9 @@ use Rattle.cq_theory.specs.Canonical.{below}
 use Rattle.cq_theory.specs.Tables.{Tables, AtRow, count_of, key_at, cell_at, value_of, IsWellFormed, Satisfies}
 use Rattle.cq_theory.specs.Value.{symbols_of}
 use Rattle.cq_theory.proofs.OnValues.{All_at}
-use Rattle.cq_model.specs.Given.{IsModel, tables, has_long_cell, is_oversized, size_of}
-use Rattle.cq_model.proofs.Lists.{All_from, get-map}
-use Rattle.cq_model.proofs.Enumerated.{numbered_at}
+use Rattle.cq_instance.specs.Given.{IsModel, tables, has_long_cell, is_oversized, size_of}
+use Rattle.cq_instance.proofs.Lists.{All_from, get-map}
+use Rattle.cq_instance.proofs.Enumerated.{numbered_at}
 use Rattle.cq_query.specs.QueryData.{QueryData as Query}
 use Rattle.cq_query.specs.IsQuery.{IsQuery}
 use Rattle.cq_query.specs.Duties.{Sound}

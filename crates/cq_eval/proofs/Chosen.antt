@@ -2,9 +2,9 @@
 use Rattle.std.proofs.Common.{ℕ, List, [], ◌∷◌, ◌≡◌, map, set, refl, sym, ap, ◌∙◌}
 use Rattle.std.proofs.lemmas.List.{map-set}
 use Rattle.cq_theory.specs.Tables.{AtRow, row_in}
-use Rattle.cq_model.specs.declared.standing.Standing.{Standing}
-use Rattle.cq_model.specs.declared.standing.Standing.TheVariants.{Row}
-use Rattle.cq_model.specs.Standing.{meaning}
+use Rattle.cq_instance.specs.declared.standing.Standing.{Standing}
+use Rattle.cq_instance.specs.declared.standing.Standing.TheVariants.{Row}
+use Rattle.cq_instance.specs.Standing.{meaning}
 
 abbrev pub chosen : List Standing → List ℕ
 chosen standings = map (λ s. row_in (meaning s)) standings

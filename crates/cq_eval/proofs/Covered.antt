@@ -16,17 +16,17 @@ use Rattle.cq_theory.specs.Tables.{Tables, AtRow, Assignment, row_in, row_from, 
 use Rattle.cq_theory.proofs.Faults.{made_of}
 use Rattle.cq_theory.proofs.TypeTerms.{fold-Att}
 use Rattle.cq_theory.specs.Groups.{positions_from, positions}
-use Rattle.cq_model.proofs.Lists.{All_from, get-range}
+use Rattle.cq_instance.proofs.Lists.{All_from, get-range}
 use Rattle.cq_query.specs.Answers.{IsTuple}
 use Rattle.cq_query.proofs.Holding.{tuple_length}
 use Rattle.cq_eval.specs.Testing.{holds_at, reach_step, reach_of_entity, reach_of, stage}
 use Rattle.cq_eval.specs.Join.{passes}
-use Rattle.cq_model.specs.CellRows.{rows_from, rows_with}
-use Rattle.cq_model.specs.SameValue.{same_value}
+use Rattle.cq_instance.specs.CellRows.{rows_from, rows_with}
+use Rattle.cq_instance.specs.SameValue.{same_value}
 use Rattle.cq_eval.specs.Index.{IsCellIndex, IsPathIndex, IsIndex, IsCover, sides, entity_sides, other_side, other_entity, rows_of_value, rows_of_row, listed_rows}
 use Rattle.cq_eval.specs.declared.index.TestIndex.{TestIndex}
 use Rattle.cq_eval.proofs.Answered.{all_at}
-use Rattle.cq_model.proofs.SameValues.{same_from_value, value_from_same}
+use Rattle.cq_instance.proofs.SameValues.{same_from_value, value_from_same}
 use Rattle.cq_eval.proofs.Tested.{row_front, value_front}
 
 pub some_listed : (M : Tables) (choice : List ℕ) (index : TestIndex) (o : Option (Bor (List ℕ))) (r : Bor (List ℕ)) (x e : Equation) → o ≡ Some r → x ≡ e

@@ -10,7 +10,7 @@ use Rattle.std.proofs.lemmas.Option.{slice_get-get_or, slice_get_within, get_or_
 use Rattle.cq_theory.specs.declared.value.Value.{Value}
 use Rattle.cq_theory.specs.Canonical.{below}
 use Rattle.cq_theory.specs.Value.{symbols_of}
-use Rattle.cq_model.proofs.Lists.{get-map}
+use Rattle.cq_instance.proofs.Lists.{get-map}
 use Rattle.cq_eval.specs.Refused.{TellsLarge}
 use Rattle.cq_eval.specs.declared.refusal.EvalRefusal.{EvalRefusal}
 use Rattle.cq_eval.specs.declared.refusal.EvalRefusal.TheVariants.{TooManyAnswers, TooLarge, Memory}

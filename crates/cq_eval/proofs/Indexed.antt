@@ -7,8 +7,8 @@ use Rattle.cq_theory.specs.declared.presentation.Equation.TheVariants.{Ent}
 use Rattle.cq_theory.specs.declared.term.EntTerm.{EntTerm}
 use Rattle.cq_theory.specs.SchemaData.{SchemaData as Schema}
 use Rattle.cq_theory.specs.Tables.{AtRow, row_in}
-use Rattle.cq_model.specs.Terms.{IsOnWay}
-use Rattle.cq_model.proofs.OnWay.{begins}
+use Rattle.cq_instance.specs.Terms.{IsOnWay}
+use Rattle.cq_instance.proofs.OnWay.{begins}
 use Rattle.cq_query.specs.Answers.{IsTuple}
 use Rattle.cq_eval.specs.Testing.{IsTestAt}
 use Rattle.cq_eval.proofs.Extended.{tuple_set, first_tuple}

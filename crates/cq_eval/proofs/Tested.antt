@@ -11,8 +11,8 @@ use Rattle.cq_theory.specs.declared.presentation.Equation.TheVariants as equatio
 use Rattle.cq_theory.specs.Derivation.{left_of, right_of}
 use Rattle.cq_theory.specs.Tables.{Tables, AtRow, AtValue, Assignment, row_in, value_in, cell_at, row_from, row_of, value_of, value_step, meaning_of, applied}
 use Rattle.cq_theory.proofs.TypeTerms.{fold-Gen, fold-Const, fold-Att, fold-Fun, Each, on_terms}
-use Rattle.cq_model.specs.SameValue.{same_value}
-use Rattle.cq_model.proofs.SameValues.{same_from_value, value_from_same}
+use Rattle.cq_instance.specs.SameValue.{same_value}
+use Rattle.cq_instance.proofs.SameValues.{same_from_value, value_from_same}
 use Rattle.cq_theory.specs.Term.{greatest}
 use Rattle.cq_eval.specs.Testing.{holds_at, reach_of_entity, reach_step, reach_of, reach}
 

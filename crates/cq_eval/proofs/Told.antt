@@ -11,8 +11,8 @@ use Rattle.cq_theory.specs.Canonical.{below}
 use Rattle.cq_theory.specs.Presentation.{IsSort}
 use Rattle.cq_theory.specs.Tables.{Tables, count_of, IsWellFormed, Satisfies}
 use Rattle.cq_theory.proofs.OnValues.{All_at}
-use Rattle.cq_model.specs.Given.{is_oversized}
-use Rattle.cq_model.proofs.Lists.{get-map}
+use Rattle.cq_instance.specs.Given.{is_oversized}
+use Rattle.cq_instance.proofs.Lists.{get-map}
 use Rattle.cq_query.specs.QueryData.{QueryData as Query}
 use Rattle.cq_query.specs.IsQuery.{IsQuery}
 use Rattle.cq_query.specs.Duties.{frozen, Sound}

@@ -12,7 +12,7 @@ use Rattle.cq_theory.specs.SchemaData.{SchemaData as Schema}
 use Rattle.cq_theory.specs.Presentation.{IsEquation}
 use Rattle.cq_theory.specs.Sorts.{entity_of, type_of}
 use Rattle.cq_theory.specs.Tables.{Tables, AtRow}
-use Rattle.cq_model.specs.Terms.{AreStandings, IsEntTermOf, IsTypeTermOf}
+use Rattle.cq_instance.specs.Terms.{AreStandings, IsEntTermOf, IsTypeTermOf}
 use Rattle.cq_query.specs.QueryData.{QueryData as Query}
 use Rattle.cq_query.specs.IsQuery.{IsQuery}
 use Rattle.cq_query.specs.Duties.{frozen}

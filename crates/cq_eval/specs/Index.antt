@@ -10,7 +10,7 @@ use Rattle.cq_theory.specs.declared.constant.Con.TheVariants.{Named}
 use Rattle.cq_theory.specs.Canonical.{below}
 use Rattle.cq_theory.specs.Tables.{Tables, AtRow, row_of, row_from, value_of}
 use Rattle.cq_theory.specs.declared.value.Value.{Value}
-use Rattle.cq_model.specs.CellRows.{rows_with, indexed_rows}
+use Rattle.cq_instance.specs.CellRows.{rows_with, indexed_rows}
 use Rattle.cq_theory.specs.Groups.{positions}
 use Rattle.cq_eval.specs.Testing.{reach_of_entity, reach_of, holds_at, stage}
 use Rattle.cq_eval.specs.Join.{passes}

@@ -5,7 +5,7 @@ use Rattle.std.specs.Prelude.{Some, None}
 use Rattle.cq_theory.specs.Canonical.{below}
 use Rattle.cq_theory.specs.Tables.{Tables, row_from}
 use Rattle.cq_theory.specs.declared.value.Value.{Value}
-use Rattle.cq_model.specs.CellRows.{rows_with, indexed_rows}
+use Rattle.cq_instance.specs.CellRows.{rows_with, indexed_rows}
 use Rattle.cq_theory.specs.Groups.{positions}
 use Rattle.cq_eval.specs.declared.kept.Kept.{Kept}
 use Rattle.cq_eval.specs.declared.kept.OfCells.{OfCells}

@@ -1,7 +1,7 @@
 -- Where the limits refuse the answers of a query, and its tables.
 use Rattle.std.specs.Prelude.{ℕ, Bool, true, List, ◌≡◌, ◌<◌, ◌≤◌, length}
 use Rattle.cq_theory.specs.Tables.{Tables}
-use Rattle.cq_model.specs.Given.{is_oversized}
+use Rattle.cq_instance.specs.Given.{is_oversized}
 use Rattle.cq_query.specs.QueryData.{QueryData as Query}
 use Rattle.cq_query.specs.Answers.{AreAnswers, IsEval}
 use Rattle.cq_eval.specs.declared.refusal.EvalRefusal.{EvalRefusal}

@@ -9,8 +9,8 @@ use Rattle.cq_theory.specs.declared.presentation.Equation.TheVariants.{Ent, Typ}
 use Rattle.cq_theory.specs.Term.{greatest}
 use Rattle.cq_theory.specs.SchemaData.{SchemaData as Schema}
 use Rattle.cq_theory.specs.Tables.{Tables, AtRow, Assignment, row_of, value_of}
-use Rattle.cq_model.specs.SameValue.{same_value}
-use Rattle.cq_model.specs.Terms.{IsEntTermOf, IsTypeTermOf}
+use Rattle.cq_instance.specs.SameValue.{same_value}
+use Rattle.cq_instance.specs.Terms.{IsEntTermOf, IsTypeTermOf}
 
 module _ (M : Tables) (rows : List ℕ) where
   -- the variables stand for these rows

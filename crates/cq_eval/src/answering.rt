@@ -15,7 +15,7 @@ use crate::reaches::stages;
 use crate::refusal::EvalRefusal;
 use crate::rows::Rows;
 use cq_base::{Name, Seq};
-use cq_model::Instance;
+use cq_instance::Instance;
 use cq_query::{Block, Query};
 use std::alloc::{AllocError, Global};
 

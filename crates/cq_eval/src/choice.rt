@@ -1,10 +1,10 @@
 //! Choices of a row for each variable.
 ghost use Rattle.std.specs.Prelude.{◌≡◌, ◌<◌, IfOk, length, map, slice_set};
 ghost use Rattle.cq_theory.specs.Tables.{AtRow, row_in};
-ghost use Rattle.cq_model.specs.Standing.{meaning};
+ghost use Rattle.cq_instance.specs.Standing.{meaning};
 
 use crate::rows::Rows;
-use cq_model::Standing;
+use cq_instance::Standing;
 use std::alloc::{AllocError, Global};
 use std::marker::Model;
 
@@ -17,7 +17,7 @@ pub(crate) struct Choice {
 impl Model for Choice {
     ghost use Rattle.std.specs.Prelude.{ℕ, List, map, ◌≡◌};
     ghost use Rattle.cq_theory.specs.Tables.{AtRow, row_in};
-    ghost use Rattle.cq_model.specs.Standing.{meaning};
+    ghost use Rattle.cq_instance.specs.Standing.{meaning};
 
     ghost Value = { List ℕ };
 

@@ -2,7 +2,7 @@
 ghost use Rattle.std.specs.Prelude.{ℕ, ◌≡◌, ◌+◌, ◌<◌, ◌≤◌, All, false, IfOk, IfErr, length, map, nat_lt, sum};
 ghost use Rattle.cq_theory.specs.Canonical.{below};
 ghost use Rattle.cq_theory.specs.Tables.{Initial};
-ghost use Rattle.cq_model.specs.Given.{HasLeastNames, given, is_oversized};
+ghost use Rattle.cq_instance.specs.Given.{HasLeastNames, given, is_oversized};
 ghost use Rattle.cq_query.specs.Answers.{IsEval};
 ghost use Rattle.cq_query.specs.Duties.{Sound};
 ghost use Rattle.cq_eval.specs.Made.{answers_of, made_tables};
@@ -13,7 +13,7 @@ use crate::keys::key_columns;
 use crate::refusal::EvalRefusal;
 use crate::table::{Answers, all_answers};
 use cq_base::Seq;
-use cq_model::Instance;
+use cq_instance::Instance;
 use cq_query::Query;
 use cq_theory::Sheet;
 use std::alloc::{AllocError, Global};

@@ -3,7 +3,7 @@ ghost use Rattle.std.specs.Prelude.{ℕ, List, ◌≡◌, ◌==◌, ◌<◌, [],
 ghost use Rattle.std.specs.Prelude.{slice_get, slice_index, slice_index_or};
 ghost use Rattle.std.specs.List.{list_any};
 ghost use Rattle.cq_theory.specs.declared.presentation.Equation.{Equation};
-ghost use Rattle.cq_model.specs.Terms.{IsOnWay};
+ghost use Rattle.cq_instance.specs.Terms.{IsOnWay};
 ghost use Rattle.cq_query.specs.Answers.{IsTuple};
 ghost use Rattle.cq_eval.specs.Index.{IsCellIndex, IsPathIndex, IsIndex, AreIndexes, sides, entity_sides};
 ghost use Rattle.cq_eval.specs.Index.{IsAttributeSide, rows_of_value, rows_of_row};
@@ -13,7 +13,7 @@ ghost use Rattle.cq_eval.specs.Testing.{IsTestAt};
 use crate::kept::Kept;
 use crate::reaches::{reach_of, reach_of_entity};
 use cq_base::Seq;
-use cq_model::{CellIndex, Instance, KeyIndex};
+use cq_instance::{CellIndex, Instance, KeyIndex};
 use cq_theory::{EntTerm, Equation, TypeTerm, Value};
 use std::alloc::{AllocError, Global};
 use std::rc::Rc;

@@ -3,7 +3,7 @@ ghost use Rattle.std.specs.Prelude.{ℕ, ◌≡◌, ◌+◌, ◌<◌, ◌≤◌,
 ghost use Rattle.std.specs.Prelude.{length, map, take, drop, slice_get, slice_index, option_copied};
 ghost use Rattle.std.specs.List.{list_any};
 ghost use Rattle.cq_theory.specs.Tables.{AtRow, value_of};
-ghost use Rattle.cq_model.specs.Terms.{IsTypeTermOf};
+ghost use Rattle.cq_instance.specs.Terms.{IsTypeTermOf};
 ghost use Rattle.cq_query.specs.Answers.{IsTuple};
 ghost use Rattle.cq_eval.specs.Join.{IsJoin, test_passes_at, found_from, found_by};
 ghost use Rattle.cq_eval.specs.Index.{AreIndexes, IsCover, rows_of_value, listed_rows};
@@ -17,7 +17,7 @@ use crate::refusal::EvalRefusal;
 use crate::rows::Rows;
 use crate::testing::passes_test;
 use cq_base::Seq;
-use cq_model::Instance;
+use cq_instance::Instance;
 use cq_theory::{Equation, TypeTerm};
 use std::alloc::{AllocError, Global};
 

@@ -3,12 +3,12 @@ ghost use Rattle.std.specs.Prelude.{ℕ, ◌≡◌, ◌<◌, ◌∷◌, [], Some
 ghost use Rattle.cq_theory.specs.Canonical.{below};
 ghost use Rattle.cq_theory.specs.Tables.{Tables, row_from};
 ghost use Rattle.cq_theory.specs.declared.value.Value.{Value};
-ghost use Rattle.cq_model.specs.CellRows.{rows_with, indexed_rows};
+ghost use Rattle.cq_instance.specs.CellRows.{rows_with, indexed_rows};
 ghost use Rattle.cq_theory.specs.Groups.{positions};
-ghost use Rattle.cq_model.specs.Terms.{IsOnWay};
+ghost use Rattle.cq_instance.specs.Terms.{IsOnWay};
 ghost use Rattle.cq_eval.specs.Kept.{AreKept, IsOfCells, IsOfKeys};
 
-use cq_model::{CellIndex, Instance, KeyIndex};
+use cq_instance::{CellIndex, Instance, KeyIndex};
 use std::alloc::{AllocError, Global};
 use std::rc::Rc;
 

@@ -4,7 +4,7 @@ ghost use Rattle.cq_theory.specs.declared.term.EntTerm.{EntTerm};
 ghost use Rattle.std.specs.List.{enumerate_from};
 ghost use Rattle.cq_theory.specs.Canonical.{below};
 ghost use Rattle.cq_theory.specs.Tables.{AtRow, row_of};
-ghost use Rattle.cq_model.specs.Terms.{IsEntTermOf};
+ghost use Rattle.cq_instance.specs.Terms.{IsEntTermOf};
 ghost use Rattle.cq_query.specs.Translation.{assigned as assigned_terms};
 ghost use Rattle.cq_eval.specs.Made.{answers_of, made_keys, place_in};
 
@@ -12,7 +12,7 @@ use crate::choice::Choice;
 use crate::rows::Rows;
 use crate::table::Answers;
 use cq_base::Seq;
-use cq_model::Instance;
+use cq_instance::Instance;
 use cq_query::Query;
 use cq_query::translation::found_terms;
 use cq_theory::EntTerm;

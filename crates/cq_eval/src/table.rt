@@ -8,7 +8,7 @@ use crate::answering::found_answers;
 use crate::kept::Kept;
 use crate::refusal::EvalRefusal;
 use crate::rows::Rows;
-use cq_model::Instance;
+use cq_instance::Instance;
 use cq_query::Query;
 use indexmap::IndexSet;
 use std::alloc::{AllocError, Global};

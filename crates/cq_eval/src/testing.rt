@@ -3,7 +3,7 @@ ghost use Rattle.std.specs.Prelude.{◌≡◌, ◌==◌, ◌||◌, not, IfOk};
 ghost use Rattle.cq_eval.specs.Testing.{holds_at, IsTestAt};
 
 use crate::choice::Choice;
-use cq_model::Instance;
+use cq_instance::Instance;
 use cq_terms::is_same_value;
 use cq_theory::Equation;
 use std::alloc::{AllocError, Global};

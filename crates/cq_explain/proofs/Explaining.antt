@@ -7,7 +7,7 @@ use Rattle.cq_theory.specs.declared.presentation.Equation.{Equation}
 use Rattle.cq_theory.specs.declared.presentation.Presentation.{Presentation}
 use Rattle.cq_theory.specs.Presentation.{IsEquation}
 use Rattle.cq_theory.specs.SchemaData.{SchemaData as Schema}
-use Rattle.cq_model.specs.InstanceData.{InstanceData}
+use Rattle.cq_instance.specs.InstanceData.{InstanceData}
 use Rattle.cq_proof.specs.Answers as answers
 use Rattle.cq_proof.specs.declared.answer.Answer.{Answer}
 use Rattle.cq_proof.specs.declared.answer.Answer.TheVariants.{Steps, Different}

@@ -8,7 +8,7 @@ use Rattle.cq_theory.specs.Tables.{value_of}
 use Rattle.cq_theory.specs.ValueText.{is_named}
 use Rattle.cq_theory.proofs.ResolvedSorts.{map_some}
 use Rattle.cq_theory.proofs.Typing.{value_typed}
-use Rattle.cq_model.specs.InstanceData.{InstanceData}
+use Rattle.cq_instance.specs.InstanceData.{InstanceData}
 use Rattle.cq_proof.specs.Answers.{IsInitial}
 use Rattle.cq_text.proofs.Typed.{named_if_typed}
 

@@ -1,7 +1,7 @@
 -- What explains whether an equation holds in an instance.
 use Rattle.std.specs.Prelude.{◌≡◌, ℕ, List}
 use Rattle.cq_theory.specs.declared.presentation.Equation.{Equation}
-use Rattle.cq_model.specs.InstanceData.{InstanceData}
+use Rattle.cq_instance.specs.InstanceData.{InstanceData}
 use Rattle.cq_steps.specs.declared.step.Step.{Step}
 use Rattle.cq_proof.specs.Answers.{IsDerivable, Proves}
 use Rattle.cq_explain.specs.Explanation.{different_text, equal_text}

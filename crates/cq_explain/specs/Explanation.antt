@@ -14,7 +14,7 @@ use Rattle.cq_theory.specs.declared.term.Term.TheVariants.{Ent, Typ}
 use Rattle.cq_theory.specs.Derivation.{left_of, right_of}
 use Rattle.cq_theory.specs.Tables.{row_of, value_of}
 use Rattle.cq_theory.specs.ValueText.{application_text, con_text, function_name, value_text}
-use Rattle.cq_model.specs.InstanceData.{InstanceData}
+use Rattle.cq_instance.specs.InstanceData.{InstanceData}
 use Rattle.cq_steps.specs.declared.step.Rule.{Rule}
 use Rattle.cq_steps.specs.declared.step.Rule.TheVariants as rule
 use Rattle.cq_steps.specs.declared.step.Step.{Step}

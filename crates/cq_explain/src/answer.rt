@@ -9,7 +9,7 @@ ghost use Rattle.cq_explain.specs.declared.question.QuestionRefusal.{QuestionRef
 
 use crate::lines::{different_text, equal_text};
 use crate::question::{QuestionRefusal, question};
-use cq_model::Instance;
+use cq_instance::Instance;
 use cq_proof::{Answer, explain};
 use cq_theory::Equation;
 use std::alloc::{AllocError, Global};

@@ -11,7 +11,7 @@ ghost use Rattle.cq_explain.specs.Explanation.{shown_term, step_line, step_lines
 
 use crate::terms::{push_entity_term, push_equation};
 use crate::words::{push_edge, push_function, push_ordinal};
-use cq_model::Instance;
+use cq_instance::Instance;
 use cq_steps::{Rule, Step};
 use cq_text::push_number;
 use cq_theory::value_text::push_value;

@@ -28,8 +28,8 @@ use Rattle.cq_theory.proofs.OneModel.{out-Fun, out-Gen}
 use Rattle.cq_theory.proofs.Sound.{applied_type_some, is_type_some}
 use Rattle.cq_theory.proofs.TypeTerms.{fold-Gen, fold-Const, fold-Fun, on_terms}
 use Rattle.cq_theory.proofs.Values as values
-use Rattle.cq_model.proofs.CanonicalGenerators as generators
-use Rattle.cq_model.proofs.CanonicalTerms as terms
+use Rattle.cq_instance.proofs.CanonicalGenerators as generators
+use Rattle.cq_instance.proofs.CanonicalTerms as terms
 use Rattle.cq_listed.proofs.Alike.{subterms-Att, subterms-Const, subterms-Fun, subterms-Gen}
 use Rattle.cq_listed.proofs.Firsts.{among}
 

@@ -19,11 +19,11 @@ use Rattle.cq_theory.specs.SchemaData.{SchemaData as Schema}
 use Rattle.cq_theory.specs.Tables.{Assignment, IsPlain, IsWellFormed, Satisfies, Tables, count_of, value_of}
 use Rattle.cq_theory.proofs.Every.{Every, Every-append, Every-at, Every-filter_map, Every-flat_map, Every-from_All, Every-map, Every-parts, at_range}
 use Rattle.cq_theory.proofs.OnValues.{entry_for}
-use Rattle.cq_model.proofs.CanonicalDerived as derived
-use Rattle.cq_model.proofs.CanonicalNames.{least_name}
-use Rattle.cq_model.proofs.Lists.{firsts-range, get-map}
-use Rattle.cq_model.proofs.TermOrder.{is_lt-before}
-use Rattle.cq_model.specs.Given.{row_names}
+use Rattle.cq_instance.proofs.CanonicalDerived as derived
+use Rattle.cq_instance.proofs.CanonicalNames.{least_name}
+use Rattle.cq_instance.proofs.Lists.{firsts-range, get-map}
+use Rattle.cq_instance.proofs.TermOrder.{is_lt-before}
+use Rattle.cq_instance.specs.Given.{row_names}
 use Rattle.cq_listed.proofs.Alike.{alike_every, alike_found}
 use Rattle.cq_listed.proofs.Fine.{AreFine, HasPlain, IsLabel, entry_among, entry_at, entry_of_Att, found-append, label_at, same_entry}
 use Rattle.cq_listed.proofs.Firsts.{among, among_firsts, firsts-append, firsts_each, none_left, same_firsts}

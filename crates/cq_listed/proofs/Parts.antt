@@ -24,10 +24,10 @@ use Rattle.cq_theory.specs.SchemaData.{SchemaData as Schema}
 use Rattle.cq_theory.specs.Tables.{Assignment, IsPlain, IsWellFormed, Tables, cell_at, count_of, value_in, value_of, value_step}
 use Rattle.cq_theory.proofs.Every.{Every, Every-flat_map, Every-in_flat_map, Every-in_filter, Every-parts, Every-unmap, at_range, enumerated}
 use Rattle.cq_theory.proofs.TypeTerms.{fold-Gen, fold-Att}
-use Rattle.cq_model.proofs.CanonicalGenerators as generators
-use Rattle.cq_model.proofs.CanonicalHolds.{cell_is, every_equation}
-use Rattle.cq_model.proofs.Lists.{get-map}
-use Rattle.cq_model.specs.Given.{row_names}
+use Rattle.cq_instance.proofs.CanonicalGenerators as generators
+use Rattle.cq_instance.proofs.CanonicalHolds.{cell_is, every_equation}
+use Rattle.cq_instance.proofs.Lists.{get-map}
+use Rattle.cq_instance.specs.Given.{row_names}
 use Rattle.cq_listed.proofs.Fine.{AreFine, HasPlain, attribute_fine, entry_at, entry_fine, entry_of_Gen, fine-append, fine_over, label_at, none_fine, value_fine}
 use Rattle.cq_listed.proofs.Rows.{names_are}
 

@@ -18,10 +18,10 @@ use Rattle.cq_theory.specs.Tables.{Assignment, IsWellFormed, Tables, cell_at, co
 use Rattle.cq_theory.specs.TypeTerm.{substituted}
 use Rattle.cq_theory.proofs.Every.{at_range, from_filter}
 use Rattle.cq_theory.proofs.TypeTerms.{fold-Att}
-use Rattle.cq_model.proofs.CanonicalGenerators as generators
-use Rattle.cq_model.proofs.CanonicalHolds.{from_below}
-use Rattle.cq_model.proofs.Lists.{get-map}
-use Rattle.cq_model.specs.Given.{row_names}
+use Rattle.cq_instance.proofs.CanonicalGenerators as generators
+use Rattle.cq_instance.proofs.CanonicalHolds.{from_below}
+use Rattle.cq_instance.proofs.Lists.{get-map}
+use Rattle.cq_instance.specs.Given.{row_names}
 use Rattle.cq_listed.proofs.Alike.{Alike, NameRows, alike-append, alike-flat_map, at_row, over_rows}
 
 module _ (S : Schema) (M : Tables) (schema : IsSchema S) (well : IsWellFormed S M) where

@@ -9,8 +9,8 @@ use Rattle.cq_theory.specs.declared.presentation.Sort.TheVariants.{Plain}
 use Rattle.cq_theory.specs.Canonical.{below, canonical, row_sorts}
 use Rattle.cq_theory.specs.Parts.{presentation_fault, presented}
 use Rattle.cq_theory.specs.Presentation.{IsPresentation}
-use Rattle.cq_model.specs.InstanceData.{InstanceData, IsInstance}
-use Rattle.cq_model.proofs.CanonicalHolds as model
+use Rattle.cq_instance.specs.InstanceData.{InstanceData, IsInstance}
+use Rattle.cq_instance.proofs.CanonicalHolds as model
 use Rattle.cq_text.specs.Literal.{literal_of}
 use Rattle.cq_literals.specs.Literals.{Declares, IsDeclaration, equation_part, group_parts}
 use Rattle.cq_literals.specs.Writable.{IsWritable}

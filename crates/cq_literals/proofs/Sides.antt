@@ -32,8 +32,8 @@ use Rattle.cq_theory.proofs.Sound.{applied_type_some, is_type_some}
 use Rattle.cq_theory.proofs.TypeTerms as terms
 use Rattle.cq_theory.proofs.Values as values
 use Rattle.cq_values.specs.Readable.{is_name}
-use Rattle.cq_model.specs.InstanceData.{InstanceData, IsInstance}
-use Rattle.cq_model.proofs.CanonicalHolds.{every_equation}
+use Rattle.cq_instance.specs.InstanceData.{InstanceData, IsInstance}
+use Rattle.cq_instance.proofs.CanonicalHolds.{every_equation}
 use Rattle.cq_text.specs.Literal.{content_of, generator_text}
 use Rattle.cq_return.specs.Return.{IsReturnableEntry, IsReturnableValue, has_name, has_names, has_names_step, levels_of, levels_step}
 use Rattle.cq_theory.specs.Term.{greatest}

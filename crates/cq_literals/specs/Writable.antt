@@ -2,8 +2,8 @@
 use Rattle.std.specs.Prelude.{true, ◌≡◌, ◌≤◌, All}
 use Rattle.cq_theory.specs.Schema.{IsSchema}
 use Rattle.cq_values.specs.Readable.{is_name}
-use Rattle.cq_model.specs.InstanceData.{InstanceData}
-use Rattle.cq_model.specs.Given.{size_of}
+use Rattle.cq_instance.specs.InstanceData.{InstanceData}
+use Rattle.cq_instance.specs.Given.{size_of}
 use Rattle.cq_return.specs.Return.{IsReturnableEntry, IsReturnableValue}
 use Rattle.cq_literals.specs.Written.{ArePlainNames}
 

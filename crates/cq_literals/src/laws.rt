@@ -6,7 +6,7 @@ ghost use Rattle.cq_syntax.specs.declared.program.Decl.{Decl};
 ghost use Rattle.cq_theory.specs.Canonical.{canonical, canonical_assignment};
 ghost use Rattle.cq_theory.specs.Parts.{presentation_fault, presented};
 ghost use Rattle.cq_theory.specs.Tables.{Initial};
-ghost use Rattle.cq_model.specs.InstanceData.{InstanceData, IsInstance};
+ghost use Rattle.cq_instance.specs.InstanceData.{InstanceData, IsInstance};
 ghost use Rattle.cq_text.specs.Literal.{literal_of};
 ghost use Rattle.cq_literals.specs.Literals.{Declares, IsDeclaration, equation_part, group_parts};
 ghost use Rattle.cq_literals.specs.Writable.{IsWritable};

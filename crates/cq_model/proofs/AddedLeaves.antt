@@ -10,7 +10,7 @@ use Rattle.cq_theory.specs.declared.presentation.Sort.{Sort}
 use Rattle.cq_theory.specs.declared.presentation.Sort.TheVariants.{Plain, Entity}
 use Rattle.cq_model.specs.LeafPlaces.{AddsLeaves, AddsGenerators, plain_type, places_from}
 use Rattle.cq_model.specs.NodeListData.{NodeListData}
-use Rattle.cq_model.proofs.Lists.{map-append}
+use Rattle.cq_instance.proofs.Lists.{map-append}
 
 pub leaves_none : (list : NodeListData) → AddsLeaves list list []
 leaves_none list = record { nodes = sym (append-nil list.nodes); types_are = sym (append-nil list.types); equations = refl }

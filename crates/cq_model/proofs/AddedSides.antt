@@ -33,7 +33,7 @@ use Rattle.cq_model.specs.NodeTerms.{side_terms, equation_sides, IsConstantTerm}
 use Rattle.cq_model.specs.Pushing.{AreReadable, IsPlacing, AreEquationsOf, HasMore, IsEquated}
 use Rattle.cq_model.specs.Thins.{Thins, ended}
 use Rattle.cq_model.specs.Equating.{sides_at, AddsSides, IsNameOf, AreNamesOf, none, more, AddsAtRow, AddsAtRows, AddsObservations}
-use Rattle.cq_model.proofs.Lists.{map-append, range-append}
+use Rattle.cq_instance.proofs.Lists.{map-append, range-append}
 use Rattle.cq_model.proofs.Thinning.{Thins-append}
 
 -- one member more

@@ -8,13 +8,13 @@ use Rattle.cq_model.specs.declared.places.Places.{Places}
 use Rattle.cq_model.specs.Built.{IsBuilt}
 use Rattle.cq_model.specs.BuiltParts.{AreLeaves}
 use Rattle.cq_model.specs.Equating.{IsNameOf, AreNamesOf, none, more, AddsSides, AddsObservations}
-use Rattle.cq_model.specs.LeastNames.{rows_at, terms_at, AreNumbered}
+use Rattle.cq_names.specs.LeastNames.{rows_at, terms_at, AreNumbered}
 use Rattle.cq_model.specs.NodeListData.{NodeListData}
 use Rattle.cq_model.specs.NodeTerms.{side_terms, equation_sides, entity_sides, given_sides, leaf_terms, IsConstantTerm, StandsAt, ArePlaces}
 use Rattle.cq_model.specs.Pushing.{AreEquationsOf, HasMore}
 use Rattle.cq_model.specs.Thins.{Thins}
 use Rattle.cq_model.proofs.Thinning.{Thins-append}
-use Rattle.cq_model.proofs.Lists.{get-append_front}
+use Rattle.cq_instance.proofs.Lists.{get-append_front}
 use Rattle.cq_model.proofs.PlacedLeaves.{split_at}
 use Rattle.cq_model.proofs.MadeTerms.{IsMadeLayer, AllMade, sides_made, made_thinned, from_layer}
 use Rattle.cq_model.proofs.PushedTerms.{StandsFor-more}

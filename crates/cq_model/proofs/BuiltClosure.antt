@@ -11,7 +11,7 @@ use Rattle.cq_flat.specs.Congruence as congruent
 use Rattle.cq_flat.specs.Congruence.{Congruent, AllCongruent}
 use Rattle.cq_flat.specs.Values.{Closure, value_at}
 use Rattle.cq_model.specs.declared.places.Places.{Places}
-use Rattle.cq_model.specs.Closed.{AreClosed}
+use Rattle.cq_names.specs.Closed.{AreClosed}
 use Rattle.cq_model.specs.NodeTerms.{leaf_terms}
 use Rattle.cq_model.specs.Built.{IsClosureOf, IsBuilt, tables_of}
 use Rattle.cq_theory.specs.declared.constant.Con.{Con}
@@ -33,7 +33,7 @@ use Rattle.cq_theory.specs.Tables.{Tables, IsPlain, entry_or_built, is_for, appl
 use Rattle.cq_theory.specs.Listed.{null_label}
 use Rattle.cq_theory.proofs.Values as values_say
 use Rattle.cq_theory.proofs.TypeTerms.{fold-Const}
-use Rattle.cq_model.proofs.Lists.{IsIn, get-map, in_range}
+use Rattle.cq_instance.proofs.Lists.{IsIn, get-map, in_range}
 use Rattle.cq_model.proofs.BuiltEntries.{in_filter_map, stays, found_node, find_entry}
 use Rattle.cq_model.proofs.BuiltNodes as nodes_say
 use Rattle.cq_theory.proofs.Derivations.{Derives-transitive}

@@ -13,7 +13,8 @@ use Rattle.cq_theory.proofs.Sound.{both}
 use Rattle.cq_flat.specs.declared.node.Node.{Node}
 use Rattle.cq_flat.specs.declared.node.Node.TheVariants as node
 use Rattle.cq_flat.specs.Values.{value_at, entry_of, entries_of}
-use Rattle.cq_model.proofs.Lists.{IsIn}
+use Rattle.cq_instance.proofs.Enumerated.{get-enumerate_from}
+use Rattle.cq_instance.proofs.Lists.{IsIn}
 
 later : {X : Type 0} (x y : X) (ys : List X) → IsIn x ys → IsIn x (y ∷ ys)
 later x y ys h = record { place = suc h.place; is = h.is }
@@ -68,11 +69,6 @@ from_filter_map f y (z ∷ zs) h = go (λ i. from_filter_map f y zs i) (f z) ref
       | inl same ↦ (z, record { place = 0; is = refl }, e ∙ ap (λ v. Some v) same)
       | inr rest ↦ ((before rest).0, later (before rest).0 z zs (before rest).1, (before rest).2)
     ]
-
-pub get-enumerate : {X : Type 0} (s : ℕ) (xs : List X) (n : ℕ) (x : X) → slice_get xs n ≡ Some x → slice_get (enumerate_from s xs) n ≡ Some (s + n, x)
-get-enumerate s [] n x h = cc
-get-enumerate s (y ∷ ys) zero x h = let here : s ≡ s + 0 = omega arith in let same : y ≡ x = cc in λ i. Some (here i, same i)
-get-enumerate s (y ∷ ys) (suc n) x h = let there : s + 1 + n ≡ s + suc n = omega arith in get-enumerate (s + 1) ys n x h ∙ ap (λ k. Some (k, x)) there
 
 pub from_enumerate : {X : Type 0} (s : ℕ) (xs : List X) (n : ℕ) (e : ℕ × X) → slice_get (enumerate_from s xs) n ≡ Some e → (e.0 ≡ s + n) × (slice_get xs n ≡ Some e.1)
 from_enumerate s [] n e h = cc
@@ -253,7 +249,7 @@ module _ (nodes : List Node) (values : List Value) where
       let vs : List Value = map (value_at values) args in
       let own : Entry = record { function = f; args = vs; value = value_at values p } in
       let listed : List Entry = filter_map (entry_of values) (enumerate_from 0 nodes) in
-      let member : IsIn own listed = in_filter_map (entry_of values) (0 + p, node.Fun f args) own (enumerate_from 0 nodes) (record { place = p; is = get-enumerate 0 nodes p (node.Fun f args) is })
+      let member : IsIn own listed = in_filter_map (entry_of values) (0 + p, node.Fun f args) own (enumerate_from 0 nodes) (record { place = p; is = get-enumerate_from 0 nodes p (node.Fun f args) is })
       (let here : 0 + p ≡ p = omega arith in ap (λ k. Some (record { function = f; args = vs; value = value_at values k })) here) in
       let first = stays alike alike_transitive listed own member in
       find_from (is_for f vs) (entries_of nodes values) first.0 first.1 (elim first.2 [

@@ -6,9 +6,9 @@ use Rattle.cq_tables.specs.Content.{Content}
 use Rattle.cq_flat.specs.declared.node.Node.{Node}
 use Rattle.cq_flat.specs.Values.{Closure}
 use Rattle.cq_model.specs.declared.places.Places.{Places}
-use Rattle.cq_model.specs.Closed.{AreClosed}
-use Rattle.cq_model.specs.InstanceData.{IsName, IsInstance}
-use Rattle.cq_model.specs.LeastNames.{rows_at, terms_at}
+use Rattle.cq_names.specs.Closed.{AreClosed}
+use Rattle.cq_instance.specs.InstanceData.{IsName, IsInstance}
+use Rattle.cq_names.specs.LeastNames.{rows_at, terms_at}
 use Rattle.cq_model.specs.Built.{IsClosureOf, IsBuilt, tables_of, assignment_of}
 use Rattle.cq_theory.specs.declared.constant.Con.{Con}
 use Rattle.cq_theory.specs.declared.presentation.Presentation.{Presentation}
@@ -22,8 +22,9 @@ use Rattle.cq_theory.specs.Sorts.{followed, target_of, entity_at, entity_of}
 use Rattle.cq_theory.specs.Tables.{Tables, Assignment, count_of}
 use Rattle.cq_theory.specs.Listed.{Lists}
 use Rattle.cq_theory.proofs.Sound.{followed_some}
-use Rattle.cq_model.proofs.Lists.{All_from}
-use Rattle.cq_model.proofs.BuiltRows.{entity_at_some, counts_are, least_name}
+use Rattle.cq_instance.proofs.Lists.{All_from}
+use Rattle.cq_instance.proofs.TypedTerms.{entity_at_some}
+use Rattle.cq_model.proofs.BuiltRows.{counts_are, least_name}
 use Rattle.cq_model.proofs.ListedHolds.{well_formed, initial}
 use Rattle.cq_model.proofs.ListedNodes.{all_plain, nulls_listed, entries_listed}
 use Rattle.cq_model.proofs.ListedClash.{inconsistent_at}

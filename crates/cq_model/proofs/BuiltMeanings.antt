@@ -13,8 +13,8 @@ use Rattle.cq_flat.specs.Congruence as congruent
 use Rattle.cq_flat.specs.Congruence.{Congruent}
 use Rattle.cq_flat.specs.Values.{Closure, value_at}
 use Rattle.cq_model.specs.declared.places.Places.{Places}
-use Rattle.cq_model.specs.Closed.{AreClosed}
-use Rattle.cq_model.specs.LeastNames.{rows_at, terms_at}
+use Rattle.cq_names.specs.Closed.{AreClosed}
+use Rattle.cq_names.specs.LeastNames.{rows_at, terms_at}
 use Rattle.cq_model.specs.NodeTerms.{equation_sides, row_sides, entity_sides, given_sides, leaf_terms, cell_place, StandsAt, StandsFor, EachStands}
 use Rattle.cq_model.specs.Built.{IsClosureOf, IsBuilt, cell_column, standing, tables_of, assignment_of}
 use Rattle.cq_theory.specs.declared.constant.Con.{Con}
@@ -45,10 +45,11 @@ use Rattle.cq_theory.specs.Sorts.{Generators, type_at, entity_of, type_of}
 use Rattle.cq_theory.specs.Derivation.{Derivation, Derivations, reflexivity, symmetry, transitivity, key, attribute, function, given, path_equation, observation, none, more, left_of, right_of, Concludes, Conclude, Derives}
 use Rattle.cq_theory.specs.Tables.{Tables, Meaning, AtRow, AtValue, Assignment, row_in, value_in, count_of, key_at, cell_at, row_from, row_of, applied}
 use Rattle.cq_theory.proofs.TypeTerms.{fold-Gen, fold-Const, fold-Att, fold-Fun, Each, on_terms}
-use Rattle.cq_model.proofs.Lists.{IsIn, get-map, get-append, get-append_front, in_map, in_flat_map, in_range_from}
-use Rattle.cq_model.proofs.BuiltTerms.{out-Gen, out-Const, out-Fun, type_at_some, EachTyped, args_typed, typed_generator}
-use Rattle.cq_model.proofs.BuiltEntries.{in_filter, get-enumerate}
-use Rattle.cq_model.proofs.BuiltSubstituted.{row_from-append}
+use Rattle.cq_instance.proofs.Lists.{IsIn, get-map, get-append, get-append_front, in_map, in_flat_map, in_range_from}
+use Rattle.cq_instance.proofs.TypedTerms.{out-Gen, out-Const, out-Fun, type_at_some, EachTyped, args_typed, typed_generator}
+use Rattle.cq_instance.proofs.Enumerated.{get-enumerate_from}
+use Rattle.cq_model.proofs.BuiltEntries.{in_filter}
+use Rattle.cq_instance.proofs.SubstitutedTerms.{row_from-append}
 use Rattle.cq_model.proofs.BuiltNodes as nodes_say
 use Rattle.cq_model.proofs.BuiltNodes.{at_place, derived_typed}
 use Rattle.cq_model.proofs.BuiltClosure as closure_says
@@ -93,7 +94,7 @@ module _ (S : Schema) (P : Presentation) (m : Content) (rows : List ℕ) (schema
   generator_is n g h =
       let stands : ℕ × (Name × Sort) → Meaning = λ (g : ℕ × (Name × Sort)). standing S P m rows order numbers places flat.values g.0 g.1.1 in
       let here : 0 + n ≡ n = omega arith in
-      get_or_from_slice_get A n (stands (n, g)) (AtRow 0) (get-map stands (enumerate_from 0 G) n (0 + n, g) (get-enumerate 0 G n g h) ∙ ap (λ k. Some (stands (k, g))) here)
+      get_or_from_slice_get A n (stands (n, g)) (AtRow 0) (get-map stands (enumerate_from 0 G) n (0 + n, g) (get-enumerate_from 0 G n g h) ∙ ap (λ k. Some (stands (k, g))) here)
 
   pub type_generator : (n type : ℕ) → type_at (slice_get G n) ≡ Some type → slice_index_or A n (AtRow 0) ≡ AtValue (value_here (slice_index places.generators n))
   type_generator n type h =
@@ -105,7 +106,7 @@ module _ (S : Schema) (P : Presentation) (m : Content) (rows : List ℕ) (schema
   cells_are a edge h =
       let column : ℕ × Edge → List Value = cell_column S P m rows order numbers places flat.values in
       let here : 0 + a ≡ a = omega arith in
-      get_or_from_slice_get M.sheet.cells a (column (a, edge)) [] (get-map column (enumerate_from 0 S.attributes) a (0 + a, edge) (get-enumerate 0 S.attributes a edge h) ∙ ap (λ k. Some (column (k, edge))) here)
+      get_or_from_slice_get M.sheet.cells a (column (a, edge)) [] (get-map column (enumerate_from 0 S.attributes) a (0 + a, edge) (get-enumerate_from 0 S.attributes a edge h) ∙ ap (λ k. Some (column (k, edge))) here)
 
   cell_is : (a : ℕ) (edge : Edge) (r : ℕ) → slice_get S.attributes a ≡ Some edge → live_of m r ≡ true → edge.from ≡ row_entity m r → cell_at M a (slice_index numbers r) ≡ value_here (cell_place places r a)
   cell_is a edge r h live from =

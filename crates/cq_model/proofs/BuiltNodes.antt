@@ -12,8 +12,8 @@ use Rattle.cq_flat.specs.Congruence as congruent
 use Rattle.cq_flat.specs.Congruence.{Congruent, AllCongruent}
 use Rattle.cq_flat.specs.Values.{Closure}
 use Rattle.cq_model.specs.declared.places.Places.{Places}
-use Rattle.cq_model.specs.Closed.{AreClosed}
-use Rattle.cq_model.specs.LeastNames.{rows_at, terms_at}
+use Rattle.cq_names.specs.Closed.{AreClosed}
+use Rattle.cq_names.specs.LeastNames.{rows_at, terms_at}
 use Rattle.cq_model.specs.NodeTerms.{equation_sides, row_sides, entity_sides, given_sides, leaf_terms, cell_place, StandsAt, StandsFor, EachStands, IsNodeAt}
 use Rattle.cq_model.specs.Built.{IsClosureOf, IsBuilt}
 use Rattle.cq_theory.specs.declared.constant.Con.{Con}
@@ -40,9 +40,9 @@ use Rattle.cq_theory.specs.Derivation.{given, observation, Derives, EachDerives}
 use Rattle.cq_theory.proofs.TypeTerms.{on_terms}
 use Rattle.cq_theory.proofs.Sorted.{sort_of-derived}
 use Rattle.cq_theory.proofs.Derivations.{Derives-reflexive, Derives-symmetric, Derives-transitive, Derives-attribute, Derives-function}
-use Rattle.cq_model.proofs.Lists.{IsIn, in_append, from_flat_map, from_map}
+use Rattle.cq_instance.proofs.Lists.{IsIn, in_append, from_flat_map, from_map}
 use Rattle.cq_model.proofs.Variants.{out-Att}
-use Rattle.cq_model.proofs.BuiltTerms.{out-Gen, out-Const, out-Fun, IsTyped, EachTyped, args_typed, IsTypedCell, typed_cell, typed_generator}
+use Rattle.cq_instance.proofs.TypedTerms.{out-Gen, out-Const, out-Fun, IsTyped, EachTyped, args_typed, IsTypedCell, typed_cell, typed_generator}
 use Rattle.cq_model.proofs.BuiltEntries.{from_filter}
 use Rattle.cq_model.proofs.BuiltRows as rows_say
 

@@ -14,16 +14,15 @@ use Rattle.cq_theory.specs.declared.term.EntTerm.{EntTerm}
 use Rattle.cq_theory.specs.declared.value.Sheet.{Sheet}
 use Rattle.cq_theory.specs.declared.value.Algebra.{Algebra}
 use Rattle.cq_model.specs.declared.places.Places.{Places}
-use Rattle.cq_model.specs.Closed.{AreClosed}
-use Rattle.cq_model.specs.LeastNames.{rows_at}
+use Rattle.cq_names.specs.Closed.{AreClosed}
+use Rattle.cq_names.specs.LeastNames.{rows_at}
 use Rattle.cq_model.specs.NodeTerms.{cell_place}
 use Rattle.cq_model.specs.Built.{IsClosureOf, IsBuilt, sheet_of, tables_of}
 use Rattle.cq_base.specs.declared.name.Name.{Name}
 use Rattle.cq_theory.specs.declared.presentation.Sort.{Sort}
 use Rattle.cq_theory.specs.declared.presentation.Sort.TheVariants.{Plain, Entity}
 use Rattle.cq_theory.specs.Sorts.{type_at}
-use Rattle.cq_model.specs.Standing.{HasPlace}
-use Rattle.cq_model.proofs.Lists.{All_from}
+use Rattle.cq_instance.proofs.Lists.{All_from}
 
 module _ (S : Schema) (P : Presentation) (m : Content) (rows : List ℕ) (closed : AreClosed S P m rows)
     (order : List (List ℕ)) (names : List (List EntTerm)) (numbers : List ℕ) (places : Places) (nodes : List Node) (equations : List (ℕ × ℕ)) (types : List ℕ)

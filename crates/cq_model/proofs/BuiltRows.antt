@@ -10,14 +10,15 @@ use Rattle.cq_rows.specs.Rows.{row_of_term}
 use Rattle.cq_rows.proofs.Bridge.{step_same, map_some}
 use Rattle.cq_flat.specs.Values.{Closure}
 use Rattle.cq_model.specs.declared.places.Places.{Places}
-use Rattle.cq_model.specs.Closed.{AreClosed}
-use Rattle.cq_model.specs.LeastNames.{rows_at, terms_at, IsLeast, AreNumbered}
+use Rattle.cq_names.specs.Closed.{AreClosed}
+use Rattle.cq_names.specs.LeastNames.{rows_at, terms_at, IsLeast, AreNumbered}
 use Rattle.cq_model.specs.Built.{tables_of, assignment_of, number_in, key_column, standing}
-use Rattle.cq_model.proofs.Enumerated.{numbered_at}
-use Rattle.cq_model.proofs.Lists.{get-map, All_from, get-map_from}
+use Rattle.cq_instance.proofs.TypedTerms.{entity_at_some}
+use Rattle.cq_instance.proofs.Enumerated.{numbered_at}
+use Rattle.cq_instance.proofs.Lists.{get-map, All_from, get-map_from}
 use Rattle.cq_theory.specs.declared.presentation.Presentation.{Presentation}
 use Rattle.cq_theory.specs.declared.presentation.Sort.{Sort}
-use Rattle.cq_theory.specs.declared.presentation.Sort.TheVariants.{Plain, Entity}
+use Rattle.cq_theory.specs.declared.presentation.Sort.TheVariants.{Entity}
 use Rattle.cq_theory.specs.declared.presentation.Equation.TheVariants.{Ent as EntEquation}
 use Rattle.cq_theory.specs.declared.schema.Edge.{Edge}
 use Rattle.cq_theory.specs.declared.schema.PathEq.{PathEq}
@@ -41,15 +42,6 @@ length_at : {X : Type 0} (lists : List (List X)) (n : ℕ) → slice_index (map 
 length_at [] n = refl
 length_at (l ∷ lists) zero = refl
 length_at (l ∷ lists) (suc n) = length_at lists n
-
--- the generator that has an entity
-pub entity_at_some : (o : Option (Name × Sort)) (e : ℕ) → entity_at o ≡ Some e → (g : Name × Sort) × (o ≡ Some g) × (g.1 ≡ Entity e)
-entity_at_some None e h = cc
-entity_at_some (Some g) e h = (g, refl, go g.1 h)
-  where
-    go : (sort : Sort) → entity_at (Some (g.0, sort)) ≡ Some e → sort ≡ Entity e
-    go (Plain n) h = cc
-    go (Entity n) h = let same : n ≡ e = cc in ap Entity same
 
 module _ (S : Schema) (P : Presentation) (m : Content) (rows : List ℕ) (schema : IsSchema S) (presentation : IsPresentation S P) (closed : AreClosed S P m rows)
     (order : List (List ℕ)) (names : List (List EntTerm)) (numbers : List ℕ) (numbered : AreNumbered S P m rows order names numbers)

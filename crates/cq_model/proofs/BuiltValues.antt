@@ -9,8 +9,8 @@ use Rattle.cq_flat.specs.declared.node.Node.TheVariants as node
 use Rattle.cq_flat.specs.Congruence as congruent
 use Rattle.cq_flat.specs.Values.{Closure, value_at, AreEqualConstants, IsLeastConstant, IsLeastClash}
 use Rattle.cq_model.specs.declared.places.Places.{Places}
-use Rattle.cq_model.specs.Closed.{AreClosed}
-use Rattle.cq_model.specs.LeastNames.{rows_at}
+use Rattle.cq_names.specs.Closed.{AreClosed}
+use Rattle.cq_names.specs.LeastNames.{rows_at}
 use Rattle.cq_model.specs.NodeTerms.{leaf_terms, cell_place, StandsAt, StandsFor, EachStands}
 use Rattle.cq_model.specs.Built.{IsClosureOf, IsBuilt, tables_of, assignment_of}
 use Rattle.cq_theory.specs.Constant.{IsAtMost}
@@ -43,11 +43,11 @@ use Rattle.cq_theory.specs.Tables.{Tables, AtRow, Assignment, count_of, value_of
 use Rattle.cq_theory.proofs.TypeTerms.{fold-Gen, fold-Const, fold-Fun, Each, on_terms}
 use Rattle.cq_theory.proofs.Values as values_say
 use Rattle.cq_theory.proofs.Derivations.{Derives-reflexive, Derives-symmetric, Derives-transitive, Derives-function}
-use Rattle.cq_model.proofs.Lists.{All_from, get-map_from}
+use Rattle.cq_instance.proofs.Lists.{All_from, get-map_from}
 use Rattle.cq_model.proofs.Variants.{out-Att}
-use Rattle.cq_model.proofs.BuiltTerms.{out-Gen, EachTyped, args_typed, typed_cell, typed_function, type_within}
+use Rattle.cq_instance.proofs.TypedTerms.{out-Gen, EachTyped, args_typed, typed_cell, typed_function, type_within}
 use Rattle.cq_model.proofs.BuiltEntries.{is_for_from, IsEntryOf, entry_node, entries_apart}
-use Rattle.cq_model.proofs.BuiltSubstituted.{value_of-substituted}
+use Rattle.cq_instance.proofs.SubstitutedTerms.{value_of-substituted}
 use Rattle.cq_model.proofs.BuiltNodes as nodes_say
 use Rattle.cq_model.proofs.BuiltNodes.{one_at, typed_ground, one_type}
 use Rattle.cq_model.proofs.BuiltClosure as closure_says

@@ -1,30 +1,13 @@
 -- Columns that are read edge by edge.
-use Rattle.std.proofs.Common.{ℕ, List, [], ◌∷◌, ◌++◌, Option, Some, None, ◌≡◌, ◌<◌, ◌+◌, ◌==◌, if◌then◌else◌, map, take, length, get_or, refl, sym, ap, subst, ◌∙◌, arith, eq-eqb}
+use Rattle.std.proofs.Common.{ℕ, List, [], Option, Some, None, ◌≡◌, ◌<◌, ◌==◌, if◌then◌else◌, map, length, get_or, refl, sym, ap, subst, ◌∙◌, eq-eqb}
 use Rattle.std.specs.Prelude.{slice_get, option_and_then, All, IsSome}
-use Rattle.std.specs.List.{enumerate_from}
-use Rattle.std.proofs.lemmas.List.{take_more, map-append, length-take-le, get_or_default}
+use Rattle.std.proofs.lemmas.List.{get_or_default}
 use Rattle.std.proofs.lemmas.Option.{slice_get-get_or}
 use Rattle.cq_rows.specs.Plain.{ends_of}
 use Rattle.cq_tables.specs.Content.{step_of}
 use Rattle.cq_theory.specs.declared.schema.Edge.{Edge}
-use Rattle.cq_model.specs.LeastNames.{rows_at}
-use Rattle.cq_model.proofs.Lists.{get-map, All_from}
-
-enumerate_from-append : {X : Type 0} (s : ℕ) (xs : List X) (x : X) → enumerate_from s (xs ++ x ∷ []) ≡ enumerate_from s xs ++ (s + length xs, x) ∷ []
-enumerate_from-append s [] x = let here : s ≡ s + 0 = omega arith in ap (λ n. (n, x) ∷ []) here
-enumerate_from-append s (y ∷ ys) x =
-    let there : s + 1 + length ys ≡ s + length (y ∷ ys) = omega arith in
-    ap (λ l. (s, y) ∷ l) (enumerate_from-append (s + 1) ys x ∙ ap (λ n. enumerate_from (s + 1) ys ++ (n, x) ∷ []) there)
-
--- one further member with its number
-pub enumerated_more : {X Y : Type 0} (f : ℕ × X → Y) (xs : List X) (i : ℕ) (d : X) → i < length xs
-    → map f (enumerate_from 0 (take (i + 1) xs)) ≡ map f (enumerate_from 0 (take i xs)) ++ f (i, get_or xs i d) ∷ []
-enumerated_more f xs i d within =
-    let so_far : length (take i xs) ≡ i = length-take-le i xs (omega arith) in
-    let here : 0 + length (take i xs) ≡ i = omega (arith, so_far) in
-    ap (λ l. map f (enumerate_from 0 l)) (take_more xs i d within)
-    ∙ ap (map f) (enumerate_from-append 0 (take i xs) (get_or xs i d) ∙ ap (λ n. enumerate_from 0 (take i xs) ++ (n, get_or xs i d) ∷ []) here)
-    ∙ map-append f (enumerate_from 0 (take i xs)) ((i, get_or xs i d) ∷ [])
+use Rattle.cq_names.specs.LeastNames.{rows_at}
+use Rattle.cq_instance.proofs.Lists.{get-map, All_from}
 
 module _ (edges : List Edge) (order : List (List ℕ)) (i : ℕ) (edge : Edge) (here : i < length edges) (is : edge ≡ get_or edges i edge) where
   pub edge_found : slice_get edges i ≡ Some edge

@@ -1,28 +1,14 @@
 -- What is counted out from grouped numbers is the numbering of the cells.
 use Rattle.std.proofs.Common.{ℕ, suc, List, [], ◌≡◌, ◌≤◌, ◌<◌, ◌+◌, ◌*◌, map, length, slice_index, slice_index_or, sym, ap, subst, ◌∙◌, arith}
-use Rattle.std.specs.Prelude.{All}
 use Rattle.std.specs.List.{flat_map}
 use Rattle.std.proofs.lemmas.List.{length-map}
-use Rattle.std.proofs.lemmas.Option.{slice_get_within}
 use Rattle.std.proofs.lemmas.List.FromFn.{get_or-map-range_with_len}
 use Rattle.cq_theory.specs.Canonical.{below}
 use Rattle.cq_theory.specs.Groups.{positions}
-use Rattle.cq_model.specs.Numbering.{members, Cell, row_cells, entity_cells, cells, entity_types, types, starts}
-use Rattle.cq_model.proofs.Lists.{flat_map_same, map-map, map-flat_map, in_range, All_from, get-map_from}
-use Rattle.cq_model.proofs.Ranks.{positions_at, members-length}
+use Rattle.cq_names.specs.Ranks.{members}
+use Rattle.cq_model.specs.Numbering.{Cell, row_cells, entity_cells, cells, entity_types, types, starts}
+use Rattle.cq_instance.proofs.Lists.{flat_map_same, map-map, map-flat_map, in_range}
 use Rattle.cq_model.proofs.Numbering.{next_start, cells-monotone}
-
--- lists of groups, of which each has a property
-pub All_groups : (P : List ℕ → Type 0) (xs : List ℕ) (n : ℕ) → ((e : ℕ) → P (positions xs e)) → All P (map (positions xs) (below n))
-All_groups P xs n h = All_from P (map (positions xs) (below n)) (λ k group is.
-    let e = get-map_from (positions xs) (below n) k group is in subst P e.2 (h e.0))
-
-pub few_members : (xs : List ℕ) (n limit : ℕ) → length xs < limit → All (λ group. length group < limit) (map (positions xs) (below n))
-few_members xs n limit few = All_groups (λ group. length group < limit) xs n (λ e. omega (arith, members-length xs e))
-
-pub members_within : (xs : List ℕ) (n limit : ℕ) → length xs ≡ limit → All (λ group. All (λ k. k < limit) group) (map (positions xs) (below n))
-members_within xs n limit size = All_groups (λ group. All (λ k. k < limit) group) xs n (λ e.
-    All_from (λ k. k < limit) (positions xs e) (λ r k is. omega (arith, slice_get_within xs k e (positions_at xs e r k is).0)))
 
 module _ (owners sources targets : List ℕ) (entities : ℕ) where
   abbrev rows : List (List ℕ)

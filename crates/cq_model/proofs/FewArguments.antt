@@ -30,8 +30,8 @@ use Rattle.cq_theory.specs.Tables.{Tables, Assignment, value_of, is_for}
 use Rattle.cq_theory.specs.Listed.{subterms, subterms_step, names_of, cell_nodes, generator_node, equation_nodes, observation_nodes, nodes, node_entry, Lists}
 use Rattle.cq_theory.proofs.TypeTerms.{fold-Gen, fold-Const, fold-Att, fold-Fun, para-Gen, para-Const, para-Att, para-Fun, Each, on_terms}
 use Rattle.cq_theory.proofs.Every.{Every, Every-append, Every-flat_map, Every-map, Every-filter_map, Every-at, from_filter}
-use Rattle.cq_model.proofs.Lists.{IsIn, All_from}
-use Rattle.cq_model.proofs.BuiltTerms.{out-Gen, out-Const, out-Fun}
+use Rattle.cq_instance.proofs.Lists.{IsIn, All_from}
+use Rattle.cq_instance.proofs.TypedTerms.{out-Gen, out-Const, out-Fun}
 use Rattle.cq_model.proofs.Variants.{out-Att}
 use Rattle.cq_model.proofs.BuiltEntries.{from_firsts, from_filter_map}
 

@@ -1,7 +1,7 @@
 -- The places of cells among the leaves.
-use Rattle.std.proofs.Common.{ℕ, Bool, true, false, List, [], ◌∷◌, Some, ◌≡◌, ◌<◌, ◌+◌, cond, map, filter, length, slice_index_or, refl, sym, ap, ◌∙◌, arith}
-use Rattle.std.specs.Prelude.{slice_get, ◌==◌, if◌then◌else◌}
-use Rattle.std.specs.List.{flat_map, enumerate_from}
+use Rattle.std.proofs.Common.{ℕ, List, [], Some, ◌≡◌, ◌<◌, map, length, slice_index_or, sym, ap, ◌∙◌, arith}
+use Rattle.std.specs.Prelude.{slice_get}
+use Rattle.std.specs.List.{flat_map}
 use Rattle.std.proofs.lemmas.List.Folds.{flat_map-map}
 use Rattle.std.proofs.lemmas.List.FromFn.{get_or-map-range_with_len}
 use Rattle.cq_theory.specs.declared.presentation.Presentation.{Presentation}
@@ -13,25 +13,14 @@ use Rattle.cq_theory.specs.declared.term.TypeTerm.TheVariants.{Att}
 use Rattle.cq_theory.specs.Canonical.{below, edges_from}
 use Rattle.cq_theory.specs.Listed.{cell_nodes}
 use Rattle.cq_model.specs.LeafPlaces.{sources}
-use Rattle.cq_theory.specs.Groups.{positions_from, positions}
-use Rattle.cq_model.specs.Numbering.{rank, Cell, row_cells, entity_cells, cells, label}
-use Rattle.cq_model.specs.RowNumbers.{name_in, names_by}
-use Rattle.cq_model.proofs.Lists.{flat_map_same, map-map, map-flat_map, in_range}
-use Rattle.cq_model.proofs.Ranks.{positions_rank}
+use Rattle.cq_theory.specs.Groups.{positions}
+use Rattle.cq_names.specs.Ranks.{rank}
+use Rattle.cq_model.specs.Numbering.{Cell, row_cells, entity_cells, cells, label}
+use Rattle.cq_names.specs.RowNumbers.{name_in, names_by}
+use Rattle.cq_instance.proofs.EdgeNumbers.{edge_numbers}
+use Rattle.cq_instance.proofs.Lists.{flat_map_same, map-map, map-flat_map, in_range}
+use Rattle.cq_names.proofs.Ranks.{positions_rank}
 use Rattle.cq_model.proofs.Numbering.{cell_labelled, in_cells}
-
--- the numbers of the edges from an entity are the positions of the entity among the sources
-pub edge_numbers : (s : ℕ) (edges : List Edge) (e : ℕ)
-    → map (λ (p : ℕ × Edge). p.0) (filter (λ (p : ℕ × Edge). p.1.from == e) (enumerate_from s edges)) ≡ positions_from s (map (λ (edge : Edge). edge.from) edges) e
-edge_numbers s [] e = refl
-edge_numbers s (edge ∷ edges) e =
-    let rest = edge_numbers (s + 1) edges e in
-    kept (edge.from == e) (filter (λ (p : ℕ × Edge). p.1.from == e) (enumerate_from (s + 1) edges))
-    ∙ (λ i. if edge.from == e then s ∷ rest i else rest i)
-  where
-    kept : (b : Bool) (ps : List (ℕ × Edge)) → map (λ (p : ℕ × Edge). p.0) (cond b ((s, edge) ∷ ps) ps) ≡ (if b then s ∷ map (λ (p : ℕ × Edge). p.0) ps else map (λ (p : ℕ × Edge). p.0) ps)
-    kept true ps = refl
-    kept false ps = refl
 
 module _ (S : Schema) (P : Presentation) (owners : List ℕ) (names : List EntTerm) where
   abbrev entities : ℕ

@@ -8,7 +8,7 @@ use Rattle.cq_flat.specs.declared.node.Node.TheVariants as node
 use Rattle.cq_flat.specs.Congruence.{constants as equal_constants}
 use Rattle.cq_flat.specs.Values.{Closure, AreEqualConstants, IsLeastClash, value_at}
 use Rattle.cq_model.specs.declared.places.Places.{Places}
-use Rattle.cq_model.specs.Closed.{AreClosed}
+use Rattle.cq_names.specs.Closed.{AreClosed}
 use Rattle.cq_model.specs.Built.{IsClosureOf, IsBuilt}
 use Rattle.cq_theory.specs.declared.constant.Con.{Con}
 use Rattle.cq_theory.specs.declared.presentation.Presentation.{Presentation}

@@ -11,7 +11,7 @@ use Rattle.cq_rows.proofs.Bridge.{map_some}
 use Rattle.cq_flat.specs.declared.node.Node.{Node}
 use Rattle.cq_flat.specs.Values.{Closure}
 use Rattle.cq_model.specs.declared.places.Places.{Places}
-use Rattle.cq_model.specs.Closed.{AreClosed}
+use Rattle.cq_names.specs.Closed.{AreClosed}
 use Rattle.cq_model.specs.NodeTerms.{leaf_terms}
 use Rattle.cq_model.specs.Built.{IsClosureOf, IsBuilt, tables_of, assignment_of, key_column, cell_column, standing}
 use Rattle.cq_theory.specs.declared.presentation.Presentation.{Presentation}
@@ -31,7 +31,7 @@ use Rattle.cq_theory.specs.Sorts.{entity_at, type_at, entity_of, type_of, sort_o
 use Rattle.cq_theory.specs.Derivation.{given, left_of, right_of, Derives}
 use Rattle.cq_theory.specs.Tables.{Tables, AtRow, AtValue, Assignment, count_of, row_of, value_of, meaning_of, HasSort, IsWellFormed, Holds, Initial}
 use Rattle.cq_theory.proofs.Sound.{meaning_of-derived}
-use Rattle.cq_model.proofs.Lists.{get-map_from}
+use Rattle.cq_instance.proofs.Lists.{get-map_from}
 use Rattle.cq_model.proofs.BuiltRows.{key_columns, generator_rows, paths_hold, entity_equations_hold, one_row_derives, least_name}
 use Rattle.cq_model.proofs.BuiltValues.{derived_value_of, node_values, one_value_derives, cell_columns, null_types, sound_entries, distinct_entries, generator_values, observations_hold}
 

@@ -10,8 +10,8 @@ use Rattle.cq_flat.specs.declared.node.Node.{Node}
 use Rattle.cq_flat.specs.declared.node.Node.TheVariants as node
 use Rattle.cq_flat.specs.Values.{Closure, value_at, entry_of}
 use Rattle.cq_model.specs.declared.places.Places.{Places}
-use Rattle.cq_model.specs.Closed.{AreClosed}
-use Rattle.cq_model.specs.LeastNames.{terms_at}
+use Rattle.cq_names.specs.Closed.{AreClosed}
+use Rattle.cq_names.specs.LeastNames.{terms_at}
 use Rattle.cq_model.specs.NodeTerms.{side_terms, given_sides, leaf_terms, IsConstantTerm, IsLeafOrConstant, EachStands, IsNodeAt}
 use Rattle.cq_model.specs.Built.{IsClosureOf, IsBuilt, tables_of, assignment_of}
 use Rattle.cq_theory.specs.declared.constant.Con.{Con}
@@ -40,11 +40,11 @@ use Rattle.cq_theory.proofs.TypeTerms.{fold-Const, fold-Att, fold-Fun, on_terms}
 use Rattle.cq_theory.proofs.Sorted.{sort_of-derived}
 use Rattle.cq_theory.proofs.Sound.{followed_some, both, is_type_some, applied_type_some}
 use Rattle.cq_rows.proofs.Bridge.{map_some}
-use Rattle.cq_model.proofs.Lists.{IsIn, get-append, get-append_front, in_map, in_flat_map, in_append, in_range_from, get-map, All_at, All_from}
+use Rattle.cq_instance.proofs.Lists.{IsIn, get-append, get-append_front, in_map, in_flat_map, in_append, in_range_from, get-map, All_at, All_from}
 use Rattle.cq_model.proofs.Variants.{out-Att}
-use Rattle.cq_model.proofs.BuiltTerms.{out-Gen, out-Const, out-Fun, type_at_some}
+use Rattle.cq_instance.proofs.TypedTerms.{out-Gen, out-Const, out-Fun, type_at_some}
 use Rattle.cq_model.proofs.BuiltEntries.{in_filter, in_filter_map}
-use Rattle.cq_model.proofs.Enumerated.{get-enumerate}
+use Rattle.cq_instance.proofs.Enumerated.{get-enumerate}
 use Rattle.cq_model.specs.Thins.{Thins}
 use Rattle.cq_model.proofs.Thinning.{from_Thins, filter_map-Thins, firsts-Thins}
 use Rattle.cq_model.proofs.NodeList.{pair_subterms, nodes_are, IsTyped, sides_thinned}

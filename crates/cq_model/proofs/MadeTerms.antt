@@ -5,7 +5,7 @@ use Rattle.std.specs.List.{flat_map}
 use Rattle.std.proofs.lemmas.Option.{same_Some}
 use Rattle.cq_model.specs.NodeTerms.{made_terms, side_terms}
 use Rattle.cq_model.specs.Thins.{Thins}
-use Rattle.cq_model.proofs.Lists.{IsIn, in_append, from_flat_map}
+use Rattle.cq_instance.proofs.Lists.{IsIn, in_append, from_flat_map}
 use Rattle.cq_model.proofs.PlacedLeaves.{out-Gen}
 use Rattle.cq_model.proofs.PushedTerms.{made-Gen, made-Const, made-Att, made-Fun, out-Const, out-Fun}
 use Rattle.cq_model.proofs.Thinning.{in_thinned}

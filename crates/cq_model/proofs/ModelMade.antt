@@ -10,14 +10,14 @@ use Rattle.cq_model.specs.declared.building.ModelParts.{ModelParts}
 use Rattle.cq_model.specs.declared.places.Places.{Places}
 use Rattle.cq_model.specs.Built.{IsClosureOf, IsBuilt, tables_of, assignment_of}
 use Rattle.cq_model.specs.BuiltParts.{instance_of}
-use Rattle.cq_model.specs.Closed.{AreClosed}
-use Rattle.cq_model.specs.InstanceData.{InstanceData, IsInstance}
-use Rattle.cq_model.specs.Listed.{IsListed}
+use Rattle.cq_names.specs.Closed.{AreClosed}
+use Rattle.cq_instance.specs.InstanceData.{InstanceData, IsInstance}
+use Rattle.cq_instance.specs.Listed.{IsListed}
 use Rattle.cq_model.specs.NodeTerms.{leaf_terms}
-use Rattle.cq_model.specs.Standing.{meaning}
+use Rattle.cq_instance.specs.Standing.{meaning}
 use Rattle.cq_model.proofs.BuiltListed as built_says
 use Rattle.cq_model.proofs.BuiltNodes.{at_place, function_node}
-use Rattle.cq_model.proofs.Lists.{All_from}
+use Rattle.cq_instance.proofs.Lists.{All_from}
 use Rattle.cq_theory.specs.Constant.{IsLesser}
 use Rattle.cq_theory.proofs.Constants.{lesser-irreflexive}
 use Rattle.cq_theory.specs.declared.constant.Con.{Con}

@@ -18,25 +18,27 @@ use Rattle.cq_theory.specs.declared.term.TypeTerm.{TypeTerm}
 use Rattle.cq_theory.specs.declared.term.TypeTerm.TheVariants.{Gen}
 use Rattle.cq_theory.specs.Canonical.{below}
 use Rattle.cq_theory.specs.Sorts.{Generators}
-use Rattle.cq_model.specs.declared.numbers.NumberedRows.{NumberedRows}
+use Rattle.cq_names.specs.declared.numbers.NumberedRows.{NumberedRows}
 use Rattle.cq_model.specs.declared.places.Places.{Places}
 use Rattle.cq_model.specs.BuiltParts.{AreNamedRows, AreLeaves}
-use Rattle.cq_model.specs.Closed.{AreClosed}
+use Rattle.cq_names.specs.Closed.{AreClosed}
 use Rattle.cq_model.specs.Equating.{IsPresented}
 use Rattle.cq_model.specs.LeafPlaces.{sources, targets, AreFirsts, AddsLeaves, AddsGenerators, plain_type, places_from}
 use Rattle.cq_model.specs.NodeListData.{NodeListData}
 use Rattle.cq_model.specs.NodeTerms.{leaf_terms, ArePlaces, AreSidesOf}
 use Rattle.cq_theory.specs.Groups.{positions}
-use Rattle.cq_model.specs.Numbering.{rank, types, starts}
+use Rattle.cq_names.specs.Ranks.{rank}
+use Rattle.cq_model.specs.Numbering.{types, starts}
 use Rattle.cq_model.specs.Pushing.{HavePlaces, AreTermsOf}
-use Rattle.cq_model.specs.RowNumbers.{row_entities, names_by}
-use Rattle.cq_model.proofs.BuiltRows.{entity_at_some}
-use Rattle.cq_model.proofs.BuiltTerms.{type_at_some}
-use Rattle.cq_model.proofs.Counted.{members_within, starts_fit}
-use Rattle.cq_model.proofs.Lists.{All_at, All_from, get-map_from}
-use Rattle.cq_model.proofs.NumberedRows.{walk_live, walk_once}
+use Rattle.cq_names.specs.RowNumbers.{row_entities, names_by}
+use Rattle.cq_instance.proofs.TypedTerms.{entity_at_some}
+use Rattle.cq_instance.proofs.TypedTerms.{type_at_some}
+use Rattle.cq_names.proofs.RowMembers.{members_within}
+use Rattle.cq_model.proofs.Counted.{starts_fit}
+use Rattle.cq_instance.proofs.Lists.{All_at, All_from, get-map_from}
+use Rattle.cq_names.proofs.NumberedNames.{walk_live, walk_once}
 use Rattle.cq_model.proofs.PlacedLeaves.{leaf_places, node_is_leaf, leaves_listed, have_places}
-use Rattle.cq_model.proofs.RowMembers.{members_in}
+use Rattle.cq_names.proofs.RowMembers.{members_in}
 
 -- the attributes of each entity
 abbrev pub attributes_by : Schema → List (List ℕ)

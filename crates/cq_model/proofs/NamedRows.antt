@@ -5,14 +5,14 @@ use Rattle.cq_tables.specs.Content.{Content, made_of}
 use Rattle.cq_theory.specs.declared.presentation.Presentation.{Presentation}
 use Rattle.cq_theory.specs.SchemaData.{SchemaData as Schema}
 use Rattle.cq_theory.specs.declared.term.EntTerm.{EntTerm}
-use Rattle.cq_model.specs.declared.numbers.NumberedRows.{NumberedRows}
+use Rattle.cq_names.specs.declared.numbers.NumberedRows.{NumberedRows}
 use Rattle.cq_model.specs.BuiltParts.{AreNamedRows}
-use Rattle.cq_model.specs.Closed.{AreClosed}
-use Rattle.cq_model.specs.LeastNames.{AreNumbered}
-use Rattle.cq_model.specs.RowNumbers.{AreNumberedAs}
-use Rattle.cq_model.specs.Walking.{IsWalkOf}
-use Rattle.cq_model.proofs.Lists.{All_from}
-use Rattle.cq_model.proofs.NumberedRows.{walk_live, are_numbered}
+use Rattle.cq_names.specs.Closed.{AreClosed}
+use Rattle.cq_names.specs.LeastNames.{AreNumbered}
+use Rattle.cq_names.specs.RowNumbers.{AreNumberedAs}
+use Rattle.cq_names.specs.Walking.{IsWalkOf}
+use Rattle.cq_instance.proofs.Lists.{All_from}
+use Rattle.cq_names.proofs.NumberedNames.{walk_live, are_numbered}
 
 module _ (S : Schema) (P : Presentation) (m : Content) (entries : List ℕ) (closed : AreClosed S P m entries)
     (rows : List ℕ) (names : List EntTerm) (walk : IsWalkOf S P m entries rows names) where

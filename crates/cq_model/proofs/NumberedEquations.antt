@@ -17,9 +17,9 @@ use Rattle.cq_model.specs.declared.places.Places.{Places}
 use Rattle.cq_model.specs.NodeListData.{NodeListData}
 use Rattle.cq_model.specs.Equating.{AddsSides}
 use Rattle.cq_model.proofs.AddedSides.{AreAtRow}
-use Rattle.cq_model.proofs.IndexedRows.{positions_at as group_at}
-use Rattle.cq_model.proofs.Lists.{get-map_from}
-use Rattle.cq_model.proofs.Ranks.{positions_at}
+use Rattle.cq_instance.proofs.IndexedRows.{positions_at as group_at}
+use Rattle.cq_instance.proofs.Lists.{get-map_from}
+use Rattle.cq_names.proofs.Ranks.{positions_at}
 
 -- what stands at a number
 abbrev listed : {X : Type 0} → Option X → List X

@@ -10,9 +10,10 @@ use Rattle.std.proofs.lemmas.List.FromFn.{length-range_with_len}
 use Rattle.std.proofs.lemmas.Option.{slice_get_within}
 use Rattle.cq_theory.specs.Canonical.{below}
 use Rattle.cq_theory.specs.Groups.{positions}
-use Rattle.cq_model.specs.Numbering.{rank, members, Cell, row_cells, entity_cells, cells, label}
-use Rattle.cq_model.proofs.Lists.{IsIn, get-map, in_map, in_flat_map, from_flat_map, from_map, flat_map_same, get-range, range-append, blocks, map-map, map-append, map-flat_map, map-range_shift, in_range, in_range_from}
-use Rattle.cq_model.proofs.Ranks.{positions_at, map_rank}
+use Rattle.cq_names.specs.Ranks.{rank, members}
+use Rattle.cq_model.specs.Numbering.{Cell, row_cells, entity_cells, cells, label}
+use Rattle.cq_instance.proofs.Lists.{IsIn, get-map, in_map, in_flat_map, from_flat_map, from_map, flat_map_same, get-range, range-append, blocks, map-map, map-append, map-flat_map, map-range_shift, in_range, in_range_from}
+use Rattle.cq_names.proofs.Ranks.{positions_at, map_rank}
 
 module _ (owners sources : List ℕ) where
   -- the number of a cell

@@ -23,20 +23,22 @@ use Rattle.cq_theory.specs.Canonical.{below}
 use Rattle.cq_theory.specs.Sorts.{type_of, type_step, entity_of, followed}
 use Rattle.cq_theory.proofs.TypeTerms.{fold-Gen, fold-Att}
 use Rattle.cq_model.specs.declared.places.Places.{Places}
-use Rattle.cq_model.specs.Closed.{AreClosed}
+use Rattle.cq_names.specs.Closed.{AreClosed}
 use Rattle.cq_theory.specs.Groups.{positions}
-use Rattle.cq_model.specs.Numbering.{rank, members as size_of, Cell, cells, label, types, starts}
-use Rattle.cq_model.specs.RowNumbers.{name_in, row_entities, names_by}
+use Rattle.cq_names.specs.Ranks.{rank}
+use Rattle.cq_names.specs.Ranks.{members as size_of}
+use Rattle.cq_model.specs.Numbering.{Cell, cells, label, types, starts}
+use Rattle.cq_names.specs.RowNumbers.{name_in, row_entities, names_by}
 use Rattle.cq_model.specs.LeafPlaces.{sources, targets, AreFirsts, plain_type, places_from}
-use Rattle.cq_model.specs.Walking.{IsWalkOf}
+use Rattle.cq_names.specs.Walking.{IsWalkOf}
 use Rattle.cq_model.specs.NodeListData.{NodeListData}
 use Rattle.cq_model.specs.NodeTerms.{leaf_terms, cell_place, StandsAt, StandsFor, IsLeafOrConstant, IsNodeAt, ArePlaces}
 use Rattle.cq_model.specs.Pushing.{HavePlaces, AreTermsOf}
-use Rattle.cq_model.proofs.Lists.{get-map, get-append, get-append_front, get-map_from}
+use Rattle.cq_instance.proofs.Lists.{get-map, get-append, get-append_front, get-map_from}
 use Rattle.cq_model.proofs.Variants.{out-Att}
 use Rattle.cq_model.proofs.Numbering.{label_of, label_at, from_cells, IsCell}
 use Rattle.cq_model.proofs.Counted.{types_are, first_is, attributes_at}
-use Rattle.cq_model.proofs.NumberedRows.{walk_leads, walk_entity, walk_live, walk_lengths, listed}
+use Rattle.cq_names.proofs.NumberedNames.{walk_leads, walk_entity, walk_live, walk_lengths, listed}
 use Rattle.cq_model.proofs.LeafCells.{all_cells, term_of, cell_terms, cell_found}
 use Rattle.cq_model.proofs.LeafGenerators.{terms_from, IsGeneratorAt, generator_at, generator_place, same_count}
 

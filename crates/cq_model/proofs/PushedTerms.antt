@@ -25,7 +25,7 @@ use Rattle.cq_theory.specs.declared.term.TypeTerm.TheOpen as layer
 use Rattle.cq_theory.specs.declared.term.TypeTerm.TheViews.{out-TypeTerm, out-roll-TypeTerm}
 use Rattle.cq_theory.specs.Sorts.{Generators, type_of, type_step, type_at, entity_of}
 use Rattle.cq_theory.proofs.TypeTerms.{fold-Gen, para-Gen, para-Const, para-Att, para-Fun}
-use Rattle.cq_model.proofs.Lists.{get-append_front, map-append}
+use Rattle.cq_instance.proofs.Lists.{get-append_front, map-append}
 use Rattle.cq_model.proofs.Variants.{out-Att}
 use Rattle.cq_model.proofs.PlacedLeaves.{out-Gen}
 

@@ -1,7 +1,7 @@
 -- What it says of a term that it can be read: of an attribute its cell, of a constant and of a function its place, and of arguments that they can be read.
-use Rattle.std.proofs.Common.{ℕ, zero, suc, true, List, [], ◌∷◌, ◌++◌, Option, Some, ◌≡◌, ◌<◌, ◌≤◌, map, length, get_or, Result, Ok, Err, refl, sym, ap, subst, ◌∙◌, arith}
+use Rattle.std.proofs.Common.{ℕ, zero, suc, true, List, [], ◌∷◌, ◌++◌, Option, Some, ◌≡◌, ◌<◌, ◌≤◌, map, length, Result, Ok, Err, refl, sym, ap, subst, ◌∙◌, arith}
 use Rattle.std.specs.Prelude.{slice_get, slice_index, option_and_then, IsSome, IfOk, OnOk}
-use Rattle.std.proofs.lemmas.Option.{same_Some, option_and_then_some, slice_get_within, slice_get-get_or}
+use Rattle.std.proofs.lemmas.Option.{same_Some, option_and_then_some, slice_get_within}
 use Rattle.cq_flat.specs.declared.node.Node.TheVariants as node
 use Rattle.cq_tables.specs.Content.{Content, live_of, end_of, keys_of}
 use Rattle.cq_tables.specs.Content.{entity_of as row_entity}
@@ -22,10 +22,6 @@ use Rattle.cq_model.specs.NodeTerms.{cell_place}
 use Rattle.cq_model.specs.Pushing.{HavePlaces, IsReadable, IsPushed}
 use Rattle.cq_model.proofs.LeadingPaths.{path_leads, path_ends}
 use Rattle.cq_model.proofs.PushedTerms.{AreReadable-wider, pushed_cell, pushed_const, ArePushed, pushed_fun}
-
--- what an index into a list reads
-pub read_at : {X : Type 0} (xs items : List X) (i : ℕ) (d : X) → items ≡ xs → i < length items → slice_get xs i ≡ Some (get_or items i d)
-read_at {X} xs items i d same within = ap (λ (l : List X). slice_get l i) (sym same) ∙ slice_get-get_or items i d within
 
 -- where a call answers, both of its clauses hold
 pub if_answered : {X E : Type 0} (result : Result X E) (P : X → Type 0) (A : Type 0) (Q : X → Type 0) → ((x : X) → P x → A → Q x) → IfOk result P → OnOk result A → IfOk result Q

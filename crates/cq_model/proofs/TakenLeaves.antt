@@ -18,7 +18,7 @@ use Rattle.cq_theory.specs.declared.term.TypeTerm.{TypeTerm}
 use Rattle.cq_theory.specs.declared.term.TypeTerm.TheVariants as term
 use Rattle.cq_theory.specs.declared.term.TypeTerm.TheOpen as layer
 use Rattle.cq_theory.specs.declared.term.TypeTerm.TheViews.{out-TypeTerm}
-use Rattle.cq_model.proofs.Lists.{get-append_front, get-set, size-set, from-set, kept-set}
+use Rattle.cq_instance.proofs.Lists.{get-append_front, get-set, size-set, from-set, kept-set}
 use Rattle.cq_model.proofs.MadeTerms.{IsMadeLayer, IsMade, AllMade, all_made, from_layer}
 use Rattle.cq_model.proofs.PlacedLeaves.{split_at}
 use Rattle.cq_model.proofs.PushedTerms.{StandsFor-more, made-Const, one_more}

@@ -7,7 +7,7 @@ use Rattle.std.proofs.lemmas.Bool.{cases_Bool}
 use Rattle.std.proofs.lemmas.List.Elements.{filter_map-append}
 use Rattle.cq_theory.specs.Listed.{firsts}
 use Rattle.cq_model.specs.Thins.{Thins, ended, kept, skipped}
-use Rattle.cq_model.proofs.Lists.{IsIn}
+use Rattle.cq_instance.proofs.Lists.{IsIn}
 use Rattle.cq_model.proofs.BuiltEntries.{in_filter_map}
 
 module _ {X : Type 0} (Skips : X → Type 0) where

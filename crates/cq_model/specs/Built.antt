@@ -1,12 +1,12 @@
 -- What is built of closed rows and closed nodes.
-use Rattle.std.specs.Prelude.{ℕ, List, Option, Some, None, ◌≡◌, ◌++◌, map, length, slice_index}
+use Rattle.std.specs.Prelude.{ℕ, List, Option, Some, None, ◌≡◌, ◌<◌, ◌++◌, map, length, slice_index}
 use Rattle.std.specs.List.{enumerate_from, flat_map}
 use Rattle.cq_base.specs.declared.name.Name.{Name}
 use Rattle.cq_tables.specs.Content.{Content, cell_of}
 use Rattle.cq_flat.specs.declared.node.Node.{Node}
 use Rattle.cq_flat.specs.Values.{Closure, AreValues, AreLabels, entries_of, IsClash, value_at}
 use Rattle.cq_model.specs.declared.places.Places.{Places}
-use Rattle.cq_model.specs.LeastNames.{rows_at, AreNumbered}
+use Rattle.cq_names.specs.LeastNames.{rows_at, AreNumbered}
 use Rattle.cq_model.specs.NodeTerms.{given_sides, leaf_terms, side_terms, cell_place, IsConstantTerm, AreNodes, AreSidesOf}
 use Rattle.cq_model.specs.NodeTerms.{ArePlaces, AreTypes}
 use Rattle.cq_model.specs.Thins.{Thins}
@@ -27,6 +27,11 @@ pub record IsClosureOf (nodes : List Node) (equations : List (ℕ × ℕ)) (flat
   pub labels : AreLabels flat.values flat.nulls
   pub entries : flat.entries ≡ entries_of nodes flat.values
   pub clash : IsClash nodes equations flat.clash
+
+-- a generator of a type has a place among the closed terms
+abbrev pub HasPlace : Places → List Value → ℕ → Sort → Type 0
+HasPlace places values n (Plain type) = slice_index places.generators n < length values
+HasPlace places values n (Entity entity) = Unit {0}
 
 -- the number of a row that a cell holds
 abbrev pub number_in : List ℕ → Option ℕ → ℕ

@@ -5,18 +5,18 @@ use Rattle.cq_model.specs.declared.building.BuildRefusal.{BuildRefusal}
 use Rattle.cq_model.specs.declared.building.BuildRefusal.TheVariants.{Depth, TooManyRows, Inconsistent, Memory}
 use Rattle.cq_model.specs.declared.building.ClosedRows.{ClosedRows}
 use Rattle.cq_model.specs.declared.building.ModelParts.{ModelParts}
-use Rattle.cq_model.specs.declared.numbers.NumberedRows.{NumberedRows}
+use Rattle.cq_names.specs.declared.numbers.NumberedRows.{NumberedRows}
 use Rattle.cq_model.specs.declared.places.ClosedPlaces.{ClosedPlaces}
 use Rattle.cq_model.specs.declared.places.Places.{Places}
 use Rattle.cq_model.specs.Built.{tables_of, assignment_of}
 use Rattle.cq_model.specs.Equating.{IsPresented}
-use Rattle.cq_model.specs.InstanceData.{InstanceData}
+use Rattle.cq_instance.specs.InstanceData.{InstanceData}
 use Rattle.cq_model.specs.NodeListData.{NodeListData}
 use Rattle.cq_model.specs.NodeTerms.{leaf_terms, ArePlaces}
 use Rattle.cq_model.specs.Pushing.{HavePlaces, AreEquationsOf}
-use Rattle.cq_model.specs.RowNumbers.{AreNumberedAs}
-use Rattle.cq_model.specs.Standing.{meaning}
-use Rattle.cq_model.specs.Walking.{IsWalkOf}
+use Rattle.cq_names.specs.RowNumbers.{AreNumberedAs}
+use Rattle.cq_instance.specs.Standing.{meaning}
+use Rattle.cq_names.specs.Walking.{IsWalkOf}
 use Rattle.cq_theory.specs.declared.presentation.Presentation.{Presentation}
 use Rattle.cq_theory.specs.SchemaData.{SchemaData as Schema}
 use Rattle.cq_theory.specs.declared.term.EntTerm.{EntTerm}

@@ -7,7 +7,7 @@ use Rattle.cq_flat.specs.declared.node.Node.TheVariants.{Leaf}
 use Rattle.cq_theory.specs.declared.presentation.Sort.{Sort}
 use Rattle.cq_theory.specs.declared.presentation.Sort.TheVariants.{Plain, Entity}
 use Rattle.cq_theory.specs.SchemaData.{SchemaData}
-use Rattle.cq_model.specs.Numbering.{rank}
+use Rattle.cq_names.specs.Ranks.{rank}
 use Rattle.cq_model.specs.NodeListData.{NodeListData}
 
 -- the entity and the type of each attribute

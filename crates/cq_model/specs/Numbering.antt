@@ -1,19 +1,10 @@
 -- The numbering of cells: by entity, then by row, then by attribute.
 -- Everything here is of plain numbers: `owners` has the entity of each generator, `sources` that of each attribute.
-use Rattle.std.specs.Prelude.{ℕ, zero, suc, List, [], ◌∷◌, ◌+◌, ◌*◌, ◌==◌, if◌then◌else◌, map, length, slice_index, slice_index_or}
+use Rattle.std.specs.Prelude.{ℕ, List, [], ◌+◌, ◌*◌, map, length, slice_index, slice_index_or}
 use Rattle.std.specs.List.{flat_map}
 use Rattle.cq_theory.specs.Canonical.{below}
 use Rattle.cq_theory.specs.Groups.{positions}
-
--- how many of the first n members are e
-abbrev pub rank : List ℕ → ℕ → ℕ → ℕ
-rank [] e n = 0
-rank (x ∷ xs) e zero = 0
-rank (x ∷ xs) e (suc n) = if x == e then suc (rank xs e n) else rank xs e n
-
--- how many members are e
-abbrev pub members : List ℕ → ℕ → ℕ
-members xs e = length (positions xs e)
+use Rattle.cq_names.specs.Ranks.{rank, members}
 
 -- a cell: a generator of an entity, and an attribute from it
 pub record Cell : Type 0 where

@@ -1,7 +1,5 @@
 //! Laws of models that are read from closed rows and closed nodes. Each is the contract of a function that does
 //! nothing.
-pub mod canonical;
-
 ghost use Rattle.std.specs.Prelude.{ℕ, List, ◌≡◌, Some, None};
 ghost use Rattle.cq_tables.specs.Content.{Content};
 ghost use Rattle.cq_flat.specs.declared.node.Node.{Node};
@@ -15,7 +13,7 @@ ghost use Rattle.cq_theory.specs.declared.constant.Con.{Con};
 ghost use Rattle.cq_theory.specs.Closing.{IsInconsistentAt};
 ghost use Rattle.cq_theory.specs.Listed.{Lists};
 ghost use Rattle.cq_model.specs.declared.places.Places.{Places};
-ghost use Rattle.cq_model.specs.Closed.{AreClosed};
+ghost use Rattle.cq_names.specs.Closed.{AreClosed};
 ghost use Rattle.cq_model.specs.Built.{IsBuilt, IsClosureOf, tables_of, assignment_of};
 
 /// Tables whose rows are closed and stand in the order of their least names, and whose values are those of closed

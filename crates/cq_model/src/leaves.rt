@@ -3,7 +3,7 @@ ghost use Rattle.std.specs.Prelude.{ℕ, ◌≡◌, ◌<◌, ◌+◌, ◌*◌, �
 ghost use Rattle.std.specs.Prelude.{slice_index_or, IfOk, OnOk};
 ghost use Rattle.cq_theory.specs.Canonical.{below};
 ghost use Rattle.cq_theory.specs.Groups.{positions};
-ghost use Rattle.cq_model.specs.Numbering.{rank};
+ghost use Rattle.cq_names.specs.Ranks.{rank};
 ghost use Rattle.cq_model.specs.LeafPlaces.{AreFirsts, AddsLeaves, AddsGenerators};
 
 use crate::nodes::NodeList;

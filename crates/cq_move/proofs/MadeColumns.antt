@@ -25,10 +25,10 @@ use Rattle.cq_mapping.specs.Mapping.{IsMapping}
 use Rattle.cq_mapping.specs.Images.{entity_image, key_image, attribute_image}
 use Rattle.cq_mapping.specs.Duties.{Preserves}
 use Rattle.cq_mapping.specs.Moved.{cell_column, delta_tables}
-use Rattle.cq_model.specs.Given.{IsModel, tables, size_of, has_long_cell, is_oversized}
-use Rattle.cq_model.specs.Terms.{IsOnWay, IsTypeTermOf}
-use Rattle.cq_model.proofs.Lists.{All_from, get-map, get-range}
-use Rattle.cq_model.proofs.Enumerated.{get-enumerate}
+use Rattle.cq_instance.specs.Given.{IsModel, tables, size_of, has_long_cell, is_oversized}
+use Rattle.cq_instance.specs.Terms.{IsOnWay, IsTypeTermOf}
+use Rattle.cq_instance.proofs.Lists.{All_from, get-map, get-range}
+use Rattle.cq_instance.proofs.Enumerated.{get-enumerate}
 use Rattle.cq_move.specs.Pulling.{TellsSize}
 use Rattle.cq_move.proofs.Tests.{neither, some_at, none_at}
 use Rattle.cq_move.proofs.Pulled.{well_formed, satisfied}

@@ -18,8 +18,8 @@ use Rattle.cq_theory.proofs.TypeTerms.{fold-Gen, fold-Const, fold-Att, fold-Fun,
 use Rattle.cq_theory.proofs.Values as values
 use Rattle.cq_theory.proofs.OnValues.{All_at, found_passes}
 use Rattle.cq_theory.proofs.Sound.{followed_some, row_of-within}
-use Rattle.cq_model.proofs.BuiltTerms.{EachTyped, type_at_some, typed_generator, typed_cell, args_typed}
-use Rattle.cq_model.proofs.CanonicalTerms.{plain_normal}
+use Rattle.cq_instance.proofs.TypedTerms.{EachTyped, type_at_some, typed_generator, typed_cell, args_typed}
+use Rattle.cq_instance.proofs.CanonicalTerms.{plain_normal}
 
 module _ (S : Schema) (M : Tables) (well : IsWellFormed S M) where
   -- a path from a row leads to a row of its target

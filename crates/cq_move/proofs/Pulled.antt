@@ -33,9 +33,9 @@ use Rattle.cq_mapping.specs.Images.{entity_image, key_image, attribute_image, pa
 use Rattle.cq_mapping.specs.Duties.{path_duty, observation_duty, one_generator, Preserves}
 use Rattle.cq_mapping.specs.Moved.{key_column, cell_column, delta_tables}
 use Rattle.cq_mapping.proofs.Imaged.{target_of-image}
-use Rattle.cq_model.proofs.Lists.{get-map, get-append, get-append_front, All_from, All_at}
-use Rattle.cq_model.proofs.BuiltTerms.{EachTyped, typed_generator, typed_cell, args_typed}
-use Rattle.cq_model.proofs.BuiltSubstituted.{value_of-substituted}
+use Rattle.cq_instance.proofs.Lists.{get-map, get-append, get-append_front, All_from, All_at}
+use Rattle.cq_instance.proofs.TypedTerms.{EachTyped, typed_generator, typed_cell, args_typed}
+use Rattle.cq_instance.proofs.SubstitutedTerms.{value_of-substituted}
 use Rattle.cq_move.proofs.Normal.{row_from-within, value_normal}
 
 -- a list of what f gives at each number below n

@@ -4,7 +4,7 @@ ghost use Rattle.std.specs.List.{list_any};
 ghost use Rattle.cq_theory.specs.Canonical.{below};
 ghost use Rattle.cq_theory.specs.Tables.{AtRow, row_from, value_of};
 ghost use Rattle.cq_theory.specs.Value.{symbols_of};
-ghost use Rattle.cq_model.specs.Terms.{IsOnWay, IsTypeTermOf};
+ghost use Rattle.cq_instance.specs.Terms.{IsOnWay, IsTypeTermOf};
 ghost use Rattle.cq_move.specs.Pulling.{TellsSize};
 
 use cq_base::Seq;

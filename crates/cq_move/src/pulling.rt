@@ -7,8 +7,8 @@ ghost use Rattle.cq_theory.specs.Value.{symbols_of};
 ghost use Rattle.cq_mapping.specs.Duties.{Preserves};
 ghost use Rattle.cq_mapping.specs.Images.{entity_image, key_image, attribute_image};
 ghost use Rattle.cq_mapping.specs.Moved.{key_column, cell_column, delta_tables};
-ghost use Rattle.cq_model.specs.Given.{HasLeastNames, given, has_long_cell, is_oversized, size_of};
-ghost use Rattle.cq_model.specs.Terms.{IsTypeTermOf};
+ghost use Rattle.cq_instance.specs.Given.{HasLeastNames, given, has_long_cell, is_oversized, size_of};
+ghost use Rattle.cq_instance.specs.Terms.{IsTypeTermOf};
 ghost use Rattle.cq_move.specs.Pulling.{TellsSize};
 
 use crate::columns::{row_column, value_column};

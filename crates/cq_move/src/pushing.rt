@@ -5,7 +5,7 @@ ghost use Rattle.cq_rows.specs.Saturated.{NoneCloses, SomeWide};
 ghost use Rattle.cq_theory.specs.Closing.{IsInconsistent, IsInconsistentAt};
 ghost use Rattle.cq_mapping.specs.Duties.{is_too_large};
 ghost use Rattle.cq_mapping.specs.Images.{sigma as moved};
-ghost use Rattle.cq_model.specs.Listed.{IsListed};
+ghost use Rattle.cq_instance.specs.Listed.{IsListed};
 ghost use Rattle.cq_model.specs.Moving.{SaysSize};
 ghost use Rattle.cq_model.specs.declared.moving.MoveRefusal.TheVariants.{Depth, TooManyRows, Inconsistent};
 

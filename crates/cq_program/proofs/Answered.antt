@@ -24,8 +24,8 @@ use Rattle.cq_mapping.specs.Images.{sigma, sort_image}
 use Rattle.cq_mapping.specs.MappingData.{MappingData}
 use Rattle.cq_mapping.specs.Mapping.{IsMapping}
 use Rattle.cq_mapping.proofs.ImagedPresentations.{sigma-is_presentation}
-use Rattle.cq_model.specs.InstanceData.{InstanceData, name_at}
-use Rattle.cq_model.specs.Listed.{IsListed}
+use Rattle.cq_instance.specs.InstanceData.{InstanceData, name_at}
+use Rattle.cq_instance.specs.Listed.{IsListed}
 use Rattle.cq_model.specs.Moving.{SaysSize}
 use Rattle.cq_model.specs.declared.moving.MoveRefusal.{MoveRefusal}
 use Rattle.cq_model.specs.declared.moving.MoveRefusal.TheVariants.{Depth, TooManyRows, TooLarge, Inconsistent as Clashing}

@@ -10,8 +10,8 @@ use Rattle.cq_query.specs.QueryData.{QueryData}
 use Rattle.cq_theory.specs.Presentation.{is_oversized as is_too_large}
 use Rattle.cq_theory.specs.declared.presentation.Presentation.{Presentation}
 use Rattle.cq_theory.specs.SchemaData.{SchemaData}
-use Rattle.cq_model.specs.InstanceData.{InstanceData}
-use Rattle.cq_model.specs.Given.{is_oversized}
+use Rattle.cq_instance.specs.InstanceData.{InstanceData}
+use Rattle.cq_instance.specs.Given.{is_oversized}
 use Rattle.cq_mapping.specs.Moved.{delta_tables}
 use Rattle.cq_program.specs.declared.reason.Reason.{Reason}
 use Rattle.cq_program.specs.Meanings.{Meant, Environment, Checked}

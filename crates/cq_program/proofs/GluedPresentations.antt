@@ -9,8 +9,8 @@ use Rattle.cq_theory.specs.Canonical.{named}
 use Rattle.cq_theory.specs.Presentation.{IsPresentation, has_long_side, is_oversized}
 use Rattle.cq_theory.specs.SchemaData.{SchemaData}
 use Rattle.cq_theory.proofs.Faults.{neither, at_most}
-use Rattle.cq_model.specs.InstanceData.{InstanceData}
-use Rattle.cq_model.specs.declared.transform.Transform.{Transform}
+use Rattle.cq_instance.specs.InstanceData.{InstanceData}
+use Rattle.cq_instance.specs.declared.transform.Transform.{Transform}
 use Rattle.cq_transform.specs.Transforms.{GoesFrom}
 use Rattle.cq_push.specs.Gluing.{coproduct_of, equations_from, glued_images, presented, pushout_of, sorts_of}
 use Rattle.cq_push.proofs.Beside.{two_presented}

@@ -11,9 +11,9 @@ use Rattle.cq_syntax.specs.declared.part.Bind.{Bind}
 use Rattle.cq_theory.specs.Schema.{IsSchema}
 use Rattle.cq_theory.specs.declared.lookup.ArrowRefusal.{ArrowRefusal}
 use Rattle.cq_theory.specs.declared.lookup.ArrowRefusal.TheVariants as arrow
-use Rattle.cq_model.specs.InstanceData.{InstanceData}
-use Rattle.cq_model.specs.declared.transform.Image.{Image}
-use Rattle.cq_model.specs.declared.transform.Transform.{Transform}
+use Rattle.cq_instance.specs.InstanceData.{InstanceData}
+use Rattle.cq_instance.specs.declared.transform.Image.{Image}
+use Rattle.cq_instance.specs.declared.transform.Transform.{Transform}
 use Rattle.cq_transform.specs.declared.refusal.TransformRefusal.{TransformRefusal}
 use Rattle.cq_transform.specs.declared.refusal.TransformRefusal.TheVariants as images
 use Rattle.cq_transform.specs.Images.{images_fault, images_made}

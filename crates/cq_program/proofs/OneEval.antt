@@ -13,9 +13,9 @@ use Rattle.cq_theory.specs.declared.constant.Con.TheVariants.{Named}
 use Rattle.cq_theory.specs.Schema.{IsSchema}
 use Rattle.cq_theory.specs.Tables.{Tables, count_of, key_at, cell_at, row_of}
 use Rattle.cq_theory.proofs.OnValues.{All_at}
-use Rattle.cq_model.specs.Given.{is_oversized}
-use Rattle.cq_model.proofs.Lists.{IsIn, map_same}
-use Rattle.cq_model.proofs.CanonicalHolds.{from_below}
+use Rattle.cq_instance.specs.Given.{is_oversized}
+use Rattle.cq_instance.proofs.Lists.{IsIn, map_same}
+use Rattle.cq_instance.proofs.CanonicalHolds.{from_below}
 use Rattle.cq_query.specs.QueryData.{QueryData}
 use Rattle.cq_query.specs.Translation.{assigned}
 use Rattle.cq_query.specs.Answers.{IsEval, stands}

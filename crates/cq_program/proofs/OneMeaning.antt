@@ -9,8 +9,8 @@ use Rattle.cq_theory.specs.SchemaData.{SchemaData}
 use Rattle.cq_theory.specs.Tables.{Tables}
 use Rattle.cq_theory.specs.Listed.{Lists}
 use Rattle.cq_theory.proofs.OneModel.{same_models, same_assignments, same_lists_of_names}
-use Rattle.cq_model.specs.InstanceData.{InstanceData}
-use Rattle.cq_model.specs.Given.{given}
+use Rattle.cq_instance.specs.InstanceData.{InstanceData}
+use Rattle.cq_instance.specs.Given.{given}
 use Rattle.cq_program.specs.Meanings.{Meant, instance, transform, Environment}
 use Rattle.cq_program.specs.Checks.{Posed, a_typeside, a_schema, a_mapping, an_identity, a_colimit, an_inclusion, a_query, a_presentation, a_made, a_delta, an_eval, a_transform, Stated}
 use Rattle.cq_program.specs.Folders.{Reads}

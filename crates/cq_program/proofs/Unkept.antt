@@ -6,8 +6,8 @@ use Rattle.cq_theory.specs.declared.presentation.Equation.{Equation}
 use Rattle.cq_theory.specs.declared.presentation.Presentation.{Presentation}
 use Rattle.cq_theory.specs.Canonical.{below}
 use Rattle.cq_theory.specs.SchemaData.{SchemaData}
-use Rattle.cq_model.proofs.Lists.{IsIn, from_flat_map, from_map}
-use Rattle.cq_model.proofs.CanonicalHolds.{from_below}
+use Rattle.cq_instance.proofs.Lists.{IsIn, from_flat_map, from_map}
+use Rattle.cq_instance.proofs.CanonicalHolds.{from_below}
 use Rattle.cq_mapping.specs.MappingData.{MappingData}
 use Rattle.cq_mapping.specs.Duties.{Preserves, duties_of}
 use Rattle.cq_mapping.specs.declared.duties.Duty.{Duty}

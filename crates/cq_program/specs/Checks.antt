@@ -31,8 +31,8 @@ use Rattle.cq_theory.specs.TypesideParts.{typeside_fault, typeside_made}
 use Rattle.cq_theory.specs.SchemaParts.{schema_fault, schema_made}
 use Rattle.cq_theory.specs.Parts.{presentation_fault, presented}
 use Rattle.cq_theory.specs.Tables.{Tables}
-use Rattle.cq_model.specs.InstanceData.{InstanceData}
-use Rattle.cq_model.specs.declared.transform.Image.{Image}
+use Rattle.cq_instance.specs.InstanceData.{InstanceData}
+use Rattle.cq_instance.specs.declared.transform.Image.{Image}
 use Rattle.cq_mapping.specs.MappingData.{MappingData}
 use Rattle.cq_mapping.specs.MappingParts.{mapping_fault, mapping_made}
 use Rattle.cq_mapping.specs.Images.{sigma}

@@ -23,8 +23,8 @@ use Rattle.cq_mapping.specs.Duties.{Preserves}
 use Rattle.cq_query.specs.Duties.{Sound}
 use Rattle.cq_theory.specs.SchemaData.{SchemaData}
 use Rattle.cq_theory.specs.Tables.{Initial}
-use Rattle.cq_model.specs.InstanceData.{InstanceData}
-use Rattle.cq_model.specs.Given.{HasLeastNames}
+use Rattle.cq_instance.specs.InstanceData.{InstanceData}
+use Rattle.cq_instance.specs.Given.{HasLeastNames}
 use Rattle.cq_transform.specs.Transforms.{GoesFrom}
 use Rattle.cq_program.specs.Meanings.{Meant, PartMeant, ColimitMeant, colimit, schema_named, typeside, schema, mapping, query}
 use Rattle.cq_program.specs.Meanings.{instance, transform, Ends, SchemaMeant, MappingMeant}

@@ -7,8 +7,8 @@ use Rattle.cq_base.specs.Names.{same_name}
 use Rattle.cq_syntax.specs.declared.part.Spot.{Spot}
 use Rattle.cq_theory.specs.SchemaData.{SchemaData}
 use Rattle.cq_theory.specs.TypesideData.{TypesideData}
-use Rattle.cq_model.specs.InstanceData.{InstanceData}
-use Rattle.cq_model.specs.declared.transform.Transform.{Transform}
+use Rattle.cq_instance.specs.InstanceData.{InstanceData}
+use Rattle.cq_instance.specs.declared.transform.Transform.{Transform}
 use Rattle.cq_mapping.specs.MappingData.{MappingData}
 use Rattle.cq_query.specs.QueryData.{QueryData}
 use Rattle.cq_program.specs.declared.reason.Reason.{Reason}

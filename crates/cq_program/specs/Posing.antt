@@ -10,7 +10,7 @@ use Rattle.cq_theory.specs.SchemaData.{SchemaData}
 use Rattle.cq_theory.specs.Closing.{IsInconsistentAt}
 use Rattle.cq_theory.specs.Presentation.{IsPresentation, is_oversized as is_too_large}
 use Rattle.cq_rows.specs.Saturated.{NoneCloses, SomeWide}
-use Rattle.cq_model.specs.InstanceData.{InstanceData}
+use Rattle.cq_instance.specs.InstanceData.{InstanceData}
 use Rattle.cq_model.specs.Moving.{SaysSize}
 use Rattle.cq_model.specs.declared.moving.MoveRefusal.{MoveRefusal}
 use Rattle.cq_model.specs.declared.moving.MoveRefusal.TheVariants.{Depth, TooManyRows, Inconsistent as Clashing}
@@ -19,7 +19,7 @@ use Rattle.cq_mapping.specs.Duties.{Preserves}
 use Rattle.cq_mapping.specs.Images.{sigma}
 use Rattle.cq_query.specs.Duties.{Sound}
 use Rattle.cq_query.specs.Coeval.{coeval_of}
-use Rattle.cq_model.specs.declared.transform.Image.{Image}
+use Rattle.cq_instance.specs.declared.transform.Image.{Image}
 use Rattle.cq_transform.specs.Images.{images_made}
 use Rattle.cq_transform.specs.Refusals.{IsBrokenAt}
 use Rattle.cq_transform.specs.Transforms.{GoesFrom}

@@ -16,10 +16,10 @@ use Rattle.cq_theory.specs.Closing.{Closes, IsInconsistent, IsInconsistentAt, Is
 use Rattle.cq_theory.specs.Tables.{Tables, Initial}
 use Rattle.cq_theory.specs.ValueText.{value_text}
 use Rattle.cq_theory.specs.declared.value.Value.TheVariants.{Const}
-use Rattle.cq_model.specs.InstanceData.{InstanceData}
-use Rattle.cq_model.specs.Listed.{IsListed}
-use Rattle.cq_model.specs.declared.transform.Image.{Image}
-use Rattle.cq_model.specs.declared.transform.Transform.{Transform}
+use Rattle.cq_instance.specs.InstanceData.{InstanceData}
+use Rattle.cq_instance.specs.Listed.{IsListed}
+use Rattle.cq_instance.specs.declared.transform.Image.{Image}
+use Rattle.cq_instance.specs.declared.transform.Transform.{Transform}
 use Rattle.cq_program.specs.declared.reason.Reason.{Reason}
 use Rattle.cq_program.specs.declared.reason.Reason.TheVariants.{NotPreserved, DutyDepth, DutyRows, Broken, Depth, TooManyRows, Inconsistent}
 use Rattle.cq_program.specs.declared.reason.Reason.TheVariants.{Oversized, TooManyAnswers}
@@ -28,7 +28,7 @@ use Rattle.cq_mapping.specs.Mapping.{identity_of}
 use Rattle.cq_mapping.specs.declared.duties.Duty.{Duty}
 use Rattle.cq_mapping.specs.Duties.{Preserves, duties_of, one_generator}
 use Rattle.cq_mapping.specs.Moved.{delta_tables}
-use Rattle.cq_model.specs.Given.{given, is_oversized}
+use Rattle.cq_instance.specs.Given.{given, is_oversized}
 use Rattle.cq_query.specs.QueryData.{QueryData}
 use Rattle.cq_query.specs.Duties.{Sound, all_duties, frozen}
 use Rattle.cq_query.specs.Answers.{IsEval}

@@ -4,7 +4,7 @@ use Rattle.std.proofs.lemmas.Bool.{iff_false}
 use Rattle.cq_theory.specs.declared.presentation.Equation.{Equation}
 use Rattle.cq_theory.specs.Derivation.{left_of, right_of}
 use Rattle.cq_theory.specs.Presentation.{IsEquation}
-use Rattle.cq_model.specs.InstanceData.{InstanceData}
+use Rattle.cq_instance.specs.InstanceData.{InstanceData}
 use Rattle.cq_proof.specs.declared.answer.Answer.TheVariants.{Different}
 use Rattle.cq_proof.specs.Answers.{IsInitial, AreOne, Explains}
 

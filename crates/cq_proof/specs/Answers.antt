@@ -5,7 +5,7 @@ use Rattle.cq_theory.specs.declared.presentation.Presentation.{Presentation}
 use Rattle.cq_theory.specs.declared.presentation.Equation.{Equation}
 use Rattle.cq_theory.specs.Derivation.{Derives, left_of, right_of}
 use Rattle.cq_theory.specs.Tables.{Initial, meaning_of}
-use Rattle.cq_model.specs.InstanceData.{InstanceData}
+use Rattle.cq_instance.specs.InstanceData.{InstanceData}
 use Rattle.cq_steps.specs.declared.step.Step.{Step}
 use Rattle.cq_steps.specs.Right.{Right}
 use Rattle.cq_proof.specs.declared.answer.Answer.{Answer}

@@ -4,7 +4,7 @@ ghost use Rattle.cq_theory.specs.Presentation.{IsEquation};
 ghost use Rattle.cq_proof.specs.Answers.{IsInitial, AreOne, Proves, Explains};
 
 use crate::enumeration::{proves, sought_among_all};
-use cq_model::Instance;
+use cq_instance::Instance;
 use cq_search::sought::sought;
 use cq_steps::Step;
 use cq_terms::is_same_value;

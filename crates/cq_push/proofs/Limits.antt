@@ -17,14 +17,14 @@ use Rattle.cq_theory.specs.Closing.{IsInconsistentAt}
 use Rattle.cq_theory.specs.Derivation.{left_of, right_of}
 use Rattle.cq_theory.specs.Presentation.{IsSort, IsEquation, IsPresentation, is_long, has_long_side, is_oversized}
 use Rattle.cq_theory.proofs.Faults.{neither, at_most}
-use Rattle.cq_model.specs.InstanceData.{InstanceData}
+use Rattle.cq_instance.specs.InstanceData.{InstanceData}
 use Rattle.cq_model.specs.Moving.{of_building, SaysSize}
 use Rattle.cq_model.specs.declared.building.BuildRefusal.{BuildRefusal}
 use Rattle.cq_model.specs.declared.building.BuildRefusal.TheVariants as build
 use Rattle.cq_model.specs.declared.moving.MoveRefusal.{MoveRefusal}
 use Rattle.cq_model.specs.declared.moving.MoveRefusal.TheVariants.{Depth, TooManyRows, Inconsistent, TooLarge, Memory}
 use Rattle.cq_model.proofs.BuildingRefusals.{is_depth, is_many, is_inconsistent}
-use Rattle.cq_model.proofs.Lists.{All_at, All_from}
+use Rattle.cq_instance.proofs.Lists.{All_at, All_from}
 use Rattle.cq_push.specs.Gluing.{presented}
 use Rattle.cq_push.specs.Sorted.{HasOneSort, AreSorted}
 use Rattle.cq_push.specs.Answers.{IsModelOrCause}

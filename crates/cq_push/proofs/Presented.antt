@@ -14,9 +14,9 @@ use Rattle.cq_theory.specs.Presentation.{IsSort, IsPresentation}
 use Rattle.cq_theory.specs.Sorts.{Generators, entity_of, type_of, sort_of}
 use Rattle.cq_theory.proofs.Every.{Every, Every-from, Every-append, Every-map, Every-flat_map, Every-at, Every-from_All}
 use Rattle.cq_theory.proofs.ResolvedSorts.{map_some}
-use Rattle.cq_model.specs.declared.transform.Image.{Image}
-use Rattle.cq_model.specs.declared.transform.Image.TheVariants.{Row, Value}
-use Rattle.cq_model.proofs.Lists.{get-map, get-append, get-append_front, All_at, All_from}
+use Rattle.cq_instance.specs.declared.transform.Image.{Image}
+use Rattle.cq_instance.specs.declared.transform.Image.TheVariants.{Row, Value}
+use Rattle.cq_instance.proofs.Lists.{get-map, get-append, get-append_front, All_at, All_from}
 use Rattle.cq_transform.specs.Transforms.{term_of}
 use Rattle.cq_push.specs.Shifted.{shifted_equation, shifted_term}
 use Rattle.cq_push.specs.Gluing.{sorts_of, equations_from, glued, glued_images}

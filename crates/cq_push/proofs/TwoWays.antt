@@ -11,10 +11,10 @@ use Rattle.cq_theory.specs.Sorts.{entity_of, type_of}
 use Rattle.cq_theory.specs.Tables.{Tables, Assignment, meaning_of, Holds}
 use Rattle.cq_theory.proofs.Every.{Every, Every-from, Every-parts}
 use Rattle.cq_theory.proofs.ResolvedSorts.{map_some}
-use Rattle.cq_model.specs.InstanceData.{InstanceData}
-use Rattle.cq_model.specs.declared.transform.Image.{Image}
-use Rattle.cq_model.specs.declared.transform.Image.TheVariants.{Row, Value}
-use Rattle.cq_model.specs.declared.transform.Transform.{Transform}
+use Rattle.cq_instance.specs.InstanceData.{InstanceData}
+use Rattle.cq_instance.specs.declared.transform.Image.{Image}
+use Rattle.cq_instance.specs.declared.transform.Image.TheVariants.{Row, Value}
+use Rattle.cq_instance.specs.declared.transform.Transform.{Transform}
 use Rattle.cq_transform.specs.Transforms.{term_of, GoesFrom}
 use Rattle.cq_push.specs.Shifted.{shifted_term}
 use Rattle.cq_push.specs.Gluing.{equations_from, glued, glued_images, pushout_of}

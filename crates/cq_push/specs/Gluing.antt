@@ -6,8 +6,8 @@ use Rattle.cq_theory.specs.declared.presentation.Equation.{Equation}
 use Rattle.cq_theory.specs.declared.presentation.Presentation.{Presentation}
 use Rattle.cq_theory.specs.Canonical.{named}
 use Rattle.cq_theory.specs.Parts.{equation_of}
-use Rattle.cq_model.specs.declared.transform.Image.{Image}
-use Rattle.cq_model.specs.declared.transform.Transform.{Transform}
+use Rattle.cq_instance.specs.declared.transform.Image.{Image}
+use Rattle.cq_instance.specs.declared.transform.Transform.{Transform}
 use Rattle.cq_transform.specs.Transforms.{term_of}
 use Rattle.cq_push.specs.Shifted.{shifted_term, shifted_equation}
 

@@ -1,7 +1,7 @@
 -- The two ways from the start of a pushout into a model of the gluing.
 use Rattle.std.specs.Prelude.{ℕ, List, map}
 use Rattle.cq_theory.specs.Tables.{Tables, Assignment, meaning_of}
-use Rattle.cq_model.specs.declared.transform.Image.{Image}
+use Rattle.cq_instance.specs.declared.transform.Image.{Image}
 use Rattle.cq_transform.specs.Transforms.{term_of}
 use Rattle.cq_push.specs.Shifted.{shifted_term}
 

@@ -5,7 +5,7 @@ ghost use Rattle.cq_theory.specs.declared.constant.Con.{Con};
 ghost use Rattle.cq_theory.specs.SchemaData.{SchemaData as AnySchema};
 ghost use Rattle.cq_theory.specs.Presentation.{IsPresentation, is_oversized};
 ghost use Rattle.cq_theory.specs.Closing.{IsInconsistent, IsInconsistentAt};
-ghost use Rattle.cq_model.specs.Listed.{IsListed};
+ghost use Rattle.cq_instance.specs.Listed.{IsListed};
 ghost use Rattle.cq_model.specs.Moving.{SaysSize};
 ghost use Rattle.cq_model.specs.declared.moving.MoveRefusal.TheVariants.{Depth, TooManyRows, Inconsistent};
 ghost use Rattle.cq_push.specs.Gluing.{sorts_of, equations_from, coproduct_of};

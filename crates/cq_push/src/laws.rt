@@ -2,8 +2,8 @@
 ghost use Rattle.std.specs.Prelude.{◌≡◌, length};
 ghost use Rattle.cq_theory.specs.Tables.{Tables, Assignment, Holds, meaning_of};
 ghost use Rattle.cq_theory.specs.declared.term.Term.{Term};
-ghost use Rattle.cq_model.specs.InstanceData.{InstanceData};
-ghost use Rattle.cq_model.specs.declared.transform.Transform.{Transform};
+ghost use Rattle.cq_instance.specs.InstanceData.{InstanceData};
+ghost use Rattle.cq_instance.specs.declared.transform.Transform.{Transform};
 ghost use Rattle.cq_transform.specs.Transforms.{GoesFrom};
 ghost use Rattle.cq_push.specs.Gluing.{pushout_of};
 ghost use Rattle.cq_push.specs.Ways.{through_left, through_right};

@@ -6,7 +6,7 @@ ghost use Rattle.cq_theory.specs.declared.constant.Con.TheVariants.{Named};
 ghost use Rattle.cq_theory.specs.declared.presentation.Equation.TheVariants.{Typ as TypEquation};
 ghost use Rattle.cq_theory.specs.declared.term.TypeTerm.TheVariants.{Const};
 ghost use Rattle.cq_theory.specs.Closing.{IsInconsistent, IsInconsistentAt};
-ghost use Rattle.cq_model.specs.Listed.{IsListed};
+ghost use Rattle.cq_instance.specs.Listed.{IsListed};
 ghost use Rattle.cq_model.specs.Moving.{SaysSize};
 ghost use Rattle.cq_model.specs.declared.moving.MoveRefusal.TheVariants.{Depth, TooManyRows, Inconsistent};
 ghost use Rattle.cq_transform.specs.Transforms.{GoesFrom};

@@ -25,8 +25,8 @@ use Rattle.cq_theory.proofs.OnValues.{All_at, Each, on_values}
 use Rattle.cq_theory.proofs.Sound.{applied_type_some, is_type_some}
 use Rattle.cq_theory.proofs.Values.{fold-Const, fold-Null, fold-Fun}
 use Rattle.cq_values.specs.Readable.{AreWithin, IsReadable, IsWithin, application, constant, content_of, is_name, more, none, null}
-use Rattle.cq_model.specs.InstanceData.{InstanceData, IsInstance}
-use Rattle.cq_model.specs.Given.{size_of}
+use Rattle.cq_instance.specs.InstanceData.{InstanceData, IsInstance}
+use Rattle.cq_instance.specs.Given.{size_of}
 use Rattle.cq_import.specs.Imports.{most_bytes, most_generators}
 use Rattle.cq_csv.specs.Files.{algebra_records, entity_records}
 use Rattle.cq_csv.specs.Records.{file_text}

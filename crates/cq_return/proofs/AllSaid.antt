@@ -7,8 +7,8 @@ use Rattle.cq_theory.specs.declared.presentation.Equation.{Equation}
 use Rattle.cq_theory.specs.Canonical.{below, entity_equations, row_equations, row_generator}
 use Rattle.cq_theory.specs.Tables.{count_of}
 use Rattle.cq_theory.proofs.Every.{Every-weaker}
-use Rattle.cq_model.specs.InstanceData.{InstanceData, IsInstance}
-use Rattle.cq_model.proofs.CanonicalHolds.{from_below}
+use Rattle.cq_instance.specs.InstanceData.{InstanceData, IsInstance}
+use Rattle.cq_instance.proofs.CanonicalHolds.{from_below}
 use Rattle.cq_import.specs.Cells.{Cell, all_cells, entity_cells, file_in, row_cells, rows_cells, start_of}
 use Rattle.cq_import.specs.Labels.{Labels}
 use Rattle.cq_import.specs.Records.{Record}

@@ -4,7 +4,7 @@ use Rattle.std.specs.Prelude.{Result, Ok, Err, IfOk, IfErr}
 use Rattle.cq_io.specs.Content.{File, path_of}
 use Rattle.cq_theory.specs.declared.presentation.Presentation.{Presentation}
 use Rattle.cq_theory.specs.Canonical.{canonical}
-use Rattle.cq_model.specs.InstanceData.{InstanceData, IsInstance}
+use Rattle.cq_instance.specs.InstanceData.{InstanceData, IsInstance}
 use Rattle.cq_import.specs.declared.refusal.CsvRefusal.{CsvRefusal}
 use Rattle.cq_import.specs.declared.refusal.CsvRefusal.TheVariants as refusal
 use Rattle.cq_import.specs.Entries.{IsImport2, fault2_of, imported2}

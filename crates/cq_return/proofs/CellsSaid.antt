@@ -18,7 +18,7 @@ use Rattle.cq_theory.specs.Sorts.{followed}
 use Rattle.cq_theory.specs.Tables.{cell_at, count_of, key_at, value_type}
 use Rattle.cq_theory.proofs.OnValues.{All_at}
 use Rattle.cq_values.specs.Readable.{IsReadable}
-use Rattle.cq_model.specs.InstanceData.{InstanceData, IsInstance}
+use Rattle.cq_instance.specs.InstanceData.{InstanceData, IsInstance}
 use Rattle.cq_import.specs.declared.columns.Column.{Column}
 use Rattle.cq_import.specs.declared.columns.Column.TheVariants.{Attribute, Key}
 use Rattle.cq_import.specs.declared.content.Content.TheVariants.{Means}

@@ -8,7 +8,7 @@ use Rattle.cq_io.specs.Content.{File, find_file}
 use Rattle.cq_theory.specs.Canonical.{below}
 use Rattle.cq_theory.specs.Tables.{count_of}
 use Rattle.cq_theory.proofs.Every.{Every, Every-at, Every-parts, Every-unmap, at_range}
-use Rattle.cq_model.specs.InstanceData.{InstanceData, IsInstance}
+use Rattle.cq_instance.specs.InstanceData.{InstanceData, IsInstance}
 use Rattle.cq_text.specs.Grouped.{numbers_from}
 use Rattle.cq_text.specs.Transcript.{name_or_empty}
 use Rattle.cq_import.specs.Columns as import

@@ -15,8 +15,8 @@ use Rattle.cq_theory.specs.Canonical.{below}
 use Rattle.cq_theory.proofs.Every.{Every, Every-append, Every-at, Every-map}
 use Rattle.cq_theory.proofs.OnValues.{All_at}
 use Rattle.cq_values.proofs.Tabled.{number_of-at}
-use Rattle.cq_model.specs.InstanceData.{InstanceData}
-use Rattle.cq_model.proofs.CanonicalHolds.{from_below}
+use Rattle.cq_instance.specs.InstanceData.{InstanceData}
+use Rattle.cq_instance.proofs.CanonicalHolds.{from_below}
 use Rattle.cq_text.specs.Transcript.{name_or_empty}
 use Rattle.cq_csv.specs.Files.{algebra_records, entity_file, file_name, files_of}
 use Rattle.cq_csv.specs.Records.{file_text}

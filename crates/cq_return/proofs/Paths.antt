@@ -8,7 +8,7 @@ use Rattle.cq_io.specs.Content.{File, find_file, path_of}
 use Rattle.cq_theory.specs.Canonical.{below}
 use Rattle.cq_theory.proofs.Every.{Every, Every-from_All, Every-map}
 use Rattle.cq_theory.proofs.Every as every
-use Rattle.cq_model.specs.InstanceData.{InstanceData}
+use Rattle.cq_instance.specs.InstanceData.{InstanceData}
 use Rattle.cq_text.specs.Transcript.{name_or_empty}
 use Rattle.cq_csv.specs.Files.{algebra_records, entity_file, entity_records, file_name, files_of}
 use Rattle.cq_csv.specs.Records.{file_text}

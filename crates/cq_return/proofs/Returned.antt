@@ -10,7 +10,7 @@ use Rattle.cq_theory.specs.declared.presentation.Sort.TheVariants.{Plain, Entity
 use Rattle.cq_theory.specs.TypesideData.{TypesideData as Typeside}
 use Rattle.cq_theory.specs.Canonical.{below, canonical, entity_equations, named}
 use Rattle.cq_theory.specs.Canonical as canonical
-use Rattle.cq_model.specs.InstanceData.{InstanceData, IsInstance}
+use Rattle.cq_instance.specs.InstanceData.{InstanceData, IsInstance}
 use Rattle.cq_import.specs.Cells.{all_cells, cells_fault, equations_from}
 use Rattle.cq_import.specs.Entries.{contents2_fault, entries_fault, entries_file, entries_text, entry_equations, equations2_of, fault2_of, given, imported2, is_null, labels2_of, lines_fault, mark, marked_fault, null_use, presented2, rest_fault, sheets2_fault, size2_fault}
 use Rattle.cq_import.specs.Faults.{BadHeader, or_else}

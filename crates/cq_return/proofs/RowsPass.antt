@@ -18,7 +18,7 @@ use Rattle.cq_theory.specs.Tables.{count_of, key_at}
 use Rattle.cq_theory.proofs.Every.{Every-weaker}
 use Rattle.cq_values.specs.Readable.{IsWithin, constant, null, application, is_name}
 use Rattle.cq_values.specs.Readable as readable
-use Rattle.cq_model.specs.InstanceData.{InstanceData, IsInstance}
+use Rattle.cq_instance.specs.InstanceData.{InstanceData, IsInstance}
 use Rattle.cq_import.specs.declared.columns.Column.{Column}
 use Rattle.cq_import.specs.declared.columns.Column.TheVariants.{Attribute, Key}
 use Rattle.cq_import.specs.Columns as import

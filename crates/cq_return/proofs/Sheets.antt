@@ -9,7 +9,7 @@ use Rattle.cq_base.specs.declared.name.Name.{Name}
 use Rattle.cq_theory.specs.Canonical.{below}
 use Rattle.cq_theory.specs.Tables.{IsWellFormed, count_of}
 use Rattle.cq_theory.proofs.Every.{at_range}
-use Rattle.cq_model.specs.InstanceData.{InstanceData}
+use Rattle.cq_instance.specs.InstanceData.{InstanceData}
 use Rattle.cq_import.specs.Cells.{Sheet, counts, rows_at, rows_in, start_of}
 use Rattle.cq_import.specs.Imports.{file_of, total}
 use Rattle.cq_import.specs.Records.{Record}

@@ -15,8 +15,8 @@ use Rattle.cq_theory.specs.Term.{greatest}
 use Rattle.cq_theory.specs.Value.{symbols_of}
 use Rattle.cq_theory.specs.ValueText.{is_word}
 use Rattle.cq_values.specs.Readable.{is_name}
-use Rattle.cq_model.specs.InstanceData.{InstanceData}
-use Rattle.cq_model.specs.Given.{size_of}
+use Rattle.cq_instance.specs.InstanceData.{InstanceData}
+use Rattle.cq_instance.specs.Given.{size_of}
 use Rattle.cq_import.specs.declared.refusal.CsvRefusal.{CsvRefusal}
 use Rattle.cq_import.specs.declared.refusal.CsvRefusal.TheVariants as refusal
 use Rattle.cq_import.specs.Imports.{most_bytes, most_generators}

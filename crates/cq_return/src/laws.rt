@@ -7,7 +7,7 @@ ghost use Rattle.cq_theory.specs.declared.presentation.Presentation.{Presentatio
 ghost use Rattle.cq_theory.specs.Canonical.{canonical, canonical_assignment};
 ghost use Rattle.cq_theory.specs.Schema.{IsSchema};
 ghost use Rattle.cq_theory.specs.Tables.{Initial};
-ghost use Rattle.cq_model.specs.InstanceData.{InstanceData, IsInstance};
+ghost use Rattle.cq_instance.specs.InstanceData.{InstanceData, IsInstance};
 ghost use Rattle.cq_import.specs.declared.refusal.CsvRefusal.{CsvRefusal};
 ghost use Rattle.cq_import.specs.Entries.{IsImport2, fault2_of, imported2};
 ghost use Rattle.cq_csv.specs.Files.{files_of};

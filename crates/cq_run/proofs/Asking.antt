@@ -2,7 +2,7 @@
 use Rattle.std.proofs.Common.{◌≡◌, ℕ, List, Some, inr, sym, subst}
 use Rattle.std.specs.Prelude.{IfOk, Result, Ok, Err}
 use Rattle.cq_explain.specs.Question.{Asks}
-use Rattle.cq_model.specs.InstanceData.{InstanceData}
+use Rattle.cq_instance.specs.InstanceData.{InstanceData}
 use Rattle.cq_theory.specs.declared.presentation.Equation.{Equation}
 use Rattle.cq_program.specs.Folders.{Told}
 use Rattle.cq_program.specs.Program.{Listing}

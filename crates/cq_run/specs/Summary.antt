@@ -2,7 +2,7 @@
 use Rattle.std.specs.Prelude.{ℕ, List, ◌++◌, codes, decimal, length, sum}
 use Rattle.std.specs.List.{flat_map}
 use Rattle.cq_base.specs.declared.name.Name.{Name}
-use Rattle.cq_model.specs.InstanceData.{InstanceData}
+use Rattle.cq_instance.specs.InstanceData.{InstanceData}
 use Rattle.cq_program.specs.Program.{Listing}
 use Rattle.cq_run.specs.Meaning.{transcripts_of}
 use Rattle.cq_run.specs.declared.output.View.{View}

@@ -4,7 +4,7 @@ ghost use Rattle.cq_program.specs.Named.{listed_as};
 ghost use Rattle.cq_run.specs.Summary.{line_of, row_count, summary_line, summary_of};
 
 use cq_base::Name;
-use cq_model::Instance;
+use cq_instance::Instance;
 use cq_program::Named;
 use cq_text::push_number;
 use std::alloc::{AllocError, Global};

@@ -22,7 +22,7 @@ use Rattle.cq_theory.specs.Canonical.{below, canonical, edges_from, named, row_g
 use Rattle.cq_theory.proofs.OnValues.{on_values, Each}
 use Rattle.cq_theory.proofs.Values as values
 use Rattle.cq_theory.proofs.TypeTerms as terms
-use Rattle.cq_model.proofs.Lists.{map_same, flat_map_same, map-map, map-append, map-range_shift, All_at}
+use Rattle.cq_instance.proofs.Lists.{map_same, flat_map_same, map-map, map-append, map-range_shift, All_at}
 use Rattle.cq_text.specs.Grouped.{numbers_from}
 use Rattle.cq_text.specs.Transcript.{edge_name}
 use Rattle.cq_text.specs.Literal.{applied_text, ent_text, equals_line, equation_line, generator_line, generator_text, term_text, term_text_step}

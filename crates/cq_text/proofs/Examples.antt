@@ -10,7 +10,7 @@ use Rattle.cq_theory.specs.SchemaData.{SchemaData}
 use Rattle.cq_theory.proofs.Values.{fold-Const, fold-Null, fold-Fun}
 use Rattle.cq_theory.proofs.TypeTerms as terms
 use Rattle.cq_theory.specs.Tables.{AtRow}
-use Rattle.cq_model.specs.InstanceData.{InstanceData}
+use Rattle.cq_instance.specs.InstanceData.{InstanceData}
 use Rattle.cq_text.specs.Literal.{literal_of}
 use Rattle.cq_text.specs.Transcript.{transcript_of, name_text}
 

@@ -11,9 +11,9 @@ use Rattle.cq_theory.specs.declared.presentation.Sort.TheVariants.{Plain, Entity
 use Rattle.cq_theory.specs.SchemaData.{SchemaData as Schema}
 use Rattle.cq_theory.specs.Tables.{Tables, count_of}
 use Rattle.cq_theory.specs.Canonical.{below, canonical, named, row_sorts}
-use Rattle.cq_model.specs.Numbers.{start_of}
-use Rattle.cq_model.proofs.Lists.{flat_map_same, map-append, map-range_shift}
-use Rattle.cq_model.proofs.Pushed.{start_more}
+use Rattle.cq_instance.specs.Numbers.{start_of}
+use Rattle.cq_instance.proofs.Lists.{flat_map_same, map-append, map-range_shift}
+use Rattle.cq_instance.proofs.Pushed.{start_more}
 use Rattle.cq_text.specs.Literal.{generator_line}
 use Rattle.cq_text.specs.Spelling.{null_generator_line, plain_line, row_generator_line}
 use Rattle.cq_text.proofs.Belows.{below_more}

@@ -2,7 +2,7 @@
 use Rattle.std.proofs.Common.{ℕ, List, [], ◌++◌, ◌+◌, ◌≡◌, ◌<◌, length, take, get_or, sym, ap, ◌∙◌, append_assoc, arith}
 use Rattle.std.specs.Prelude.{sum}
 use Rattle.std.proofs.lemmas.List.FromFn.{get_or-map-range_with_len, length-map-range_with_len}
-use Rattle.cq_model.specs.InstanceData.{InstanceData}
+use Rattle.cq_instance.specs.InstanceData.{InstanceData}
 use Rattle.cq_text.specs.declared.plan.Plan.{Plan}
 use Rattle.cq_text.specs.Spelling.{IsPlan, starts_of}
 

@@ -17,7 +17,7 @@ use Rattle.cq_theory.specs.declared.term.TypeTerm.TheOpen.{TypeTerm-F, Gen, Cons
 use Rattle.cq_theory.specs.declared.term.TypeTerm.TheFolds.{fold-TypeTerm}
 use Rattle.cq_theory.specs.ValueText.{quoted, constant_name, function_name, application_text}
 use Rattle.cq_theory.specs.Canonical.{canonical}
-use Rattle.cq_model.specs.InstanceData.{InstanceData}
+use Rattle.cq_instance.specs.InstanceData.{InstanceData}
 use Rattle.cq_text.specs.Transcript.{name_or_empty, edge_name, line}
 
 -- the text of a constant, without quotes

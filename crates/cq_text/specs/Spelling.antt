@@ -12,7 +12,7 @@ use Rattle.cq_theory.specs.declared.value.Entry.{Entry}
 use Rattle.cq_theory.specs.Tables.{Tables, count_of, key_at, cell_at}
 use Rattle.cq_theory.specs.ValueText.{quoted, function_name, application_text}
 use Rattle.cq_theory.specs.Canonical.{below, row_generator, null_generator}
-use Rattle.cq_model.specs.InstanceData.{InstanceData}
+use Rattle.cq_instance.specs.InstanceData.{InstanceData}
 use Rattle.cq_text.specs.Transcript.{edge_name, line, name_or_empty}
 use Rattle.cq_text.specs.Literal.{applied_text, content_of, equals_line, generator_line, generator_text}
 use Rattle.cq_text.specs.Grouped.{IsGrouped}

@@ -11,7 +11,7 @@ use Rattle.cq_theory.specs.declared.value.Entry.{Entry}
 use Rattle.cq_theory.specs.Tables.{count_of, key_at, cell_at}
 use Rattle.cq_theory.specs.Canonical.{below}
 use Rattle.cq_theory.specs.ValueText.{value_text, null_text, application_text, function_name, is_named}
-use Rattle.cq_model.specs.InstanceData.{InstanceData, name_at}
+use Rattle.cq_instance.specs.InstanceData.{InstanceData, name_at}
 use Rattle.cq_text.specs.Grouped.{numbers_from}
 
 abbrev pub name_or_empty : Option Name → Name

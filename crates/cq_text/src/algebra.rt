@@ -5,7 +5,7 @@ ghost use Rattle.cq_theory.specs.Canonical.{below};
 ghost use Rattle.cq_text.specs.Transcript.{null_line, null_lines, entry_line, entry_lines, IsNamedEntry};
 
 use crate::pieces::{push_entry_line, push_heading, push_null_line};
-use cq_model::Instance;
+use cq_instance::Instance;
 use cq_theory::{Entry, Typeside};
 use std::alloc::AllocError;
 

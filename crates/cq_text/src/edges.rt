@@ -2,7 +2,7 @@
 ghost use Rattle.std.specs.Prelude.{◌<◌, ◌^◌, [], All, IfOk, length};
 ghost use Rattle.cq_text.specs.Grouped.{IsGrouped};
 
-use cq_model::Instance;
+use cq_instance::Instance;
 use cq_theory::Edge;
 use std::alloc::{AllocError, Global};
 

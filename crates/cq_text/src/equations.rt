@@ -9,7 +9,7 @@ ghost use Rattle.cq_text.specs.Spelling.{cell_equation_line, entry_equation_line
 
 use crate::plan::{Plan, row_number, target_number};
 use crate::spelling::{push_edge_at, push_entry_equation, push_generator, push_spelled};
-use cq_model::Instance;
+use cq_instance::Instance;
 use cq_theory::{Entry, Typeside};
 use std::alloc::AllocError;
 

@@ -10,7 +10,7 @@ use crate::pieces::push_type;
 use crate::plan::{Plan, row_number, sum_of};
 use crate::rows::push_entity_name;
 use crate::spelling::push_generator;
-use cq_model::Instance;
+use cq_instance::Instance;
 use cq_theory::Typeside;
 use std::alloc::AllocError;
 

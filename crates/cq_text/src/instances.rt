@@ -9,7 +9,7 @@ use crate::edges::{attributes_by_entity, keys_by_entity};
 use crate::pieces::push_name;
 use crate::rows::push_entities;
 use cq_base::Name;
-use cq_model::Instance;
+use cq_instance::Instance;
 use std::alloc::{AllocError, Global};
 
 /// The transcript of an instance under a name: its schema's name, each entity with its rows in order, the nulls

@@ -10,7 +10,7 @@ use crate::generators::push_generators;
 use crate::pieces::push_name;
 use crate::plan::{Plan, plan_of};
 use cq_base::Name;
-use cq_model::Instance;
+use cq_instance::Instance;
 use std::alloc::{AllocError, Global};
 
 /// The literal of an instance, over a schema with this name: the declaration of an instance with this name by the

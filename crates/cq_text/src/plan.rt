@@ -5,7 +5,7 @@ ghost use Rattle.cq_theory.specs.Canonical.{row_generator};
 ghost use Rattle.cq_text.specs.Spelling.{starts_of, target_of, IsPlan, LeavesRow};
 
 use crate::edges::{attributes_by_entity, keys_by_entity};
-use cq_model::Instance;
+use cq_instance::Instance;
 use std::alloc::{AllocError, Global};
 
 /// The generators of each entity's first row and of the first null, from 0, and the attributes and the keys of

@@ -4,12 +4,12 @@ ghost use Rattle.std.specs.List.{flat_map};
 ghost use Rattle.cq_theory.specs.Tables.{count_of};
 ghost use Rattle.cq_theory.specs.Canonical.{below};
 ghost use Rattle.cq_text.specs.Grouped.{IsGrouped, numbers_from};
-ghost use Rattle.cq_model.specs.InstanceData.{name_at};
+ghost use Rattle.cq_instance.specs.InstanceData.{name_at};
 ghost use Rattle.cq_text.specs.Transcript.{attribute_text, attribute_texts, key_text, key_texts, name_text};
 ghost use Rattle.cq_text.specs.Transcript.{name_or_empty, heading, row_line, entity_lines};
 
 use crate::pieces::{push_cell, push_name, push_number, push_reference, push_term};
-use cq_model::Instance;
+use cq_instance::Instance;
 use std::alloc::AllocError;
 
 /// Appends the lines of all entities. The attributes and the keys are given by their numbers, for each entity.

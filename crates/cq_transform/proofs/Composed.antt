@@ -17,7 +17,7 @@ use Rattle.cq_theory.specs.Homomorphism.{row_image, value_image, value_image_ste
 use Rattle.cq_theory.proofs.Values as values
 use Rattle.cq_theory.proofs.OnValues.{Each, on_values}
 use Rattle.cq_theory.proofs.Every.{enumerated}
-use Rattle.cq_model.proofs.Lists.{get-map}
+use Rattle.cq_instance.proofs.Lists.{get-map}
 use Rattle.cq_transform.proofs.ExactlyOne.{within_counts}
 use Rattle.cq_transform.proofs.Kept.{applied_goes}
 use Rattle.cq_transform.proofs.SortedValues.{value_sorted}

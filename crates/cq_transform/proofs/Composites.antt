@@ -18,10 +18,10 @@ use Rattle.cq_theory.specs.Sorts.{entity_of, type_of, sort_of}
 use Rattle.cq_theory.specs.Tables.{Tables, Meaning, AtRow, AtValue, Assignment, row_of, value_of, meaning_of, HasSort, IsWellFormed, Holds}
 use Rattle.cq_theory.specs.Homomorphism.{IsHomomorphism}
 use Rattle.cq_theory.proofs.ResolvedSorts.{map_some}
-use Rattle.cq_model.specs.InstanceData.{InstanceData, IsInstance}
-use Rattle.cq_model.specs.declared.transform.Image.{Image}
-use Rattle.cq_model.specs.declared.transform.Transform.{Transform}
-use Rattle.cq_model.proofs.Lists.{get-map}
+use Rattle.cq_instance.specs.InstanceData.{InstanceData, IsInstance}
+use Rattle.cq_instance.specs.declared.transform.Image.{Image}
+use Rattle.cq_instance.specs.declared.transform.Transform.{Transform}
+use Rattle.cq_instance.proofs.Lists.{get-map}
 use Rattle.cq_transform.specs.Agreement.{meaning_image, Agrees}
 use Rattle.cq_transform.specs.Composing.{put_image, composed_images, composed_rows, composed_nulls, composed}
 use Rattle.cq_transform.specs.Transforms.{term_of, meanings_in, GoesFrom}

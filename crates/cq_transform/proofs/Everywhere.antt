@@ -25,8 +25,8 @@ use Rattle.cq_theory.proofs.OnValues.{All_at, found_passes, entry_for}
 use Rattle.cq_theory.proofs.Sound.{both, is_type_some, applied_type_some, followed_some, row_of-within}
 use Rattle.cq_theory.proofs.Typing.{value_typed}
 use Rattle.cq_theory.proofs.ResolvedSorts.{map_some}
-use Rattle.cq_model.specs.InstanceData.{InstanceData}
-use Rattle.cq_model.proofs.Lists.{get-map}
+use Rattle.cq_instance.specs.InstanceData.{InstanceData}
+use Rattle.cq_instance.proofs.Lists.{get-map}
 use Rattle.cq_transform.specs.Nulls.{Found, value_or_first, is_open, IsClosed, AreEntriesClosed, AreGeneratorsClosed, AreAttributesClosed, IsInitial, AreSpelled, AreNulls}
 use Rattle.cq_transform.proofs.Normal.{type_at_some}
 

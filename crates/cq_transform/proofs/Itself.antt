@@ -25,9 +25,9 @@ use Rattle.cq_theory.proofs.OnValues.{Each, on_values}
 use Rattle.cq_theory.proofs.Sound.{is_type_some, applied_type_some}
 use Rattle.cq_theory.proofs.Identities.{identity_is_homomorphism}
 use Rattle.cq_theory.proofs.Every.{enumerated}
-use Rattle.cq_model.specs.InstanceData.{InstanceData}
-use Rattle.cq_model.specs.declared.transform.Image.{Image}
-use Rattle.cq_model.proofs.Lists.{get-map}
+use Rattle.cq_instance.specs.InstanceData.{InstanceData}
+use Rattle.cq_instance.specs.declared.transform.Image.{Image}
+use Rattle.cq_instance.proofs.Lists.{get-map}
 use Rattle.cq_transform.specs.Agreement.{meaning_image, Agrees}
 use Rattle.cq_transform.specs.Transforms.{term_of, meanings_in, GoesFrom}
 use Rattle.cq_transform.specs.Identities.{itself, identity_images}

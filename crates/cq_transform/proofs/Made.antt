@@ -25,11 +25,11 @@ use Rattle.cq_theory.specs.Homomorphism.{row_image}
 use Rattle.cq_theory.proofs.ResolvedSorts.{map_some}
 use Rattle.cq_theory.proofs.Sound.{row_of-within}
 use Rattle.cq_theory.proofs.Typing.{value_typed}
-use Rattle.cq_model.specs.InstanceData.{InstanceData, IsInstance, name_at}
-use Rattle.cq_model.specs.Terms.{AreStandings}
-use Rattle.cq_model.specs.declared.transform.Image.{Image}
-use Rattle.cq_model.specs.declared.transform.Transform.{Transform}
-use Rattle.cq_model.proofs.Lists.{get-map, All_from}
+use Rattle.cq_instance.specs.InstanceData.{InstanceData, IsInstance, name_at}
+use Rattle.cq_instance.specs.Terms.{AreStandings}
+use Rattle.cq_instance.specs.declared.transform.Image.{Image}
+use Rattle.cq_instance.specs.declared.transform.Transform.{Transform}
+use Rattle.cq_instance.proofs.Lists.{get-map, All_from}
 use Rattle.cq_transform.specs.Nulls.{IsInitial, AreNulls}
 use Rattle.cq_transform.specs.Refusals.{HasSides}
 use Rattle.cq_transform.specs.Rows.{row_there, rows_there, rows_made}

@@ -13,7 +13,7 @@ use Rattle.cq_theory.specs.Homomorphism.{value_image, value_image_step}
 use Rattle.cq_theory.proofs.TypeTerms as terms
 use Rattle.cq_theory.proofs.Values as values
 use Rattle.cq_theory.proofs.OnValues.{Each, on_values}
-use Rattle.cq_model.specs.declared.transform.Image.{Image}
+use Rattle.cq_instance.specs.declared.transform.Image.{Image}
 use Rattle.cq_transform.specs.Composing.{value_term, put_value, put_value_step}
 use Rattle.cq_transform.specs.Sent.{value_sent, value_sent_step}
 

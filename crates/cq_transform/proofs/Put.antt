@@ -20,9 +20,9 @@ use Rattle.cq_theory.proofs.TypeTerms.{fold-Gen, fold-Const, fold-Att, fold-Fun,
 use Rattle.cq_theory.proofs.Sound.{both, is_type_some, applied_type_some, row_from-append}
 use Rattle.cq_theory.proofs.Closings.{entity_of-extended}
 use Rattle.cq_theory.proofs.ResolvedSorts.{map_some}
-use Rattle.cq_model.specs.declared.transform.Image.{Image}
-use Rattle.cq_model.specs.declared.transform.Image.TheVariants.{Row, Value as ValueImage}
-use Rattle.cq_model.proofs.Lists.{get-map}
+use Rattle.cq_instance.specs.declared.transform.Image.{Image}
+use Rattle.cq_instance.specs.declared.transform.Image.TheVariants.{Row, Value as ValueImage}
+use Rattle.cq_instance.proofs.Lists.{get-map}
 use Rattle.cq_transform.specs.Composing.{row_term, value_term, put_row, put_value, put_value_step, put_image}
 use Rattle.cq_transform.specs.Transforms.{term_of}
 use Rattle.cq_transform.proofs.Loops.{member_at}

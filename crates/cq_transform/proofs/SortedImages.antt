@@ -27,9 +27,9 @@ use Rattle.cq_theory.proofs.DeclaredParts.{or_else_none, new_name, first_part_fa
 use Rattle.cq_theory.proofs.Faults.{of_five, not_false}
 use Rattle.cq_theory.proofs.OnValues.{All_at}
 use Rattle.cq_theory.proofs.ResolvedSorts.{map_some, sort_of-resolved}
-use Rattle.cq_model.specs.InstanceData.{InstanceData}
-use Rattle.cq_model.specs.declared.transform.Image.{Image}
-use Rattle.cq_model.proofs.Lists.{get-map, get-map_from}
+use Rattle.cq_instance.specs.InstanceData.{InstanceData}
+use Rattle.cq_instance.specs.declared.transform.Image.{Image}
+use Rattle.cq_instance.proofs.Lists.{get-map, get-map_from}
 use Rattle.cq_transform.specs.declared.refusal.TransformRefusal.{TransformRefusal}
 use Rattle.cq_transform.specs.declared.refusal.TransformRefusal.TheVariants.{Missing}
 use Rattle.cq_transform.specs.declared.scope.Scope.{Scope}

@@ -20,7 +20,7 @@ use Rattle.cq_theory.proofs.OnValues.{All_at, applied-entry}
 use Rattle.cq_theory.proofs.Sound.{both, is_type_some, applied_type_some}
 use Rattle.cq_theory.proofs.Typing.{value_typed}
 use Rattle.cq_theory.proofs.Faults.{neither}
-use Rattle.cq_model.specs.InstanceData.{InstanceData, name_at}
+use Rattle.cq_instance.specs.InstanceData.{InstanceData, name_at}
 use Rattle.cq_transform.specs.Nulls.{Found, value_at, value_or_first, is_open, plain_image, IsOpenAt, IsClosed, IsEntryClosed, IsInitial, IsSpelled, AreSpelled, Keeps, count_open, IsEntryOf, IsStandingOf, IsCellOf}
 use Rattle.cq_transform.proofs.Changed.{get-set, size-set, from-set, kept-set, fewer-set}
 

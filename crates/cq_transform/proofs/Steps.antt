@@ -18,7 +18,7 @@ use Rattle.cq_theory.specs.Tables.{Assignment, count_of, cell_at, value_of, IsWe
 use Rattle.cq_theory.proofs.ResolvedSorts.{map_some}
 use Rattle.cq_theory.proofs.TypeTerms.{fold-Gen}
 use Rattle.cq_theory.specs.Canonical.{below}
-use Rattle.cq_model.specs.InstanceData.{InstanceData}
+use Rattle.cq_instance.specs.InstanceData.{InstanceData}
 use Rattle.cq_transform.specs.Rows.{row_there, rows_there, rows_made}
 use Rattle.cq_transform.specs.Nulls.{Found, Keeps, IsClosed, AreClosed, IsEntryClosed, IsEntryOf, IsAttributeClosed, AreAttributesClosed, IsGenerator, IsStandingOf, IsPlainClosed, AreGeneratorsClosed, IsCellOf, IsColumnOf, AreSpelled, count_open}
 use Rattle.cq_transform.proofs.Loops.{more_below, member_at, member_read, read_at}

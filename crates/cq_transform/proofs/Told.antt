@@ -12,8 +12,8 @@ use Rattle.cq_theory.specs.Sorts.{Generators}
 use Rattle.cq_theory.specs.Resolve.{or_else}
 use Rattle.cq_theory.specs.Paths.{is_among}
 use Rattle.cq_theory.specs.Tables.{Assignment}
-use Rattle.cq_model.specs.InstanceData.{InstanceData}
-use Rattle.cq_model.specs.declared.transform.Image.{Image}
+use Rattle.cq_instance.specs.InstanceData.{InstanceData}
+use Rattle.cq_instance.specs.declared.transform.Image.{Image}
 use Rattle.cq_transform.specs.declared.refusal.TransformRefusal.{TransformRefusal}
 use Rattle.cq_transform.specs.declared.refusal.TransformRefusal.TheVariants.{Duplicate, Unknown, WrongCount, WrongSort, Reserved, TooLarge, Missing, Broken, Memory}
 use Rattle.cq_transform.specs.Images.{of_transform, names_of, scope_of, parts_fault, given, first_missing, fault_over, images_fault, images_made}

@@ -12,10 +12,10 @@ use Rattle.cq_theory.specs.EntTerm.{extended}
 use Rattle.cq_theory.specs.Carried.{carried_step}
 use Rattle.cq_theory.specs.Presentation.{term_symbols}
 use Rattle.cq_theory.specs.Homomorphism.{row_image, value_image}
-use Rattle.cq_model.specs.InstanceData.{InstanceData}
-use Rattle.cq_model.specs.declared.transform.Image.{Image}
-use Rattle.cq_model.specs.declared.transform.Image.TheVariants.{Row, Value as ValueImage}
-use Rattle.cq_model.specs.declared.transform.Transform.{Transform}
+use Rattle.cq_instance.specs.InstanceData.{InstanceData}
+use Rattle.cq_instance.specs.declared.transform.Image.{Image}
+use Rattle.cq_instance.specs.declared.transform.Image.TheVariants.{Row, Value as ValueImage}
+use Rattle.cq_instance.specs.declared.transform.Transform.{Transform}
 use Rattle.cq_transform.specs.Transforms.{term_of}
 
 -- the term to which a generator of an entity, or of a type, is sent; the others stand only for generators that have no such image

@@ -6,8 +6,8 @@ use Rattle.cq_theory.specs.declared.presentation.Sort.{Sort}
 use Rattle.cq_theory.specs.declared.presentation.Sort.TheVariants.{Plain, Entity}
 use Rattle.cq_theory.specs.declared.term.TypeTerm.TheVariants as term
 use Rattle.cq_theory.specs.Sorts.{Generators}
-use Rattle.cq_model.specs.declared.transform.Image.{Image}
-use Rattle.cq_model.specs.declared.transform.Image.TheVariants.{Row, Value}
+use Rattle.cq_instance.specs.declared.transform.Image.{Image}
+use Rattle.cq_instance.specs.declared.transform.Image.TheVariants.{Row, Value}
 
 -- a generator as its own image
 abbrev pub itself : ℕ × (Name × Sort) → Image

@@ -18,9 +18,9 @@ use Rattle.cq_theory.specs.Resolve.{or_else, has_unknown, has_wrong_count, has_r
 use Rattle.cq_theory.specs.Resolved.{resolved}
 use Rattle.cq_theory.specs.Declaring.{first_part_fault, duplicate_or}
 use Rattle.cq_theory.specs.Paths.{is_among}
-use Rattle.cq_model.specs.InstanceData.{InstanceData}
-use Rattle.cq_model.specs.declared.transform.Image.{Image}
-use Rattle.cq_model.specs.declared.transform.Image.TheVariants.{Row, Value}
+use Rattle.cq_instance.specs.InstanceData.{InstanceData}
+use Rattle.cq_instance.specs.declared.transform.Image.{Image}
+use Rattle.cq_instance.specs.declared.transform.Image.TheVariants.{Row, Value}
 use Rattle.cq_transform.specs.declared.refusal.TransformRefusal.{TransformRefusal}
 use Rattle.cq_transform.specs.declared.refusal.TransformRefusal.TheVariants.{Duplicate, Unknown, WrongCount, WrongSort, Reserved, TooLarge}
 use Rattle.cq_transform.specs.declared.refusal.TransformRefusal.TheVariants.{Missing, Memory}

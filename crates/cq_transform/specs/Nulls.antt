@@ -13,8 +13,8 @@ use Rattle.cq_theory.specs.declared.value.Value.TheVariants.{Const, Null}
 use Rattle.cq_theory.specs.declared.value.Entry.{Entry}
 use Rattle.cq_theory.specs.Sorts.{type_of}
 use Rattle.cq_theory.specs.Tables.{Assignment, Initial, count_of, cell_at, value_of}
-use Rattle.cq_model.specs.InstanceData.{InstanceData}
-use Rattle.cq_model.specs.Given.{HasLeastNames}
+use Rattle.cq_instance.specs.InstanceData.{InstanceData}
+use Rattle.cq_instance.specs.Given.{HasLeastNames}
 use Rattle.cq_transform.specs.Rows.{row_there, rows_there}
 
 -- The values that have been found, each at the label of its null.

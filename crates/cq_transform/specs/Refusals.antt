@@ -5,9 +5,9 @@ use Rattle.cq_theory.specs.declared.presentation.Equation.TheVariants.{Ent, Typ}
 use Rattle.cq_theory.specs.SchemaData.{SchemaData as Schema}
 use Rattle.cq_theory.specs.Derivation.{left_of, right_of}
 use Rattle.cq_theory.specs.Tables.{Tables, Assignment, meaning_of}
-use Rattle.cq_model.specs.InstanceData.{InstanceData}
-use Rattle.cq_model.specs.Terms.{IsEntTermOf, IsTypeTermOf}
-use Rattle.cq_model.specs.declared.transform.Image.{Image}
+use Rattle.cq_instance.specs.InstanceData.{InstanceData}
+use Rattle.cq_instance.specs.Terms.{IsEntTermOf, IsTypeTermOf}
+use Rattle.cq_instance.specs.declared.transform.Image.{Image}
 use Rattle.cq_transform.specs.declared.refusal.TransformRefusal.{TransformRefusal}
 use Rattle.cq_transform.specs.declared.refusal.TransformRefusal.TheVariants.{Broken, Memory}
 use Rattle.cq_transform.specs.Transforms.{meanings_in}

@@ -2,7 +2,7 @@
 use Rattle.std.specs.Prelude.{ℕ, List, map, length}
 use Rattle.cq_theory.specs.Canonical.{below}
 use Rattle.cq_theory.specs.Tables.{Assignment, count_of, row_of}
-use Rattle.cq_model.specs.InstanceData.{InstanceData, name_at}
+use Rattle.cq_instance.specs.InstanceData.{InstanceData, name_at}
 
 module _ (i j : InstanceData) (B : Assignment) where
   -- the row to which the name of a row of i leads in j, where a generator stands for what B says

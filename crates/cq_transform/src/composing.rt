@@ -4,7 +4,7 @@ ghost use Rattle.std.specs.Prelude.{slice_index_or};
 ghost use Rattle.std.specs.List.{enumerate_from};
 ghost use Rattle.cq_theory.specs.declared.constant.Con.TheVariants as con;
 ghost use Rattle.cq_theory.specs.declared.value.Value.TheVariants as any_value;
-ghost use Rattle.cq_model.specs.InstanceData.{InstanceData, IsInstance};
+ghost use Rattle.cq_instance.specs.InstanceData.{InstanceData, IsInstance};
 ghost use Rattle.cq_transform.specs.Composing.{put_image as image_put, is_long as is_over, has_long};
 ghost use Rattle.cq_transform.specs.Composing.{composed_images as images_then, composed};
 ghost use Rattle.cq_transform.specs.Sent.{value_sent};
@@ -13,7 +13,7 @@ ghost use Rattle.cq_transform.specs.Transforms.{GoesFrom};
 use crate::putting::put_image;
 use crate::sizes::is_long;
 use cq_base::{Seq, number_at};
-use cq_model::{Image, Instance, Transform, copied};
+use cq_instance::{Image, Instance, Transform, copied};
 use cq_theory::{Con, SizeRefusal, Value};
 use std::alloc::{AllocError, Global};
 

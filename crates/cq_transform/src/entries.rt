@@ -1,12 +1,12 @@
 //! Nulls that are values of functions at constants and nulls.
 ghost use Rattle.std.specs.Prelude.{◌≡◌, ◌<◌, ◌||◌, IfOk, OnOk, true, false};
 ghost use Rattle.cq_theory.specs.Tables.{Assignment};
-ghost use Rattle.cq_model.specs.InstanceData.{InstanceData};
+ghost use Rattle.cq_instance.specs.InstanceData.{InstanceData};
 ghost use Rattle.cq_transform.specs.Nulls.{Keeps, IsInitial, AreSpelled, IsEntryOf, IsEntryClosed, AreEntriesClosed};
 ghost use Rattle.cq_transform.specs.Nulls.{count_open};
 
 use crate::found::{has_open, open_label, plain_images, put};
-use cq_model::Instance;
+use cq_instance::Instance;
 use cq_theory::{Entry, Value};
 use std::alloc::{AllocError, Global};
 

@@ -3,12 +3,12 @@ ghost use Rattle.std.specs.Prelude.{ℕ, ◌≡◌, ◌<◌, ◌+◌, ◌-◌, �
 ghost use Rattle.std.specs.Prelude.{slice_get};
 ghost use Rattle.cq_theory.specs.declared.presentation.Equation.{Equation as AnyEquation};
 ghost use Rattle.cq_theory.specs.Tables.{AtRow, AtValue, row_of, value_of};
-ghost use Rattle.cq_model.specs.Standing.{meaning};
-ghost use Rattle.cq_model.specs.Terms.{IsEntTermOf, IsTypeTermOf};
+ghost use Rattle.cq_instance.specs.Standing.{meaning};
+ghost use Rattle.cq_instance.specs.Terms.{IsEntTermOf, IsTypeTermOf};
 ghost use Rattle.cq_transform.specs.Refusals.{HasSides, IsEqual, AreEqualBefore, TellsUnequal};
 
 use crate::refusal::TransformRefusal;
-use cq_model::{Instance, Standing};
+use cq_instance::{Instance, Standing};
 use cq_terms::is_same_value;
 use cq_theory::{EntTerm, Equation, TypeTerm};
 use std::alloc::{AllocError, Global};

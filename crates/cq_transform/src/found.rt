@@ -4,7 +4,7 @@ ghost use Rattle.std.specs.List.{list_any};
 ghost use Rattle.cq_transform.specs.Nulls.{value_at as found_at, value_or_first as value_or_constant};
 ghost use Rattle.cq_transform.specs.Nulls.{is_open as has_none, plain_image as image_in, IsOpenAt, IsClosed};
 
-use cq_model::copied;
+use cq_instance::copied;
 use cq_theory::{Con, Value};
 use std::alloc::{AllocError, Global};
 

@@ -9,7 +9,7 @@ ghost use Rattle.cq_transform.specs.Identities.{itself, identity_images};
 ghost use Rattle.cq_transform.specs.Transforms.{GoesFrom};
 
 use cq_base::{Name, Seq};
-use cq_model::{Image, Instance, Transform};
+use cq_instance::{Image, Instance, Transform};
 use cq_theory::{EntTerm, Sort, TypeTerm, Value};
 use std::alloc::{AllocError, Global};
 

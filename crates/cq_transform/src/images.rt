@@ -12,7 +12,7 @@ ghost use Rattle.cq_transform.specs.Images.{image_named, names_of, scope_of, fau
 use crate::refusal::{TransformRefusal, of_transform};
 use crate::scope::{Scope, make_scope, sort_of};
 use cq_base::{Name, Names, Raw, Seq};
-use cq_model::Image;
+use cq_instance::Image;
 use cq_theory::lookup::{
     build, declare, has_reserved, has_unknown, has_wrong_count, have_one_sort, in_part_of,
     is_too_large, sort_of_raw,

@@ -6,9 +6,9 @@ ghost use Rattle.cq_theory.specs.declared.value.Value.{Value};
 ghost use Rattle.cq_theory.specs.Schema.{IsSchema};
 ghost use Rattle.cq_theory.specs.Tables.{Tables, Assignment, Holds, Initial};
 ghost use Rattle.cq_theory.specs.Homomorphism.{IsHomomorphism};
-ghost use Rattle.cq_model.specs.InstanceData.{InstanceData};
-ghost use Rattle.cq_model.specs.Given.{HasLeastNames};
-ghost use Rattle.cq_model.specs.Listed.{IsListed};
+ghost use Rattle.cq_instance.specs.InstanceData.{InstanceData};
+ghost use Rattle.cq_instance.specs.Given.{HasLeastNames};
+ghost use Rattle.cq_instance.specs.Listed.{IsListed};
 ghost use Rattle.cq_transform.specs.Agreement.{Agrees};
 
 /// From the initial model of a presentation to tables in which the presentation holds there is exactly one

@@ -2,10 +2,10 @@
 ghost use Rattle.std.specs.Prelude.{◌≡◌, All, IfOk, map};
 ghost use Rattle.cq_theory.specs.Sorts.{IsGround};
 ghost use Rattle.cq_theory.specs.Tables.{meaning_of};
-ghost use Rattle.cq_model.specs.Standing.{meaning};
+ghost use Rattle.cq_instance.specs.Standing.{meaning};
 ghost use Rattle.cq_transform.specs.Transforms.{term_of, meanings_in};
 
-use cq_model::{Image, Instance, Standing};
+use cq_instance::{Image, Instance, Standing};
 use std::alloc::{AllocError, Global};
 
 /// What an image means.

@@ -7,8 +7,8 @@ ghost use Rattle.cq_theory.specs.declared.term.Term.TheVariants.{Typ};
 ghost use Rattle.cq_theory.specs.declared.term.TypeTerm.TheVariants.{Gen};
 ghost use Rattle.cq_theory.specs.Sorts.{IsGround};
 ghost use Rattle.cq_theory.specs.Tables.{Assignment, AtRow, cell_at as cell_in, value_in as value_meant};
-ghost use Rattle.cq_model.specs.InstanceData.{InstanceData};
-ghost use Rattle.cq_model.specs.Standing.{meaning};
+ghost use Rattle.cq_instance.specs.InstanceData.{InstanceData};
+ghost use Rattle.cq_instance.specs.Standing.{meaning};
 ghost use Rattle.cq_transform.specs.Rows.{rows_made};
 ghost use Rattle.cq_transform.specs.Nulls.{Keeps, AreSpelled, AreClosed, AreNulls, IsInitial, IsClosed, IsGenerator};
 ghost use Rattle.cq_transform.specs.Nulls.{IsGeneratorClosed, IsPlainClosed, AreGeneratorsClosed, IsAttributeClosed};
@@ -17,7 +17,7 @@ ghost use Rattle.cq_transform.specs.Nulls.{AreAttributesClosed, IsStandingOf, Is
 use crate::entries::find_entries;
 use crate::found::{open_label, put, values_of};
 use cq_base::{Seq, number_at};
-use cq_model::{Instance, Standing, copied};
+use cq_instance::{Instance, Standing, copied};
 use cq_theory::{Con, Sort, TypeTerm, Value};
 use std::alloc::{AllocError, Global};
 

@@ -4,7 +4,7 @@ ghost use Rattle.cq_transform.specs.Composing.{value_term, put_row as row_put, p
 ghost use Rattle.cq_transform.specs.Composing.{put_image as image_put};
 
 use cq_base::Seq;
-use cq_model::Image;
+use cq_instance::Image;
 use cq_terms::copy_type_term;
 use cq_theory::{Con, EntTerm, TypeTerm, alone, extend};
 use std::alloc::{AllocError, Global};

@@ -1,11 +1,11 @@
 //! The rows to which rows go.
 ghost use Rattle.std.specs.Prelude.{◌≡◌, ◌<◌, IfOk, length, map, slice_index_or};
 ghost use Rattle.cq_theory.specs.Tables.{AtRow, key_at as key_in, row_from as row_behind, row_in as row_meant, row_of};
-ghost use Rattle.cq_model.specs.Standing.{meaning};
+ghost use Rattle.cq_instance.specs.Standing.{meaning};
 ghost use Rattle.cq_transform.specs.Rows.{rows_there, rows_made};
 
 use cq_base::Seq;
-use cq_model::{Instance, Standing};
+use cq_instance::{Instance, Standing};
 use cq_theory::EntTerm;
 use std::alloc::{AllocError, Global};
 

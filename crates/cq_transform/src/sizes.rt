@@ -2,7 +2,7 @@
 ghost use Rattle.std.specs.Prelude.{◌≡◌};
 ghost use Rattle.cq_transform.specs.Composing.{is_long as is_over};
 
-use cq_model::Image;
+use cq_instance::Image;
 use cq_theory::{is_long_entity, is_long_type};
 
 /// Whether an image has over 1,024 symbols.

@@ -1,8 +1,8 @@
 //! Transforms by the images of generators.
 ghost use Rattle.std.specs.Prelude.{◌≡◌, ◌<◌, ◌≤◌, ◌^◌, None, IfOk, IfErr, length, map};
 ghost use Rattle.cq_theory.specs.Schema.{IsSchema};
-ghost use Rattle.cq_model.specs.InstanceData.{IsInstance};
-ghost use Rattle.cq_model.specs.Standing.{meaning};
+ghost use Rattle.cq_instance.specs.InstanceData.{IsInstance};
+ghost use Rattle.cq_instance.specs.Standing.{meaning};
 ghost use Rattle.cq_transform.specs.Images.{images_fault, images_made};
 ghost use Rattle.cq_transform.specs.Nulls.{IsInitial, AreNulls};
 ghost use Rattle.cq_transform.specs.Refusals.{TellsUnequal};
@@ -17,7 +17,7 @@ use crate::nulls::nulls;
 use crate::refusal::TransformRefusal;
 use crate::rows::rows;
 use cq_base::{Name, Raw, Seq};
-use cq_model::{Image, Instance, Standing, Transform};
+use cq_instance::{Image, Instance, Standing, Transform};
 use cq_theory::{Equation, Schema, Sort};
 use std::alloc::{AllocError, Global};
 

@@ -6,7 +6,7 @@ use Rattle.cq_theory.specs.Closing.{IsInconsistentAt}
 use Rattle.cq_theory.specs.SchemaData.{SchemaData as Schema}
 use Rattle.cq_query.specs.Coeval.{coeval_of}
 use Rattle.cq_query.specs.QueryData.{QueryData as Query}
-use Rattle.cq_model.specs.InstanceData.{InstanceData}
+use Rattle.cq_instance.specs.InstanceData.{InstanceData}
 use Rattle.cq_model.specs.declared.moving.MoveRefusal.{MoveRefusal}
 use Rattle.cq_model.proofs.BuildingRefusals.{is_depth, is_many, is_inconsistent}
 use Rattle.cq_coeval.proofs.gluing.coeval.Goals as goal

@@ -6,11 +6,11 @@ use Rattle.cq_theory.specs.SchemaData.{SchemaData as Schema}
 use Rattle.cq_theory.specs.declared.term.TypeTerm.{TypeTerm}
 use Rattle.cq_theory.specs.declared.value.Value.{Value}
 use Rattle.cq_theory.specs.Tables.{Tables, AtRow, value_of}
-use Rattle.cq_model.specs.Given.{has_long_cell}
-use Rattle.cq_model.specs.Terms.{IsTypeTermOf}
-use Rattle.cq_model.proofs.Columned.{enumerated_more}
-use Rattle.cq_model.proofs.Enumerated.{get-enumerate}
-use Rattle.cq_model.proofs.Lists.{get-map}
+use Rattle.cq_instance.specs.Given.{has_long_cell}
+use Rattle.cq_instance.specs.Terms.{IsTypeTermOf}
+use Rattle.cq_instance.proofs.Enumerated.{enumerated_more}
+use Rattle.cq_instance.proofs.Enumerated.{get-enumerate}
+use Rattle.cq_instance.proofs.Lists.{get-map}
 use Rattle.cq_query.specs.QueryData.{QueryData as Query}
 use Rattle.cq_query.specs.Translation.{attribute_term, term_or_constant}
 use Rattle.cq_eval.specs.Made.{answers_of, made_cells, made_tables}

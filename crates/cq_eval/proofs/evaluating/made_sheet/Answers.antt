@@ -1,5 +1,5 @@
 use Rattle.std.proofs.Common.{map, length, ap, ◌≡◌, ◌∙◌}
-use Rattle.cq_model.proofs.Lists.{map-map}
+use Rattle.cq_instance.proofs.Lists.{map-map}
 use Rattle.cq_theory.specs.Canonical.{below}
 use Rattle.cq_theory.specs.Tables.{Tables}
 use Rattle.cq_query.specs.QueryData.{QueryData as Query}

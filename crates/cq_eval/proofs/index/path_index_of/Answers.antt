@@ -1,6 +1,6 @@
 use Rattle.std.proofs.Common.{ℕ, List, ◌<◌, sym, subst, arith}
 use Rattle.std.specs.Prelude.{slice_index}
-use Rattle.cq_model.specs.Terms.{IsOnWay}
+use Rattle.cq_instance.specs.Terms.{IsOnWay}
 use Rattle.cq_eval.proofs.index.path_index_of.Goals as goal
 
 pub along-requires-clause-way : goal.along-requires-clause-way

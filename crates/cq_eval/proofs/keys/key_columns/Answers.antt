@@ -4,7 +4,7 @@ use Rattle.cq_theory.specs.declared.schema.Edge.{Edge}
 use Rattle.cq_theory.specs.declared.term.EntTerm.{EntTerm}
 use Rattle.cq_theory.specs.SchemaData.{SchemaData as Schema}
 use Rattle.cq_theory.specs.Tables.{Tables, AtRow, row_of}
-use Rattle.cq_model.proofs.Columned.{enumerated_more}
+use Rattle.cq_instance.proofs.Enumerated.{enumerated_more}
 use Rattle.cq_query.specs.QueryData.{QueryData as Query}
 use Rattle.cq_eval.specs.Made.{answers_of, made_keys, place_in}
 use Rattle.cq_eval.proofs.Answered.{key_ends}

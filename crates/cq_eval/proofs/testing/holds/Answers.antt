@@ -1,7 +1,7 @@
 use Rattle.std.proofs.Common.{map, ◌≡◌, sym, ap, ◌∙◌}
 use Rattle.cq_theory.specs.Tables.{Tables, AtRow, Assignment, value_of}
-use Rattle.cq_model.specs.SameValue.{same_value}
-use Rattle.cq_model.proofs.SameValues.{same_is}
+use Rattle.cq_instance.specs.SameValue.{same_value}
+use Rattle.cq_instance.proofs.SameValues.{same_is}
 use Rattle.cq_eval.specs.Testing.{holds_at}
 use Rattle.cq_eval.proofs.testing.holds.Goals as goal
 

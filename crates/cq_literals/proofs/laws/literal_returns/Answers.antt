@@ -1,7 +1,7 @@
 use Rattle.std.proofs.Common.{subst, sym}
 use Rattle.cq_theory.specs.Canonical.{canonical_assignment}
 use Rattle.cq_theory.specs.Tables.{Initial}
-use Rattle.cq_model.proofs.CanonicalDerived as derived
+use Rattle.cq_instance.proofs.CanonicalDerived as derived
 use Rattle.cq_literals.proofs.Returned as returned
 use Rattle.cq_literals.proofs.laws.literal_returns.Goals as goal
 

@@ -8,7 +8,7 @@ use Rattle.cq_theory.specs.SchemaData.{SchemaData as Schema}
 use Rattle.cq_theory.specs.Presentation.{IsPresentation}
 use Rattle.cq_model.specs.declared.building.BuildRefusal.TheVariants.{Depth, TooManyRows, Inconsistent}
 use Rattle.cq_model.specs.BuiltParts.{IsRefusal}
-use Rattle.cq_model.specs.Closed.{AreClosed}
+use Rattle.cq_names.specs.Closed.{AreClosed}
 use Rattle.cq_model.proofs.building.build.Goals as goal
 
 pub saturate-requires : goal.saturate-requires

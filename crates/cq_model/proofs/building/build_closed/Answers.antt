@@ -2,8 +2,8 @@ use Rattle.std.proofs.Common.{sym, subst, ◌∙◌}
 use Rattle.cq_theory.specs.SchemaData.{SchemaData as Schema}
 use Rattle.cq_theory.specs.Presentation.{IsPresentation}
 use Rattle.cq_model.specs.BuiltParts.{AreNamedRows, instance_of}
-use Rattle.cq_model.specs.Closed.{AreClosed}
-use Rattle.cq_model.specs.InstanceData.{IsInstance}
+use Rattle.cq_names.specs.Closed.{AreClosed}
+use Rattle.cq_instance.specs.InstanceData.{IsInstance}
 use Rattle.cq_model.proofs.building.build_closed.Goals as goal
 
 pub name_rows-requires : goal.name_rows-requires

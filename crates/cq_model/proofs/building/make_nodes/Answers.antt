@@ -4,10 +4,10 @@ use Rattle.cq_tables.specs.Content.{Content, live_of}
 use Rattle.cq_tables.specs.Content.{entity_of as row_entity}
 use Rattle.cq_theory.specs.declared.presentation.Presentation.{Presentation}
 use Rattle.cq_theory.specs.SchemaData.{SchemaData as Schema}
-use Rattle.cq_model.specs.declared.numbers.NumberedRows.{NumberedRows}
+use Rattle.cq_names.specs.declared.numbers.NumberedRows.{NumberedRows}
 use Rattle.cq_model.specs.BuiltParts.{AreLeaves}
 use Rattle.cq_model.specs.Equating.{AddsObservations}
-use Rattle.cq_model.specs.LeastNames.{rows_at, AreNumbered}
+use Rattle.cq_names.specs.LeastNames.{rows_at, AreNumbered}
 use Rattle.cq_model.proofs.AllNodes.{built_nodes}
 use Rattle.cq_model.proofs.NamedRows.{numbered_rows}
 use Rattle.cq_model.proofs.PushedTerms.{HavePlaces-wider}

@@ -3,11 +3,11 @@ use Rattle.cq_tables.specs.Content.{Content}
 use Rattle.cq_theory.specs.declared.presentation.Presentation.{Presentation}
 use Rattle.cq_theory.specs.declared.constant.Con.{Con}
 use Rattle.cq_theory.specs.SchemaData.{SchemaData as Schema}
-use Rattle.cq_model.specs.declared.numbers.NumberedRows.{NumberedRows}
+use Rattle.cq_names.specs.declared.numbers.NumberedRows.{NumberedRows}
 use Rattle.cq_model.specs.Built.{IsBuilt}
 use Rattle.cq_model.specs.BuiltParts.{IsRefusal, instance_of}
 use Rattle.cq_model.specs.declared.building.BuildRefusal.TheVariants.{Inconsistent}
-use Rattle.cq_model.specs.Listed.{IsListed}
+use Rattle.cq_instance.specs.Listed.{IsListed}
 use Rattle.cq_model.proofs.BuiltListed.{inconsistent}
 use Rattle.cq_model.proofs.ModelMade.{earlier_arguments, sides_within, parts_instance, parts_listed, listed_consistent}
 use Rattle.cq_model.proofs.building.model_parts.Goals as goal

@@ -2,8 +2,8 @@ use Rattle.std.proofs.Common.{◌≡◌, ◌∙◌, ap, length}
 use Rattle.std.proofs.lemmas.Result.{IfOk-weaker}
 use Rattle.cq_theory.specs.SchemaData.{SchemaData as Schema}
 use Rattle.cq_model.specs.BuiltParts.{AreNamedRows}
-use Rattle.cq_model.specs.RowNumbers.{AreNumberedAs}
-use Rattle.cq_model.proofs.NumberedRows.{walk_lengths, walk_once}
+use Rattle.cq_names.specs.RowNumbers.{AreNumberedAs}
+use Rattle.cq_names.proofs.NumberedNames.{walk_lengths, walk_once}
 use Rattle.cq_model.proofs.NamedRows.{walk_made, named_rows}
 use Rattle.cq_model.proofs.building.name_rows.Goals as goal
 

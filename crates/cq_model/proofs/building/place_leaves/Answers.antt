@@ -9,11 +9,12 @@ use Rattle.cq_theory.specs.declared.schema.Edge.{Edge}
 use Rattle.cq_theory.specs.SchemaData.{SchemaData as Schema}
 use Rattle.cq_theory.specs.Schema.{IsSchema}
 use Rattle.cq_theory.specs.Sorts.{Generators}
-use Rattle.cq_model.specs.declared.numbers.NumberedRows.{NumberedRows}
+use Rattle.cq_names.specs.declared.numbers.NumberedRows.{NumberedRows}
 use Rattle.cq_model.specs.LeafPlaces.{sources, targets, AreFirsts, AddsLeaves, AddsGenerators}
 use Rattle.cq_theory.specs.Groups.{positions}
-use Rattle.cq_model.specs.Numbering.{rank, types, starts}
-use Rattle.cq_model.specs.RowNumbers.{row_entities}
+use Rattle.cq_names.specs.Ranks.{rank}
+use Rattle.cq_model.specs.Numbering.{types, starts}
+use Rattle.cq_names.specs.RowNumbers.{row_entities}
 use Rattle.cq_model.proofs.NamedLeaves.{attributes_by, groups_by, leaf_types, leaf_starts, sources_in, sources_few, attributes_within, attributes_count, groups_count, starts_count, rows_made, rows_once, members_entities, leaves_fit, leaves_made}
 use Rattle.cq_model.proofs.building.place_leaves.Goals as goal
 

@@ -4,8 +4,8 @@ use Rattle.cq_tables.specs.Content.{live_of}
 use Rattle.cq_tables.specs.Content.{entity_of as row_entity}
 use Rattle.cq_theory.specs.declared.schema.Edge.{Edge}
 use Rattle.cq_theory.specs.declared.value.Algebra.{Algebra}
-use Rattle.cq_model.specs.Given.{tables}
-use Rattle.cq_model.specs.LeastNames.{rows_at}
+use Rattle.cq_instance.specs.Given.{tables}
+use Rattle.cq_names.specs.LeastNames.{rows_at}
 use Rattle.cq_model.specs.NodeTerms.{cell_place}
 use Rattle.cq_model.specs.Built.{sheet_of, assignment_of}
 use Rattle.cq_model.proofs.BuiltReading as reading

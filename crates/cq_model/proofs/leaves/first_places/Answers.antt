@@ -3,9 +3,10 @@ use Rattle.std.proofs.Math.Nat.{mul-le-mul_left}
 use Rattle.std.proofs.lemmas.List.{length-set, get_or_default}
 use Rattle.std.proofs.lemmas.Option.{slice_get-get_or}
 use Rattle.cq_theory.specs.Groups.{positions}
-use Rattle.cq_model.specs.Numbering.{rank}
-use Rattle.cq_model.proofs.Ranks.{rank_within}
-use Rattle.cq_model.proofs.Spreads.{AreSpread, spread_none, spread_more, spread_firsts, next_read}
+use Rattle.cq_names.specs.Ranks.{rank}
+use Rattle.cq_names.proofs.Ranks.{rank_within}
+use Rattle.cq_names.proofs.Spreads.{AreSpread, spread_none, spread_more, next_read}
+use Rattle.cq_model.proofs.Counting.{spread_firsts}
 use Rattle.cq_model.proofs.leaves.first_places.Goals as goal
 
 -- a cell further there is still room

@@ -1,5 +1,5 @@
 use Rattle.std.proofs.Common.{◌≡◌, [], length, get_or}
-use Rattle.cq_model.proofs.Spreads.{AreSpread}
+use Rattle.cq_names.proofs.Spreads.{AreSpread}
 use Rattle.cq_model.proofs.leaves.first_places.Given as goal
 
 abbrev pub invariant-loop-place : goal.invariant-loop-place

@@ -2,9 +2,9 @@ use Rattle.std.proofs.Common.{ℕ, List, [], ◌∷◌, ◌++◌, ◌≡◌, ◌
 use Rattle.std.proofs.lemmas.List.{length-replicate, get_or-replicate}
 use Rattle.std.proofs.lemmas.List.FromFn.{map-range_with_len_more}
 use Rattle.std.proofs.lemmas.Option.{slice_get-get_or}
-use Rattle.cq_model.specs.Numbering.{rank}
+use Rattle.cq_names.specs.Ranks.{rank}
 use Rattle.cq_model.proofs.Counting.{firsts_none, firsts_more, first_read}
-use Rattle.cq_model.proofs.Ranks.{rank_within, members-length}
+use Rattle.cq_names.proofs.Ranks.{rank_within, members-length}
 use Rattle.cq_model.proofs.leaves.ranks.Goals as goal
 
 pub loop-source-init : goal.loop-source-init

@@ -1,6 +1,6 @@
 use Rattle.std.proofs.Common.{◌≡◌, ◌+◌, map, replicate, slice_index}
 use Rattle.cq_theory.specs.Canonical.{below}
-use Rattle.cq_model.specs.Numbering.{rank}
+use Rattle.cq_names.specs.Ranks.{rank}
 use Rattle.cq_model.proofs.leaves.ranks.Given as goal
 
 abbrev pub invariant-loop-source : goal.invariant-loop-source

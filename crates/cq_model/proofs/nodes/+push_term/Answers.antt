@@ -13,7 +13,8 @@ use Rattle.cq_model.specs.declared.places.Places.{Places}
 use Rattle.cq_model.specs.NodeListData.{NodeListData}
 use Rattle.cq_model.specs.Pushing.{IsReadable, IsPushed}
 use Rattle.cq_model.proofs.PushedTerms.{HavePlaces-wider, pushed_gen, ArePushed, pushed_next}
-use Rattle.cq_model.proofs.ReadableTerms.{read_at, if_answered, IsReadable-wider, readable_cell, constant_known, readable_constant, function_known, argument_readable, readable_application}
+use Rattle.cq_instance.proofs.Columns.{read_at}
+use Rattle.cq_model.proofs.ReadableTerms.{if_answered, IsReadable-wider, readable_cell, constant_known, readable_constant, function_known, argument_readable, readable_application}
 use Rattle.cq_model.proofs.nodes.+push_term.Goals as goal
 
 pub type_of-kind-requires : goal.type_of-kind-requires

@@ -3,9 +3,10 @@ use Rattle.cq_flat.specs.Values.{value_at}
 use Rattle.cq_theory.specs.declared.schema.Edge.{Edge}
 use Rattle.cq_theory.specs.declared.value.Value.{Value}
 use Rattle.cq_model.specs.declared.places.Places.{Places}
-use Rattle.cq_model.specs.LeastNames.{rows_at}
+use Rattle.cq_names.specs.LeastNames.{rows_at}
 use Rattle.cq_model.specs.NodeTerms.{cell_place}
-use Rattle.cq_model.proofs.Columned.{enumerated_more, edge_found, rows_read, All_rows}
+use Rattle.cq_instance.proofs.Enumerated.{enumerated_more}
+use Rattle.cq_model.proofs.Columned.{edge_found, rows_read, All_rows}
 use Rattle.cq_model.proofs.reading.cell_columns.Goals as goal
 
 pub cell_column-requires-clause-places : goal.cell_column-requires-clause-places

@@ -1,7 +1,7 @@
 use Rattle.std.proofs.Common.{◌≡◌, map, take}
 use Rattle.std.specs.List.{enumerate_from}
 use Rattle.cq_flat.specs.Values.{value_at}
-use Rattle.cq_model.specs.LeastNames.{rows_at}
+use Rattle.cq_names.specs.LeastNames.{rows_at}
 use Rattle.cq_model.specs.NodeTerms.{cell_place}
 use Rattle.cq_model.proofs.reading.cell_columns.Given as goal
 

@@ -2,9 +2,10 @@ use Rattle.std.proofs.Common.{ℕ, List, [], ◌∷◌, ◌++◌, ◌≡◌, map
 use Rattle.std.specs.Prelude.{IsSome}
 use Rattle.cq_tables.specs.Content.{Content, live_of, entity_of, keys_of, cell_of, step_of}
 use Rattle.cq_theory.specs.declared.schema.Edge.{Edge}
-use Rattle.cq_model.specs.LeastNames.{rows_at}
+use Rattle.cq_names.specs.LeastNames.{rows_at}
 use Rattle.cq_model.specs.Built.{number_in}
-use Rattle.cq_model.proofs.Columned.{enumerated_more, rows_read, step_found, All_rows}
+use Rattle.cq_instance.proofs.Enumerated.{enumerated_more}
+use Rattle.cq_model.proofs.Columned.{rows_read, step_found, All_rows}
 use Rattle.cq_model.proofs.reading.key_columns.Goals as goal
 
 pub key_column-requires-clause-live : goal.key_column-requires-clause-live

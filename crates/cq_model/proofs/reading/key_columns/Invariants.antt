@@ -1,7 +1,7 @@
 use Rattle.std.proofs.Common.{◌≡◌, map, take}
 use Rattle.std.specs.List.{enumerate_from}
 use Rattle.cq_tables.specs.Content.{cell_of}
-use Rattle.cq_model.specs.LeastNames.{rows_at}
+use Rattle.cq_names.specs.LeastNames.{rows_at}
 use Rattle.cq_model.specs.Built.{number_in}
 use Rattle.cq_model.proofs.reading.key_columns.Given as goal
 

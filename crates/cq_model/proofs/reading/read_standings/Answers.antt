@@ -8,8 +8,8 @@ use Rattle.cq_theory.specs.declared.presentation.Presentation.{Presentation}
 use Rattle.cq_theory.specs.declared.presentation.Sort.{Sort}
 use Rattle.cq_theory.specs.Tables.{Meaning}
 use Rattle.cq_model.specs.Built.{standing}
-use Rattle.cq_model.specs.Standing.{meaning}
-use Rattle.cq_model.proofs.Columned.{enumerated_more}
+use Rattle.cq_instance.specs.Standing.{meaning}
+use Rattle.cq_instance.proofs.Enumerated.{enumerated_more}
 use Rattle.cq_model.proofs.reading.read_standings.Goals as goal
 
 pub read_standing-requires : goal.read_standing-requires

@@ -3,7 +3,7 @@ use Rattle.std.specs.List.{enumerate_from}
 use Rattle.cq_tables.specs.Content.{Content}
 use Rattle.cq_theory.specs.SchemaData.{SchemaData}
 use Rattle.cq_model.specs.Built.{standing}
-use Rattle.cq_model.specs.Standing.{meaning}
+use Rattle.cq_instance.specs.Standing.{meaning}
 use Rattle.cq_model.proofs.reading.read_standings.Given as goal
 
 abbrev pub invariant-loop-number : goal.invariant-loop-number

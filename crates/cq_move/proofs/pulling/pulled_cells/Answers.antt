@@ -8,9 +8,9 @@ use Rattle.cq_theory.specs.Canonical.{below}
 use Rattle.cq_theory.specs.Tables.{Tables, AtRow, value_of}
 use Rattle.cq_mapping.specs.MappingData.{MappingData as Mapping}
 use Rattle.cq_mapping.specs.Moved.{cell_column, delta_tables}
-use Rattle.cq_model.specs.Given.{has_long_cell}
-use Rattle.cq_model.specs.Terms.{IsTypeTermOf}
-use Rattle.cq_model.proofs.Columned.{enumerated_more}
+use Rattle.cq_instance.specs.Given.{has_long_cell}
+use Rattle.cq_instance.specs.Terms.{IsTypeTermOf}
+use Rattle.cq_instance.proofs.Enumerated.{enumerated_more}
 use Rattle.cq_move.proofs.Tests.{none_more}
 use Rattle.cq_move.proofs.MadeColumns.{edge_at, cell_term, is_long, long_column, tells_too}
 use Rattle.cq_move.proofs.pulling.pulled_cells.Goals as goal

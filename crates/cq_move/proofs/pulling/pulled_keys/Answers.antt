@@ -6,8 +6,8 @@ use Rattle.cq_theory.specs.Tables.{Tables, row_from}
 use Rattle.cq_mapping.specs.MappingData.{MappingData as Mapping}
 use Rattle.cq_mapping.specs.Images.{entity_image}
 use Rattle.cq_mapping.specs.Moved.{key_column}
-use Rattle.cq_model.specs.Terms.{IsOnWay}
-use Rattle.cq_model.proofs.Columned.{enumerated_more}
+use Rattle.cq_instance.specs.Terms.{IsOnWay}
+use Rattle.cq_instance.proofs.Enumerated.{enumerated_more}
 use Rattle.cq_move.proofs.MadeColumns.{edge_at, key_way}
 use Rattle.cq_move.proofs.pulling.pulled_keys.Goals as goal
 

@@ -6,7 +6,7 @@ use Rattle.cq_theory.specs.Closing.{IsInconsistentAt}
 use Rattle.cq_theory.specs.SchemaData.{SchemaData as Schema}
 use Rattle.cq_mapping.specs.Images.{sigma as moved}
 use Rattle.cq_mapping.specs.MappingData.{MappingData as Mapping}
-use Rattle.cq_model.specs.InstanceData.{InstanceData}
+use Rattle.cq_instance.specs.InstanceData.{InstanceData}
 use Rattle.cq_model.specs.declared.moving.MoveRefusal.{MoveRefusal}
 use Rattle.cq_model.proofs.BuildingRefusals.{is_depth, is_many, is_inconsistent}
 use Rattle.cq_move.proofs.pushing.sigma.Goals as goal

@@ -2,7 +2,7 @@ use Rattle.std.proofs.Common.{◌≡◌, map, get_or, subst}
 use Rattle.std.proofs.lemmas.List.{take_all}
 use Rattle.std.specs.Prelude.{All}
 use Rattle.cq_theory.specs.Presentation.{IsPresentation}
-use Rattle.cq_model.specs.InstanceData.{IsInstance}
+use Rattle.cq_instance.specs.InstanceData.{IsInstance}
 use Rattle.cq_push.proofs.Beside.{presented_in, presented_more}
 use Rattle.cq_program.proofs.gluing.are_presented.Goals as goal
 

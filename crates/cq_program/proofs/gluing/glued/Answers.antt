@@ -3,8 +3,8 @@ use Rattle.std.specs.Prelude.{IfErr, IfOk}
 use Rattle.cq_theory.specs.declared.presentation.Presentation.{Presentation}
 use Rattle.cq_theory.specs.Presentation.{IsPresentation, is_oversized}
 use Rattle.cq_theory.specs.SchemaData.{SchemaData}
-use Rattle.cq_model.specs.InstanceData.{InstanceData}
-use Rattle.cq_model.specs.declared.transform.Transform.{Transform}
+use Rattle.cq_instance.specs.InstanceData.{InstanceData}
+use Rattle.cq_instance.specs.declared.transform.Transform.{Transform}
 use Rattle.cq_transform.specs.Transforms.{GoesFrom}
 use Rattle.cq_push.specs.Gluing.{pushout_of}
 use Rattle.cq_push.proofs.Beside.{presented_in}

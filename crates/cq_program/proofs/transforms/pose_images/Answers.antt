@@ -1,7 +1,7 @@
 use Rattle.std.proofs.Common.{List, Ok, ◌≡◌, ◌<◌, ◌^◌, length, sym, subst, ◌∙◌, ap}
 use Rattle.cq_base.specs.declared.name.Name.{Name}
 use Rattle.cq_base.specs.declared.raw.Raw.{Raw}
-use Rattle.cq_model.specs.declared.transform.Image.{Image}
+use Rattle.cq_instance.specs.declared.transform.Image.{Image}
 use Rattle.cq_transform.specs.Transforming.{Tells}
 use Rattle.cq_program.specs.Checks.{a_transform}
 use Rattle.cq_program.specs.Environment.{ends_meant}

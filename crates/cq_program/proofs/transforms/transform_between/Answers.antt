@@ -1,6 +1,6 @@
 use Rattle.std.proofs.Common.{◌≡◌, sym, subst, ◌∙◌, ap}
 use Rattle.cq_theory.specs.Schema.{IsSchema}
-use Rattle.cq_model.specs.InstanceData.{InstanceData}
+use Rattle.cq_instance.specs.InstanceData.{InstanceData}
 use Rattle.cq_program.specs.Environment.{ends_meant}
 use Rattle.cq_program.proofs.ImagesPosed.{accepted_between, agreed_between, stands_between}
 use Rattle.cq_program.proofs.transforms.transform_between.Goals as goal

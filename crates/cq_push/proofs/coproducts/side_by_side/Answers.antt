@@ -5,7 +5,7 @@ use Rattle.cq_theory.specs.SchemaData.{SchemaData as Schema}
 use Rattle.cq_theory.specs.declared.presentation.Presentation.{Presentation}
 use Rattle.cq_theory.specs.declared.presentation.Sort.{Sort}
 use Rattle.cq_theory.specs.Presentation.{IsPresentation}
-use Rattle.cq_model.specs.InstanceData.{IsInstance}
+use Rattle.cq_instance.specs.InstanceData.{IsInstance}
 use Rattle.cq_push.specs.Shifted.{shifted_equation}
 use Rattle.cq_push.specs.Gluing.{sorts_of}
 use Rattle.cq_push.proofs.Beside.{own_sorts, sorts_more, equations_more, presented_more, presented_in, few_more, count_within}

@@ -1,7 +1,7 @@
 use Rattle.std.proofs.Common.{subst, sym}
 use Rattle.cq_theory.specs.Tables.{Initial}
 use Rattle.cq_theory.specs.Canonical.{canonical_assignment}
-use Rattle.cq_model.proofs.CanonicalDerived as derived
+use Rattle.cq_instance.proofs.CanonicalDerived as derived
 use Rattle.cq_return.proofs.Answered.{answers, reads}
 use Rattle.cq_return.proofs.laws.files_return.Goals as goal
 

@@ -1,5 +1,5 @@
 use Rattle.std.proofs.Common.{◌∙◌, ap, sym, subst}
-use Rattle.cq_model.specs.InstanceData.{InstanceData, IsInstance}
+use Rattle.cq_instance.specs.InstanceData.{InstanceData, IsInstance}
 use Rattle.cq_program.specs.Named.{listed_as}
 use Rattle.cq_theory.specs.Schema.{IsSchema}
 use Rattle.cq_run.proofs.Asking.{asks_again}

@@ -1,7 +1,7 @@
 use Rattle.std.proofs.Common.{ℕ, [], ◌∷◌, ◌++◌, ◌<◌, ◌+◌, length, sym, ◌∙◌, arith, rules}
 use Rattle.std.proofs.lemmas.List.FromFn.{map-range_with_len_more}
-use Rattle.cq_model.specs.Numbers.{start_of}
-use Rattle.cq_model.proofs.Pushed.{start_more}
+use Rattle.cq_instance.specs.Numbers.{start_of}
+use Rattle.cq_instance.proofs.Pushed.{start_more}
 use Rattle.cq_text.proofs.plan.find_starts.Goals as goal
 
 pub loop-count-preserved : goal.loop-count-preserved

@@ -1,6 +1,6 @@
 use Rattle.std.proofs.Common.{◌≡◌, map}
 use Rattle.cq_theory.specs.Canonical.{below}
-use Rattle.cq_model.specs.Numbers.{start_of}
+use Rattle.cq_instance.specs.Numbers.{start_of}
 use Rattle.cq_text.proofs.plan.find_starts.Given as goal
 
 abbrev pub invariant-loop-count : goal.invariant-loop-count

@@ -1,6 +1,6 @@
 use Rattle.std.proofs.Common.{ℕ, List, [], ◌∷◌, ◌++◌, ◌≡◌, map, get_or, sym, ap, ◌∙◌}
 use Rattle.std.specs.Prelude.{slice_index, slice_index_or}
-use Rattle.cq_model.proofs.Columned.{enumerated_more}
+use Rattle.cq_instance.proofs.Enumerated.{enumerated_more}
 use Rattle.cq_transform.proofs.composing.composed_rows.Goals as goal
 
 pub loop-entity-preserved : goal.loop-entity-preserved

@@ -1,6 +1,6 @@
 use Rattle.std.proofs.Common.{◌≡◌, ◌+◌, false, cond}
 use Rattle.cq_theory.specs.Tables.{Assignment}
-use Rattle.cq_model.specs.InstanceData.{InstanceData}
+use Rattle.cq_instance.specs.InstanceData.{InstanceData}
 use Rattle.cq_transform.specs.Nulls.{Keeps, IsInitial, AreSpelled, AreEntriesClosed, count_open}
 use Rattle.cq_transform.proofs.entries.find_entries.Given as goal
 

@@ -2,7 +2,7 @@ use Rattle.std.proofs.Common.{ℕ, Some, ◌≡◌, ◌<◌, true, false}
 use Rattle.std.specs.Prelude.{slice_get}
 use Rattle.cq_theory.specs.Tables.{Assignment}
 use Rattle.cq_theory.specs.declared.value.Entry.{Entry}
-use Rattle.cq_model.specs.InstanceData.{InstanceData}
+use Rattle.cq_instance.specs.InstanceData.{InstanceData}
 use Rattle.cq_transform.specs.Nulls.{Keeps, IsInitial, AreSpelled, IsEntryClosed, count_open}
 use Rattle.cq_transform.proofs.entries.find_once.Given as goal
 

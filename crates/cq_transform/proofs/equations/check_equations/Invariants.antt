@@ -1,5 +1,5 @@
 use Rattle.std.proofs.Common.{map}
-use Rattle.cq_model.specs.Standing.{meaning}
+use Rattle.cq_instance.specs.Standing.{meaning}
 use Rattle.cq_transform.specs.Refusals.{AreEqualBefore}
 use Rattle.cq_transform.proofs.equations.check_equations.Given as goal
 

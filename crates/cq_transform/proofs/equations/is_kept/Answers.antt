@@ -1,6 +1,6 @@
 use Rattle.std.proofs.Common.{IfOk, IsTrue, ◌↔◌, map, sym, subst}
 use Rattle.cq_theory.specs.declared.presentation.Equation.{Equation}
-use Rattle.cq_model.specs.Standing.{meaning}
+use Rattle.cq_instance.specs.Standing.{meaning}
 use Rattle.cq_transform.specs.Refusals.{IsEqual}
 use Rattle.cq_transform.proofs.equations.is_kept.Goals as goal
 

@@ -1,5 +1,5 @@
 use Rattle.std.proofs.Common.{map}
-use Rattle.cq_model.specs.Standing.{meaning}
+use Rattle.cq_instance.specs.Standing.{meaning}
 use Rattle.cq_transform.proofs.KeptSides.{kept_rows}
 use Rattle.cq_transform.proofs.equations.rows_kept.Goals as goal
 

@@ -1,7 +1,7 @@
 use Rattle.std.proofs.Common.{[], ◌∷◌, ◌++◌, ◌≡◌, get_or, sym, ap, ◌∙◌}
 use Rattle.cq_base.specs.declared.name.Name.{Name}
 use Rattle.cq_theory.specs.declared.presentation.Sort.{Sort}
-use Rattle.cq_model.proofs.Columned.{enumerated_more}
+use Rattle.cq_instance.proofs.Enumerated.{enumerated_more}
 use Rattle.cq_transform.specs.Identities.{itself}
 use Rattle.cq_transform.proofs.identities.own_images.Goals as goal
 

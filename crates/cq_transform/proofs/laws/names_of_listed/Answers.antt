@@ -3,7 +3,7 @@ use Rattle.std.specs.Prelude.{slice_index_or}
 use Rattle.std.proofs.lemmas.Option.{get_or_from_slice_get}
 use Rattle.cq_theory.specs.declared.term.EntTerm.{EntTerm}
 use Rattle.cq_theory.specs.Listed.{IsLeastName}
-use Rattle.cq_model.specs.InstanceData.{name_at}
+use Rattle.cq_instance.specs.InstanceData.{name_at}
 use Rattle.cq_transform.proofs.laws.names_of_listed.Goals as goal
 
 pub returns : goal.returns

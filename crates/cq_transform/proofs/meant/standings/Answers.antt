@@ -1,6 +1,6 @@
 use Rattle.std.proofs.Common.{sym, subst}
 use Rattle.cq_theory.specs.Sorts.{IsGround}
-use Rattle.cq_model.specs.declared.transform.Image.{Image}
+use Rattle.cq_instance.specs.declared.transform.Image.{Image}
 use Rattle.cq_transform.specs.Transforms.{term_of}
 use Rattle.cq_transform.proofs.meant.standings.Goals as goal
 

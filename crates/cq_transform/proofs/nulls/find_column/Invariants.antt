@@ -2,7 +2,7 @@ use Rattle.std.proofs.Common.{ℕ, Some, ◌≡◌, ◌<◌}
 use Rattle.std.specs.Prelude.{slice_get}
 use Rattle.cq_theory.specs.Tables.{Assignment}
 use Rattle.cq_theory.specs.declared.value.Value.{Value}
-use Rattle.cq_model.specs.InstanceData.{InstanceData}
+use Rattle.cq_instance.specs.InstanceData.{InstanceData}
 use Rattle.cq_transform.specs.Nulls.{Keeps, IsInitial, AreSpelled, IsClosed, IsColumnOf}
 use Rattle.cq_transform.proofs.nulls.find_column.Given as goal
 

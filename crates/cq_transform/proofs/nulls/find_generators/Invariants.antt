@@ -1,6 +1,6 @@
 use Rattle.std.proofs.Common.{map}
-use Rattle.cq_model.specs.InstanceData.{InstanceData}
-use Rattle.cq_model.specs.Standing.{meaning}
+use Rattle.cq_instance.specs.InstanceData.{InstanceData}
+use Rattle.cq_instance.specs.Standing.{meaning}
 use Rattle.cq_transform.specs.Nulls.{Keeps, AreSpelled, AreGeneratorsClosed}
 use Rattle.cq_transform.proofs.nulls.find_generators.Given as goal
 

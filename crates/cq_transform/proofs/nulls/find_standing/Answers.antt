@@ -1,5 +1,5 @@
 use Rattle.std.proofs.Common.{map}
-use Rattle.cq_model.specs.Standing.{meaning}
+use Rattle.cq_instance.specs.Standing.{meaning}
 use Rattle.cq_transform.proofs.Spelled.{put_keeps, put_closed, put_standing}
 use Rattle.cq_transform.proofs.nulls.find_standing.Goals as goal
 

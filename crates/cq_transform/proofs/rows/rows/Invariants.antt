@@ -1,6 +1,6 @@
 use Rattle.std.proofs.Common.{◌≡◌, map}
 use Rattle.cq_theory.specs.Canonical.{below}
-use Rattle.cq_model.specs.Standing.{meaning}
+use Rattle.cq_instance.specs.Standing.{meaning}
 use Rattle.cq_transform.specs.Rows.{rows_there}
 use Rattle.cq_transform.proofs.rows.rows.Given as goal
 

@@ -1,7 +1,7 @@
 use Rattle.std.proofs.Common.{List, map, subst}
 use Rattle.cq_theory.specs.Tables.{Assignment}
 use Rattle.cq_theory.specs.declared.presentation.Equation.{Equation}
-use Rattle.cq_model.specs.Standing.{meaning}
+use Rattle.cq_instance.specs.Standing.{meaning}
 use Rattle.cq_transform.specs.Refusals.{TellsUnequal}
 use Rattle.cq_transform.proofs.Made.{sides_over, made_goes}
 use Rattle.cq_transform.proofs.Told.{are_kept}

@@ -1,8 +1,8 @@
 use Rattle.std.proofs.Common.{List, None, ◌≡◌, refl, sym, ap, subst, ◌∙◌}
 use Rattle.cq_base.specs.declared.name.Name.{Name}
 use Rattle.cq_base.specs.declared.raw.Raw.{Raw}
-use Rattle.cq_model.specs.InstanceData.{InstanceData}
-use Rattle.cq_model.specs.declared.transform.Transform.{Transform}
+use Rattle.cq_instance.specs.InstanceData.{InstanceData}
+use Rattle.cq_instance.specs.declared.transform.Transform.{Transform}
 use Rattle.cq_transform.specs.Images.{images_fault, images_made}
 use Rattle.cq_transform.specs.Refusals.{TellsUnequal}
 use Rattle.cq_transform.specs.Transforms.{meanings_in}

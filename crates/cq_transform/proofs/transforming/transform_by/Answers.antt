@@ -1,7 +1,7 @@
 use Rattle.std.proofs.Common.{map, sym, ap, subst, ◌∙◌}
 use Rattle.std.specs.Prelude.{All}
 use Rattle.cq_theory.specs.Sorts.{IsGround}
-use Rattle.cq_model.specs.Standing.{meaning}
+use Rattle.cq_instance.specs.Standing.{meaning}
 use Rattle.cq_transform.specs.Transforms.{term_of, meanings_in}
 use Rattle.cq_transform.proofs.Made.{images_ground}
 use Rattle.cq_transform.proofs.transforming.transform_by.Goals as goal

@@ -1,6 +1,6 @@
 use Rattle.std.proofs.Common.{[], ◌∷◌, ◌++◌, map, take, get_or, sym, ap, ◌∙◌}
 use Rattle.std.proofs.lemmas.List.{take_more, take_all, map-append}
-use Rattle.cq_model.specs.declared.standing.Standing.TheVariants.{Row}
+use Rattle.cq_instance.specs.declared.standing.Standing.TheVariants.{Row}
 use Rattle.cq_eval.proofs.Chosen.{chosen, chosen_back, rows_stand, first_rows}
 use Rattle.cq_eval.proofs.choice.Choice.first.Goals as goal
 

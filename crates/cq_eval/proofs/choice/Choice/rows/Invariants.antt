@@ -1,6 +1,6 @@
 use Rattle.std.proofs.Common.{◌≡◌, map, take}
 use Rattle.cq_theory.specs.Tables.{row_in}
-use Rattle.cq_model.specs.Standing.{meaning}
+use Rattle.cq_instance.specs.Standing.{meaning}
 use Rattle.cq_eval.proofs.choice.Choice.rows.Given as goal
 
 abbrev pub invariant-loop-standing : goal.invariant-loop-standing

@@ -3,7 +3,7 @@ use Rattle.std.specs.Prelude.{IfOk}
 use Rattle.cq_theory.specs.Canonical.{below}
 use Rattle.cq_theory.specs.Tables.{row_from}
 use Rattle.cq_theory.specs.Groups.{positions}
-use Rattle.cq_model.specs.Terms.{IsOnWay}
+use Rattle.cq_instance.specs.Terms.{IsOnWay}
 use Rattle.cq_eval.proofs.Keeping.{only_key}
 use Rattle.cq_eval.proofs.kept.Kept.along.Goals as goal
 

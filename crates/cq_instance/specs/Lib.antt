@@ -1,0 +1,11 @@
+pub mod InstanceData
+pub mod Listed
+pub mod Standing
+pub mod Given
+pub mod Numbers
+pub mod Terms
+pub mod Digests
+pub mod EntryLists
+pub mod SameValue
+pub mod CellRows
+pub mod TermOrder

@@ -1,6 +1,0 @@
-use Rattle.std.proofs.Common.{◌≡◌, drop}
-use Rattle.cq_model.specs.CellRows.{group_rows}
-use Rattle.cq_model.proofs.cell_index.rows_in.Given as goal
-
-abbrev pub invariant-loop-group : goal.invariant-loop-group
-invariant-loop-group l = group_rows (drop l.group-index l.groups) l.value ≡ group_rows l.groups l.value

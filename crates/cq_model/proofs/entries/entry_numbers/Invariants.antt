@@ -1,6 +1,0 @@
-use Rattle.std.proofs.Common.{◌≡◌, take, map}
-use Rattle.cq_model.specs.EntryLists.{entry_number}
-use Rattle.cq_model.proofs.entries.entry_numbers.Given as goal
-
-abbrev pub invariant-loop-entry : goal.invariant-loop-entry
-invariant-loop-entry l = l.made.items ≡ map (entry_number l.count) (take l.entry-index l.entries)

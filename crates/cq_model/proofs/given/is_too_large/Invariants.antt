@@ -1,6 +1,0 @@
-use Rattle.std.proofs.Common.{◌≡◌, ◌+◌}
-use Rattle.cq_model.specs.Numbers.{start_of}
-use Rattle.cq_model.proofs.given.is_too_large.Given as goal
-
-abbrev pub invariant-loop-entity : goal.invariant-loop-entity
-invariant-loop-entity l = l.room + start_of l.counts l.entity + l.nulls ≡ 16000000

@@ -1,0 +1,5 @@
+pub mod Closed
+pub mod LeastNames
+pub mod Walking
+pub mod RowNumbers
+pub mod Ranks
