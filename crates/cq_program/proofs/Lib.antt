@@ -1,16 +1,7 @@
 pub mod Constants
 pub mod Listings
-pub mod Entries
-pub mod Given
-pub mod Poses
-pub mod Settled
-pub mod Uses
-pub mod Operands
-pub mod ColimitsPosed
-pub mod ToldParts
-pub mod ImagesPosed
-pub mod Readings
 pub mod Following
+pub mod Standing
 pub mod Unkept
 pub mod Limits
 pub mod OneEval

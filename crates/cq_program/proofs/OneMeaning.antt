@@ -11,9 +11,9 @@ use Rattle.cq_theory.specs.Listed.{Lists}
 use Rattle.cq_theory.proofs.OneModel.{same_models, same_assignments, same_lists_of_names}
 use Rattle.cq_instance.specs.InstanceData.{InstanceData}
 use Rattle.cq_instance.specs.Given.{given}
-use Rattle.cq_program.specs.Meanings.{Meant, instance, transform, Environment}
-use Rattle.cq_program.specs.Checks.{Posed, a_typeside, a_schema, a_mapping, an_identity, a_colimit, an_inclusion, a_query, a_presentation, a_made, a_delta, an_eval, a_transform, Stated}
-use Rattle.cq_program.specs.Folders.{Reads}
+use Rattle.cq_stating.specs.Meanings.{Meant, instance, transform, Environment}
+use Rattle.cq_stating.specs.Checks.{Posed, a_typeside, a_schema, a_mapping, an_identity, a_colimit, an_inclusion, a_query, a_presentation, a_made, a_delta, an_eval, a_transform, Stated}
+use Rattle.cq_stating.specs.Folders.{Reads}
 use Rattle.cq_program.proofs.OneEval.{one_eval}
 use Rattle.cq_program.proofs.OneReading.{reads_one}
 use Rattle.cq_program.proofs.OneTransform.{one_transform}

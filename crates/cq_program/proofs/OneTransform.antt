@@ -13,10 +13,11 @@ use Rattle.cq_transform.specs.Agreement.{Agrees}
 use Rattle.cq_transform.specs.Refusals.{IsBrokenAt, IsKept}
 use Rattle.cq_transform.specs.Transforms.{GoesFrom, meanings_in}
 use Rattle.cq_transform.proofs.ExactlyOne.{one_homomorphism}
-use Rattle.cq_program.specs.declared.reason.Reason.{Reason}
-use Rattle.cq_program.specs.declared.reason.Reason.TheVariants.{Broken}
-use Rattle.cq_program.specs.Meanings.{Ends}
-use Rattle.cq_program.specs.Program.{IsTransformOf, TellsBroken}
+use Rattle.cq_stating.specs.declared.reason.Reason.{Reason}
+use Rattle.cq_stating.specs.declared.reason.Reason.TheVariants.{Broken}
+use Rattle.cq_stating.specs.Meanings.{Ends}
+use Rattle.cq_stating.specs.Posing.{IsTransformOf}
+use Rattle.cq_program.specs.Program.{TellsBroken}
 
 -- the images of a transform keep each equation of its start
 kept : (i j : InstanceData) (t : Transform) → GoesFrom t i j → (n : ℕ) (e : Equation) → slice_get i.presentation.equations n ≡ Some e → IsKept j t.images e

@@ -1,9 +1,3 @@
-pub mod Lines
-pub mod Images
-pub mod Meanings
-pub mod Checks
-pub mod Folders
 pub mod Program
-pub mod Environment
-pub mod Posing
+pub mod Judging
 pub mod Named

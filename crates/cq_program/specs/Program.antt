@@ -13,16 +13,16 @@ use Rattle.cq_theory.specs.SchemaData.{SchemaData}
 use Rattle.cq_theory.specs.Schema.{IsSchema}
 use Rattle.cq_theory.specs.Presentation.{IsPresentation, is_oversized as is_too_large}
 use Rattle.cq_theory.specs.Closing.{Closes, IsInconsistent, IsInconsistentAt, IsWide}
-use Rattle.cq_theory.specs.Tables.{Tables, Initial}
+use Rattle.cq_theory.specs.Tables.{Tables}
 use Rattle.cq_theory.specs.ValueText.{value_text}
 use Rattle.cq_theory.specs.declared.value.Value.TheVariants.{Const}
 use Rattle.cq_instance.specs.InstanceData.{InstanceData}
 use Rattle.cq_instance.specs.Listed.{IsListed}
 use Rattle.cq_instance.specs.declared.transform.Image.{Image}
 use Rattle.cq_instance.specs.declared.transform.Transform.{Transform}
-use Rattle.cq_program.specs.declared.reason.Reason.{Reason}
-use Rattle.cq_program.specs.declared.reason.Reason.TheVariants.{NotPreserved, DutyDepth, DutyRows, Broken, Depth, TooManyRows, Inconsistent}
-use Rattle.cq_program.specs.declared.reason.Reason.TheVariants.{Oversized, TooManyAnswers}
+use Rattle.cq_stating.specs.declared.reason.Reason.{Reason}
+use Rattle.cq_stating.specs.declared.reason.Reason.TheVariants.{NotPreserved, DutyDepth, DutyRows, Broken, Depth, TooManyRows, Inconsistent}
+use Rattle.cq_stating.specs.declared.reason.Reason.TheVariants.{Oversized, TooManyAnswers}
 use Rattle.cq_mapping.specs.MappingData.{MappingData}
 use Rattle.cq_mapping.specs.Mapping.{identity_of}
 use Rattle.cq_mapping.specs.declared.duties.Duty.{Duty}
@@ -34,15 +34,15 @@ use Rattle.cq_query.specs.Duties.{Sound, all_duties, frozen}
 use Rattle.cq_query.specs.Answers.{IsEval}
 use Rattle.cq_eval.specs.Refused.{NoneHasMany, IsFirstMany, IsTooLarge}
 use Rattle.cq_transform.specs.Refusals.{IsBrokenAt}
-use Rattle.cq_transform.specs.Transforms.{GoesFrom}
 use Rattle.cq_check.specs.Answers.{IsDerivedWithin, IsNotPreserved, IsTooDeepDuty, IsTooWideDuty, IsUnsoundAt, IsTooDeepAt, IsTooWideAt}
-use Rattle.cq_program.specs.Meanings.{Meant, typeside, schema, colimit, mapping, query, instance, transform, Ends, Environment}
-use Rattle.cq_program.specs.Checks.{Posed, a_typeside}
-use Rattle.cq_program.specs.Checks.{a_schema, a_mapping, an_identity, a_colimit, an_inclusion, a_query, a_presentation}
-use Rattle.cq_program.specs.Checks.{a_made, a_delta, an_eval, a_transform}
-use Rattle.cq_program.specs.Checks.{Stated, stated_by}
-use Rattle.cq_program.specs.declared.reason.ReadCause.{ReadCause}
-use Rattle.cq_program.specs.Folders.{Told, Reads, TellsFault, LacksFile}
+use Rattle.cq_stating.specs.Meanings.{Meant, typeside, schema, colimit, mapping, query, instance, transform, Ends, Environment}
+use Rattle.cq_stating.specs.Checks.{Posed, a_typeside}
+use Rattle.cq_stating.specs.Checks.{a_schema, a_mapping, an_identity, a_colimit, an_inclusion, a_query, a_presentation}
+use Rattle.cq_stating.specs.Checks.{a_made, a_delta, an_eval, a_transform}
+use Rattle.cq_stating.specs.Checks.{Stated, stated_by}
+use Rattle.cq_stating.specs.Posing.{IsTransformOf}
+use Rattle.cq_stating.specs.declared.reason.ReadCause.{ReadCause}
+use Rattle.cq_stating.specs.Folders.{Told, Reads, TellsFault, LacksFile}
 
 -- the listed model of a presentation over a schema, both well sorted, which makes no two constants equal
 pub record IsModelOf (S : SchemaData) (P : Presentation) (i : InstanceData) : Type 0 where
@@ -59,14 +59,6 @@ pub record IsEvalWithin (Q : QueryData) (M N : Tables) : Type 0 where
   pub eval : IsEval Q M N
   pub few : NoneHasMany Q M
   pub fits : is_oversized N ≡ false
-
--- A transform of these images goes from the one end to the other, and the first is the term model of its presentation over a well-sorted
--- schema.
-pub record IsTransformOf (e : Ends) (images : List Image) (t : Transform) : Type 0 where
-  pub images_are : t.images ≡ images
-  pub schema : IsSchema e.start.instance.schema
-  pub initial : Initial e.start.instance.schema e.start.instance.presentation e.start.instance.tables e.start.instance.assignment
-  pub goes : GoesFrom t e.start.instance e.finish.instance
 
 -- What is posed is this: a theory itself, a mapping or a query where each of its duties is derivable, a presentation by its listed model.
 -- The duties of an identity and of an inclusion are equations of the target, and so derivable. Tables that are pulled back or that are

@@ -5,16 +5,15 @@ ghost use Rattle.cq_theory.specs.declared.constant.Con.{Con};
 ghost use Rattle.cq_theory.specs.declared.presentation.Presentation.{Presentation};
 ghost use Rattle.cq_theory.specs.SchemaData.{SchemaData};
 ghost use Rattle.cq_theory.specs.ValueText.{is_named_con};
-ghost use Rattle.cq_program.specs.Checks.{a_made};
-ghost use Rattle.cq_program.specs.Environment.{IsModelled, IsTermModel, meant};
-ghost use Rattle.cq_program.specs.Posing.{IsAnswerOf, Withholds};
+ghost use Rattle.cq_stating.specs.Checks.{a_made};
+ghost use Rattle.cq_stating.specs.Environment.{IsModelled, IsTermModel, meant};
+ghost use Rattle.cq_program.specs.Judging.{IsAnswerOf, Withholds};
 ghost use Rattle.cq_program.specs.Program.{Stands};
 
-use crate::environment::Meaning;
 use crate::models::{clash, shared_instance};
-use crate::reason::{ProgramRefusal, Reason};
 use cq_base::{Name, Place};
 use cq_model::{Instance, MoveRefusal};
+use cq_stating::{Meaning, ProgramRefusal, Reason};
 use cq_theory::Typeside;
 use std::alloc::Global;
 

@@ -1,27 +1,24 @@
 //! What declarations stand for that pass the checks of names and parts.
 ghost use Rattle.std.specs.Prelude.{◌≡◌, ◌≤◌, true, IfOk, IfErr};
 ghost use Rattle.cq_theory.specs.Presentation.{IsPresentation};
-ghost use Rattle.cq_theory.specs.Schema.{IsSchema};
 ghost use Rattle.cq_theory.specs.ValueText.{value_text as text_of, is_named_con};
 ghost use Rattle.cq_theory.specs.declared.value.Value.TheVariants.{Const};
 ghost use Rattle.cq_program.specs.Program.{Stands};
-ghost use Rattle.cq_program.specs.Environment.{IsModelled, IsTermModel, meant};
-ghost use Rattle.cq_program.specs.Posing.{IsPosed, TellsConstants, Withholds, posed_as};
-ghost use Rattle.cq_program.specs.Meanings.{mapping, instance};
-ghost use Rattle.cq_program.specs.Checks.{a_mapping, an_identity, a_presentation};
+ghost use Rattle.cq_stating.specs.Environment.{IsModelled, IsTermModel, ends_meant, meant};
+ghost use Rattle.cq_stating.specs.Posing.{IsPosed, IsTransformOf, posed_as};
+ghost use Rattle.cq_program.specs.Judging.{TellsConstants, Withholds};
+ghost use Rattle.cq_stating.specs.Meanings.{mapping, instance};
+ghost use Rattle.cq_stating.specs.Checks.{a_mapping, an_identity, a_presentation, a_transform};
 
 use crate::duties::unmet;
-use crate::environment::Meaning;
 use crate::gluing::{glued, summed};
 use crate::moves::{pulled, pushed};
-use crate::posing::Statement;
 use crate::queries::{answered, checked_query, read_backwards};
-use crate::reason::{ProgramRefusal, Reason};
-use crate::transforms::shared_transform;
 use cq_base::{Name, Place, Seq};
 use cq_check::check_mapping;
 use cq_mapping::Mapping;
-use cq_model::{BuildRefusal, Instance, build};
+use cq_model::{BuildRefusal, Instance, Transform, build};
+use cq_stating::{Meaning, NamedEnds, NamedTransform, ProgramRefusal, Reason, Statement};
 use cq_theory::value_text::value_text;
 use cq_theory::{Con, Presentation, Schema, Typeside, Value};
 use std::alloc::{AllocError, Global};
@@ -213,16 +210,26 @@ pub fn shared_instance(alloc: Global, name: Name, model: Instance) -> Result<Mea
     Ok(Meaning::Instance(name, shared))
 }
 
+/// A transform that goes from its one end to the other stands for itself.
+pub fn shared_transform(
+    alloc: Global,
+    ends: NamedEnds,
+    transform: Transform,
+) -> Result<Meaning, AllocError>
+    requires { IsTransformOf (ends_meant ends) transform.images transform }
+    ensures stands { IfOk result (λ meaning. Stands (a_transform (ends_meant ends) transform.images) (meant meaning)) }
+    ensures modelled { IfOk result (λ meaning. IsModelled (meant meaning)) }
+{
+    let shared = Rc::new(alloc, transform)?;
+    Ok(Meaning::Transform(NamedTransform {
+        ends,
+        transform: shared,
+    }))
+}
+
 /// The typeside of an instance.
 pub fn typeside_of(instance: &Instance) -> &Typeside
     ensures { result.now ≡ instance.now.schema.typeside }
 {
     &instance.schema().typeside
-}
-
-/// The schema of an instance is well sorted. The call does nothing.
-pub fn is_over_schema(instance: &Instance)
-    ensures { IsSchema instance.now.schema }
-{
-    instance.schema().is_well_sorted();
 }

@@ -14,13 +14,13 @@ use Rattle.cq_parse.specs.declared.refusal.ParseRefusal.{ParseRefusal}
 use Rattle.cq_parse.specs.declared.refusal.ParseRefusal.TheVariants as grammatical
 use Rattle.cq_parse.specs.Parsed.{IsRefused, RefusedWith}
 use Rattle.cq_io.specs.FolderData.{FolderData}
-use Rattle.cq_program.specs.Folders.{Told}
-use Rattle.cq_program.specs.Lines.{reason_line}
-use Rattle.cq_program.specs.Posing.{RefusesProgram}
-use Rattle.cq_program.specs.declared.reason.ProgramRefusal.{ProgramRefusal}
-use Rattle.cq_program.specs.declared.reason.ProgramRefusal.TheVariants as program_refusal
-use Rattle.cq_program.specs.declared.reason.ReadCause.{ReadCause}
-use Rattle.cq_program.specs.declared.reason.Reason.{Reason}
+use Rattle.cq_stating.specs.Folders.{Told}
+use Rattle.cq_stating.specs.Lines.{reason_line}
+use Rattle.cq_program.specs.Judging.{RefusesProgram}
+use Rattle.cq_stating.specs.declared.reason.ProgramRefusal.{ProgramRefusal}
+use Rattle.cq_stating.specs.declared.reason.ProgramRefusal.TheVariants as program_refusal
+use Rattle.cq_stating.specs.declared.reason.ReadCause.{ReadCause}
+use Rattle.cq_stating.specs.declared.reason.Reason.{Reason}
 use Rattle.cq_run.specs.Answer.{IsRefusalOf, Judges, SaysUnread}
 use Rattle.cq_run.specs.Judged.{AreSound, JudgesProgram, JudgesTokens, TellsLex, TellsParse}
 use Rattle.cq_run.specs.Lines.{read_line}

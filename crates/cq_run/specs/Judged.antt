@@ -7,7 +7,7 @@ use Rattle.cq_parse.specs.declared.refusal.ParseRefusal.{ParseRefusal}
 use Rattle.cq_parse.specs.declared.refusal.ParseRefusal.TheVariants as grammatical
 use Rattle.cq_syntax.specs.declared.program.Program.{Program}
 use Rattle.cq_io.specs.FolderData.{FolderData}
-use Rattle.cq_program.specs.Folders.{Told}
+use Rattle.cq_stating.specs.Folders.{Told}
 use Rattle.cq_program.specs.Named.{listed_as}
 use Rattle.cq_program.specs.Program as program
 use Rattle.cq_run.specs.Meaning.{IsSound, IsTreeIn, BreaksRule, MissesFile, RefusesTokens, lex_line, parse_line}

@@ -1,10 +1,10 @@
 use Rattle.std.proofs.Common.{◌≡◌, ◌∷◌, ◌++◌, [], false, ap, subst, sym, ◌∙◌}
 use Rattle.std.specs.Prelude.{is_some}
 use Rattle.cq_base.specs.declared.name.Name.{Name}
-use Rattle.cq_program.specs.Meanings.{meant_by}
-use Rattle.cq_program.specs.Environment.{AreSettled, WillSettle, environment_of, meant}
-use Rattle.cq_program.proofs.Poses.{fresh}
-use Rattle.cq_program.proofs.Settled.{AreSettled-more}
+use Rattle.cq_stating.specs.Meanings.{meant_by}
+use Rattle.cq_stating.specs.Environment.{AreSettled, WillSettle, environment_of, meant}
+use Rattle.cq_stating.proofs.Poses.{fresh}
+use Rattle.cq_stating.proofs.Settled.{AreSettled-more}
 use Rattle.cq_program.proofs.declarations.declare.Goals as goal
 
 pub returns-clause-declares : goal.returns-clause-declares

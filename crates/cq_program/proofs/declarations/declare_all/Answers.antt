@@ -1,9 +1,9 @@
 use Rattle.std.proofs.Common.{◌<◌, length, arith}
 use Rattle.std.proofs.lemmas.Result.{err_from_is_err_and}
 use Rattle.cq_io.specs.FolderData.{FolderData}
-use Rattle.cq_program.specs.Environment.{environment_of}
+use Rattle.cq_stating.specs.Environment.{environment_of}
 use Rattle.cq_program.proofs.Following.{refuses_at, follows_more}
-use Rattle.cq_program.proofs.Readings.{keeps_then}
+use Rattle.cq_stating.proofs.Readings.{keeps_then}
 use Rattle.cq_program.proofs.declarations.declare_all.Goals as goal
 
 pub returns-in_err-declare-clause-keeps : goal.returns-in_err-declare-clause-keeps

@@ -8,9 +8,9 @@ use Rattle.cq_instance.specs.declared.transform.Transform.{Transform}
 use Rattle.cq_transform.specs.Transforms.{GoesFrom}
 use Rattle.cq_push.specs.Gluing.{pushout_of}
 use Rattle.cq_push.proofs.Beside.{presented_in}
-use Rattle.cq_program.specs.Checks.{Posed, a_made, pushed_out}
-use Rattle.cq_program.specs.Environment.{meant, transform_meant}
-use Rattle.cq_program.specs.Posing.{IsAnswerOf, Withholds}
+use Rattle.cq_stating.specs.Checks.{Posed, a_made, pushed_out}
+use Rattle.cq_stating.specs.Environment.{meant, transform_meant}
+use Rattle.cq_program.specs.Judging.{IsAnswerOf, Withholds}
 use Rattle.cq_program.specs.Program.{Stands}
 use Rattle.cq_program.proofs.Answered.{are_term_models, answer_of, clash_named}
 use Rattle.cq_program.proofs.GluedPresentations.{goes_as, pushout_is}

@@ -1,5 +1,5 @@
 use Rattle.std.proofs.Common.{refl, inl, inr}
-use Rattle.cq_program.specs.Checks.{a_mapping}
+use Rattle.cq_stating.specs.Checks.{a_mapping}
 use Rattle.cq_program.proofs.models.checked_mapping.Goals as goal
 
 pub returns-in-Err-clause-withholds : goal.returns-in-Err-clause-withholds

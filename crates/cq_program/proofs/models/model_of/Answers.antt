@@ -5,7 +5,7 @@ use Rattle.cq_theory.specs.SchemaData.{SchemaData}
 use Rattle.cq_theory.specs.TypesideData.{TypesideData}
 use Rattle.cq_theory.specs.ValueText.{value_text, is_named_con}
 use Rattle.cq_theory.specs.declared.value.Value.TheVariants.{Const}
-use Rattle.cq_program.specs.Posing.{TellsConstants}
+use Rattle.cq_program.specs.Judging.{TellsConstants}
 use Rattle.cq_program.proofs.Answered.{is_term_model}
 use Rattle.cq_program.proofs.Constants.{constants_within, withholds_clash}
 use Rattle.cq_program.proofs.models.model_of.Goals as goal

@@ -5,7 +5,7 @@ use Rattle.cq_theory.specs.SchemaData.{SchemaData}
 use Rattle.cq_theory.specs.TypesideData.{TypesideData}
 use Rattle.cq_mapping.specs.Images.{sigma}
 use Rattle.cq_mapping.specs.MappingData.{MappingData}
-use Rattle.cq_program.specs.Posing.{IsAnswerOf}
+use Rattle.cq_program.specs.Judging.{IsAnswerOf}
 use Rattle.cq_program.proofs.Answered.{are_term_models, sigma_answers, sigma_named}
 use Rattle.cq_program.proofs.moves.pushed.Goals as goal
 

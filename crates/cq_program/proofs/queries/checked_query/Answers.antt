@@ -1,5 +1,5 @@
 use Rattle.std.proofs.Common.{refl, inl, inr}
-use Rattle.cq_program.specs.Checks.{a_query}
+use Rattle.cq_stating.specs.Checks.{a_query}
 use Rattle.cq_program.proofs.queries.checked_query.Goals as goal
 
 pub returns-in-Err-clause-withholds : goal.returns-in-Err-clause-withholds

@@ -2,9 +2,9 @@ use Rattle.std.proofs.Common.{ℕ, ◌≡◌, subst}
 use Rattle.std.specs.Prelude.{option_map, slice_get}
 use Rattle.cq_base.specs.declared.name.Name.{Name}
 use Rattle.cq_base.specs.declared.place.Place.{Place}
-use Rattle.cq_program.specs.declared.reason.Reason.{Reason}
-use Rattle.cq_program.specs.declared.reason.Reason.TheVariants.{TooManyAnswers}
-use Rattle.cq_program.specs.Environment.{Tells}
+use Rattle.cq_stating.specs.declared.reason.Reason.{Reason}
+use Rattle.cq_stating.specs.declared.reason.Reason.TheVariants.{TooManyAnswers}
+use Rattle.cq_stating.specs.Environment.{Tells}
 use Rattle.cq_program.proofs.queries.eval_refusal.Goals as goal
 
 pub too_many-requires : goal.too_many-requires

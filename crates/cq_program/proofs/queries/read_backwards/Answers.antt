@@ -4,7 +4,7 @@ use Rattle.cq_theory.specs.TypesideData.{TypesideData}
 use Rattle.cq_theory.specs.Tables.{Tables, IsWellFormed}
 use Rattle.cq_query.specs.Coeval.{coeval_of}
 use Rattle.cq_query.specs.QueryData.{QueryData}
-use Rattle.cq_program.specs.Posing.{IsAnswerOf}
+use Rattle.cq_program.specs.Judging.{IsAnswerOf}
 use Rattle.cq_program.proofs.Answered.{are_term_models, coeval_answers, coeval_named}
 use Rattle.cq_program.proofs.queries.read_backwards.Goals as goal
 

@@ -1,0 +1,37 @@
+-- The table of the declared names as an environment.
+use Rattle.std.proofs.Common.{Bool, true, false, List, [], ◌∷◌, ◌++◌, ◌≡◌, Option, Some, None, refl, ap}
+use Rattle.std.specs.Prelude.{Box, cond, if◌then◌else◌, is_some, option_map}
+use Rattle.std.specs.Map.{lookup}
+use Rattle.std.specs.declared.alloc.Global.{Global}
+use Rattle.indexmap.specs.IndexMap.{insert_entry}
+use Rattle.cq_base.specs.declared.name.Name.{Name}
+use Rattle.cq_base.specs.Names.{same_name}
+use Rattle.cq_stating.specs.declared.environment.Meaning.{Meaning}
+use Rattle.cq_stating.specs.Meanings.{Meant, meant_by}
+use Rattle.cq_stating.specs.Environment.{Entry, environment_of, meant}
+
+abbrev pub meant_in : Option (Box Meaning Global) → Option Meant
+meant_in found = option_map (λ m. meant m.value) found
+
+one_more : (b : Bool) (entry : Entry) (found : Option (Box Meaning Global)) (rest : Option Meant) → meant_in found ≡ rest
+    → meant_in (cond b (Some entry.1) found) ≡ (if b then Some (meant entry.1.value) else rest)
+one_more true entry found rest h = refl
+one_more false entry found rest h = h
+
+-- a name stands for what the table has under it
+pub meant_by-lookup : (entries : List Entry) (name : Name) → meant_in (lookup (same_name name) entries) ≡ meant_by (environment_of entries) name
+meant_by-lookup [] name = refl
+meant_by-lookup (entry ∷ entries) name =
+    one_more (same_name name entry.0) entry (lookup (same_name name) entries) (meant_by (environment_of entries) name) (meant_by-lookup entries name)
+
+-- a name that the table doesn't have comes last
+pub inserted : (entries : List Entry) (name : Name) (m : Box Meaning Global) → is_some (lookup (same_name name) entries) ≡ false
+    → environment_of (insert_entry same_name entries name m) ≡ environment_of entries ++ (name, meant m.value) ∷ []
+inserted [] name m none = refl
+inserted (entry ∷ entries) name m none = step (same_name name entry.0) none (inserted entries name m)
+  where
+    step : (b : Bool) → is_some (cond b (Some entry.1) (lookup (same_name name) entries)) ≡ false
+        → (is_some (lookup (same_name name) entries) ≡ false → environment_of (insert_entry same_name entries name m) ≡ environment_of entries ++ (name, meant m.value) ∷ [])
+        → environment_of (if b then (entry.0, m) ∷ entries else entry ∷ insert_entry same_name entries name m) ≡ environment_of (entry ∷ entries) ++ (name, meant m.value) ∷ []
+    step true none rest = cc
+    step false none rest = ap (λ (env : List (Name × Meant)). (entry.0, meant entry.1.value) ∷ env) (rest none)

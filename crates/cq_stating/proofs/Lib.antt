@@ -1,0 +1,10 @@
+pub mod Entries
+pub mod Given
+pub mod Poses
+pub mod Settled
+pub mod Uses
+pub mod Operands
+pub mod ColimitsPosed
+pub mod ToldParts
+pub mod ImagesPosed
+pub mod Readings

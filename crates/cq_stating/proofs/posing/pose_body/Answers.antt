@@ -1,0 +1,32 @@
+use Rattle.std.proofs.Common.{subst, sym}
+use Rattle.cq_syntax.specs.declared.program.Body.{Body}
+use Rattle.cq_stating.specs.Checks.{body_posed}
+use Rattle.cq_stating.specs.Environment.{Answers, environment_of}
+use Rattle.cq_stating.specs.Posing.{posed_as}
+use Rattle.cq_stating.proofs.posing.pose_body.Goals as goal
+
+pub returns-in-Mapping-Literal-clause-grounded : goal.returns-in-Mapping-Literal-clause-grounded
+returns-in-Mapping-Literal-clause-grounded c = c.pose_mapping.ensures.grounded c.args.name.now
+
+pub returns-in-Query-clause-grounded : goal.returns-in-Query-clause-grounded
+returns-in-Query-clause-grounded c = c.pose_query.ensures.grounded c.args.name.now
+
+pub returns-in-Instance-clause-posed : goal.returns-in-Instance-clause-posed
+returns-in-Instance-clause-posed c =
+    subst (λ (body : Body). Answers posed_as c.pose_instance.result (body_posed (environment_of c.args.env.now.names.entries) c.args.place c.args.name.now body)) (sym c.in-Instance.is)
+    (c.pose_instance.ensures.posed c.args.name.now)
+
+pub returns-in-Instance-clause-grounded : goal.returns-in-Instance-clause-grounded
+returns-in-Instance-clause-grounded c = c.pose_instance.ensures.grounded c.args.name.now
+
+pub returns-in-Transform-Identity-clause-grounded : goal.returns-in-Transform-Identity-clause-grounded
+returns-in-Transform-Identity-clause-grounded c = c.pose_identical.ensures.grounded c.args.name.now
+
+pub returns-in-Transform-Literal-clause-grounded : goal.returns-in-Transform-Literal-clause-grounded
+returns-in-Transform-Literal-clause-grounded c = c.pose_transform.ensures.grounded c.args.name.now
+
+pub returns-in-Schema-GetSchema-clause-grounded : goal.returns-in-Schema-GetSchema-clause-grounded
+returns-in-Schema-GetSchema-clause-grounded c = c.pose_joined_schema.ensures.grounded c.args.name.now
+
+pub returns-in-Mapping-GetMapping-clause-grounded : goal.returns-in-Mapping-GetMapping-clause-grounded
+returns-in-Mapping-GetMapping-clause-grounded c = c.pose_inclusion.ensures.grounded c.args.name.now

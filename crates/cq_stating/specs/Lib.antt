@@ -1,0 +1,7 @@
+pub mod Lines
+pub mod Images
+pub mod Meanings
+pub mod Checks
+pub mod Folders
+pub mod Environment
+pub mod Posing
