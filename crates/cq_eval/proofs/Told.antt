@@ -16,7 +16,7 @@ use Rattle.cq_instance.proofs.Lists.{get-map}
 use Rattle.cq_query.specs.QueryData.{QueryData as Query}
 use Rattle.cq_query.specs.IsQuery.{IsQuery}
 use Rattle.cq_query.specs.Duties.{frozen, Sound}
-use Rattle.cq_query.specs.declared.query.Block.{Block}
+use Rattle.cq_blocks.specs.declared.block.Block.{Block}
 use Rattle.cq_query.specs.Translation.{variables_in, tests_in}
 use Rattle.cq_query.specs.Answers.{IsTuple}
 use Rattle.cq_eval.specs.Join.{IsTested}

@@ -13,9 +13,9 @@ use Rattle.cq_syntax.specs.declared.part.GroupSyn.{GroupSyn}
 use Rattle.cq_syntax.specs.declared.literal.QueryKey.{QueryKey}
 use Rattle.cq_syntax.specs.declared.literal.QueryBlock.{QueryBlock}
 use Rattle.cq_syntax.specs.declared.literal.QueryLit.{QueryLit}
-use Rattle.cq_query.specs.declared.parts.Clause.{Clause}
-use Rattle.cq_query.specs.declared.parts.Clause.TheVariants as clause
-use Rattle.cq_query.specs.declared.parts.QueryParts.{QueryParts}
+use Rattle.cq_blocks.specs.declared.parts.Clause.{Clause}
+use Rattle.cq_blocks.specs.declared.parts.Clause.TheVariants as clause
+use Rattle.cq_blocks.specs.declared.parts.QueryParts.{QueryParts}
 use Rattle.cq_parts.specs.Parts.{variable_parts, test_clause, attribute_clause, assign_clause, key_clauses, block_variables, block_clauses, query_parts, variable_count, key_count, clause_count, query_count}
 
 -- what each member of a numbered list gives, counted

@@ -36,9 +36,9 @@ use Rattle.cq_theory.specs.declared.parts.ArrowImage.TheVariants as image
 use Rattle.cq_theory.specs.declared.parts.ArrowPart.{ArrowPart}
 use Rattle.cq_theory.specs.declared.parts.MappingParts.{MappingParts}
 use Rattle.cq_colimit.specs.declared.parts.ColimitParts.{ColimitParts}
-use Rattle.cq_query.specs.declared.parts.Clause.{Clause}
-use Rattle.cq_query.specs.declared.parts.Clause.TheVariants as clause
-use Rattle.cq_query.specs.declared.parts.QueryParts.{QueryParts}
+use Rattle.cq_blocks.specs.declared.parts.Clause.{Clause}
+use Rattle.cq_blocks.specs.declared.parts.Clause.TheVariants as clause
+use Rattle.cq_blocks.specs.declared.parts.QueryParts.{QueryParts}
 
 abbrev pub names_of : List Spot → List Name
 names_of spots = map (λ spot. spot.name) spots

@@ -6,7 +6,7 @@ ghost use Rattle.cq_parts.specs.Parts.{query_parts, test_clause, variable_parts}
 
 use crate::raw::copy_raw;
 use cq_base::{Name, Raw, Seq};
-use cq_query::{Clause, QueryParts};
+use cq_blocks::{Clause, QueryParts};
 use cq_syntax::{Bind, EqSyn, GroupSyn, QueryBlock, QueryKey, QueryLit};
 use std::alloc::{AllocError, Global};
 

@@ -2,16 +2,11 @@ pub mod Lists
 pub mod Answering
 pub mod Standing
 pub mod SortedDuties
-pub mod Scoping
 pub mod Parted
 pub mod MadeQueries
 pub mod NewQueries
 pub mod Copying
 pub mod CopiedPresentations
-pub mod Repeats
-pub mod Indexing
-pub mod Blocking
-pub mod Assigning
 pub mod Meaning
 pub mod Holding
 pub mod Once

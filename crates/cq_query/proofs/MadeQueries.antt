@@ -41,16 +41,16 @@ use Rattle.cq_theory.proofs.Faults.{of_five, not_false, neither, at_most, made_o
 use Rattle.cq_theory.proofs.OnValues.{All_at}
 use Rattle.cq_theory.proofs.RawSymbols.{resolved-no_longer, type_part}
 use Rattle.cq_theory.proofs.ResolvedSorts.{map_some, sort_of-resolved, type_of-in}
-use Rattle.cq_query.specs.declared.parts.Clause.{Clause}
-use Rattle.cq_query.specs.declared.parts.Clause.TheVariants as clause
-use Rattle.cq_query.specs.declared.query.Block.{Block}
+use Rattle.cq_blocks.specs.declared.parts.Clause.{Clause}
+use Rattle.cq_blocks.specs.declared.parts.Clause.TheVariants as clause
+use Rattle.cq_blocks.specs.declared.block.Block.{Block}
 use Rattle.cq_query.specs.QueryData.{QueryData as Query}
 use Rattle.cq_theory.specs.Groups.{positions, place_of, places}
 use Rattle.cq_query.specs.Translation.{variables_at, tests_at, found_term, found_terms, variables_in as variables_of, tests_in as tests_of}
 use Rattle.cq_theory.specs.Groups.{edge_sources}
 use Rattle.cq_query.specs.Duties.{frozen}
 use Rattle.cq_query.specs.IsQuery.{HasBlockTerms, IsQuery, IsAttributeTerm, AreKeyTerms}
-use Rattle.cq_query.specs.QueryParts.{first_of, variables_in, scopes_of, variables_fault, names_of, sorts_of, is_from, is_right_attribute, is_attribute, is_key, attribute_edge, key_edge, variable_sort, target_sort, clause_rule, rule_over, rule_in, gives_same, clause_fault, clauses_fault, attribute_given, assigned_given, attribute_in, assigned_in, missing_attribute, missing_variable, missing_variables, missing_attributes, missing_keys, missing_assigned, missing_in, missing_at, missing_part, scope_or_none, type_made, entity_made, test_made, test_in, tests_made, attribute_made, attribute_made_at, key_made, key_made_at, block_in, block_made, blocks_made}
+use Rattle.cq_blocks.specs.Blocks.{first_of, variables_in, scopes_of, variables_fault, names_of, sorts_of, is_from, is_right_attribute, is_attribute, is_key, attribute_edge, key_edge, variable_sort, target_sort, clause_rule, rule_over, rule_in, gives_same, clause_fault, clauses_fault, attribute_given, assigned_given, attribute_in, assigned_in, missing_attribute, missing_variable, missing_variables, missing_attributes, missing_keys, missing_assigned, missing_in, missing_at, missing_part, scope_or_none, type_made, entity_made, test_made, test_in, tests_made, attribute_made, attribute_made_at, key_made, key_made_at, block_in, block_made, blocks_made}
 use Rattle.cq_theory.proofs.Grouped.{made_at}
 use Rattle.cq_query.proofs.SortedDuties.{All_in, all_flat_map}
 use Rattle.cq_query.proofs.Parted.{none_each, some_one, fault_each, variables_whole, variables_sorted, below_at, place_read, number_of-at}

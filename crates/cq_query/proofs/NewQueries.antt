@@ -12,13 +12,14 @@ use Rattle.cq_theory.specs.Schema.{IsSchema}
 use Rattle.cq_theory.specs.ArrowRefusals.{of_arrow, first_missing}
 use Rattle.cq_theory.specs.Resolve.{or_else}
 use Rattle.cq_theory.proofs.DeclaredParts.{or_else_none, new_name, first_part_fault-each}
-use Rattle.cq_query.specs.declared.parts.QueryParts.{QueryParts}
-use Rattle.cq_query.specs.declared.parts.Clause.{Clause}
-use Rattle.cq_query.specs.declared.query.Block.{Block}
+use Rattle.cq_blocks.specs.declared.parts.QueryParts.{QueryParts}
+use Rattle.cq_blocks.specs.declared.parts.Clause.{Clause}
+use Rattle.cq_blocks.specs.declared.block.Block.{Block}
 use Rattle.cq_theory.specs.declared.beginnings.Beginnings.{Beginnings}
 use Rattle.cq_theory.specs.Beginnings.{AreBeginningsOf}
 use Rattle.cq_query.specs.IsQuery.{IsQuery}
-use Rattle.cq_query.specs.QueryParts.{block_fault, blocks_fault, block_entities, entity_named, scopes_of, variables_fault, clauses_fault, missing_part, blocks_made, clauses_and_rest_fault, variables_and_rest_fault, query_fault, query_made}
+use Rattle.cq_blocks.specs.Blocks.{block_fault, blocks_fault, block_entities, entity_named, scopes_of, variables_fault, clauses_fault, missing_part, blocks_made, clauses_and_rest_fault, variables_and_rest_fault}
+use Rattle.cq_query.specs.QueryParts.{query_fault, query_made}
 use Rattle.cq_query.proofs.Parted.{named_entity}
 use Rattle.cq_query.proofs.MadeQueries.{made_is}
 

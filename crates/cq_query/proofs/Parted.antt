@@ -21,7 +21,7 @@ use Rattle.cq_theory.specs.Declaring.{number_or_zero}
 use Rattle.cq_theory.proofs.DeclaredParts.{or_else_none, new_name}
 use Rattle.cq_theory.proofs.MadeObservations.{stated_within}
 use Rattle.cq_theory.specs.Groups.{positions_from, positions, place_of}
-use Rattle.cq_query.specs.QueryParts.{first_of, first_fault_after, entity_fault, entity_named, name_in, names_in, variable_in, variables_in, variable_fault, names_of}
+use Rattle.cq_blocks.specs.Blocks.{first_of, first_fault_after, entity_fault, entity_named, name_in, names_in, variable_in, variables_in, variable_fault, names_of}
 use Rattle.cq_query.proofs.SortedDuties.{All_in, all_flat_map}
 
 pub none_each : {X R : Type 0} (f : X → Option R) (xs : List X) → first_of f xs ≡ None → (k : ℕ) (x : X) → slice_get xs k ≡ Some x → f x ≡ None

@@ -13,7 +13,7 @@ use Rattle.cq_theory.specs.Presentation.{IsPresentation}
 use Rattle.cq_query.specs.QueryData.{QueryData as Query}
 use Rattle.cq_query.specs.Translation.{variables_at, key_sources, attribute_sources, found_terms, found_term}
 use Rattle.cq_theory.specs.Groups.{positions}
-use Rattle.cq_query.specs.declared.query.Block.{Block}
+use Rattle.cq_blocks.specs.declared.block.Block.{Block}
 use Rattle.cq_query.specs.Duties.{frozen}
 
 -- the term of an attribute is there, has the attribute's type over the variables of its entity's block, and at most 1,024 symbols

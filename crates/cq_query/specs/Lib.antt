@@ -7,8 +7,4 @@ pub mod Layout
 pub mod Coeval
 pub mod QueryParts
 pub mod Answers
-pub mod Given
-pub mod Index
-pub mod Making
-pub mod Assigned
 pub mod Leading

@@ -1,7 +1,7 @@
 -- What contracts see of a query.
 use Rattle.std.specs.Prelude.{List}
 use Rattle.cq_theory.specs.SchemaData.{SchemaData}
-use Rattle.cq_query.specs.declared.query.Block.{Block}
+use Rattle.cq_blocks.specs.declared.block.Block.{Block}
 
 -- a source, a target, and a block for each entity of the target
 pub record QueryData : Type 0 where

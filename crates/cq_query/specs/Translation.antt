@@ -10,7 +10,7 @@ use Rattle.cq_theory.specs.declared.term.TypeTerm.TheVariants as term
 use Rattle.cq_theory.specs.declared.term.TypeTerm.TheOpen.{TypeTerm-F}
 use Rattle.cq_theory.specs.declared.term.TypeTerm.TheFolds.{fold-TypeTerm}
 use Rattle.cq_theory.specs.Carried.{carried_step}
-use Rattle.cq_query.specs.declared.query.Block.{Block}
+use Rattle.cq_blocks.specs.declared.block.Block.{Block}
 use Rattle.cq_query.specs.QueryData.{QueryData as Query}
 use Rattle.cq_theory.specs.Groups.{places, edge_sources, path_eq_sources, obs_eq_sources}
 use Rattle.cq_query.specs.Puts.{put, put_type, generators_from}

@@ -4,25 +4,15 @@
 //! blocks; the lists stand in the type's invariant.
 #![tactic(auto)]
 
-mod assigned;
-mod blocks;
-mod clauses;
 mod coeval;
 mod copies;
 mod duties;
-mod given;
-mod index;
 pub mod laws;
-mod making;
-mod missing;
-mod owners;
-pub mod parts;
 mod puts;
 pub mod query;
 mod rows;
-mod scopes;
 mod sorts;
 pub mod translation;
 
-pub use parts::{Clause, QueryParts};
-pub use query::{Block, Query};
+pub use cq_blocks::{Block, Clause, QueryParts, parts};
+pub use query::Query;

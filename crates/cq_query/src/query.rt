@@ -7,38 +7,13 @@ ghost use Rattle.cq_query.specs.Translation.{variables_at, key_sources, attribut
 ghost use Rattle.cq_query.specs.Translation.{observation_sources};
 ghost use Rattle.cq_query.specs.IsQuery.{IsQuery};
 
-use crate::making::{BlockParts, make_blocks};
-use crate::owners::make_entities;
-use crate::parts::QueryParts;
-use cq_base::{Name, Seq};
-use cq_theory::{
-    ArrowRefusal, Beginnings, Edge, EntTerm, Equation, ObsEq, PathEq, Schema, TypeTerm,
-};
+use cq_base::Seq;
+pub use cq_blocks::Block;
+use cq_blocks::{BlockParts, QueryParts, make_blocks, make_entities};
+use cq_theory::{ArrowRefusal, Beginnings, Edge, ObsEq, PathEq, Schema};
 use std::alloc::Global;
 use std::marker::Model;
 use std::rc::Rc;
-
-/// How a query makes the rows of one entity of its target. There is one row for each choice of a row for each
-/// variable that meets the where equations. Variables stand for generators, by their places. There is a term for each
-/// attribute of the entity, and for each foreign key of it a term for each variable of the block to which the key
-/// leads; both are in the order of the target.
-pub struct Block {
-    pub vars: Seq<(Name, u32)>,
-    pub tests: Seq<Equation>,
-    pub attributes: Seq<TypeTerm>,
-    pub keys: Seq<Seq<EntTerm>>,
-}
-
-impl Drop for Block {
-    fn drop(self) {
-        let Self {
-            vars: _,
-            tests: _,
-            attributes: _,
-            keys: _,
-        } = self;
-    }
-}
 
 /// A query from a source to a target: a block for each entity of the target, in its order (Schultz and Wisnesky,
 /// Algebraic Data Integration: uber-flower queries). Contracts see the schemas and the blocks, which are well sorted.

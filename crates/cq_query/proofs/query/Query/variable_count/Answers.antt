@@ -1,5 +1,5 @@
 use Rattle.std.proofs.Common.{◌≤◌, ◌≡◌, Option, Some, length, subst, sym, arith}
-use Rattle.cq_query.specs.declared.query.Block.{Block}
+use Rattle.cq_blocks.specs.declared.block.Block.{Block}
 use Rattle.cq_query.specs.Translation.{variables_in}
 use Rattle.cq_query.proofs.query.Query.variable_count.Goals as goal
 

@@ -1,0 +1,5 @@
+pub mod Blocks
+pub mod Given
+pub mod Index
+pub mod Making
+pub mod Assigned

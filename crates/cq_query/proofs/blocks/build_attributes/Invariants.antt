@@ -1,6 +1,0 @@
-use Rattle.std.proofs.Common.{◌≡◌, map, take}
-use Rattle.cq_query.specs.QueryParts.{attribute_made}
-use Rattle.cq_query.proofs.blocks.build_attributes.Given as goal
-
-abbrev pub invariant-loop-attribute : goal.invariant-loop-attribute
-invariant-loop-attribute l = l.made.items ≡ map (attribute_made l.making.source.now l.making.target.now l.making.scopes.now l.making.clauses.now) (take l.attribute-index l.attributes)

@@ -1,4 +1,0 @@
-use Rattle.cq_query.proofs.clauses.check_clauses.Goals as goal
-
-pub first_clause_fault-requires : goal.first_clause_fault-requires
-first_clause_fault-requires c = c.requires.making.numbers

@@ -1,8 +1,0 @@
-use Rattle.std.proofs.Common.{◌≡◌, drop}
-use Rattle.cq_query.specs.Index.{at_place}
-use Rattle.cq_query.specs.QueryParts.{first_of, attribute_given}
-use Rattle.cq_query.proofs.index.attribute_among.Given as goal
-
-abbrev pub invariant-loop-place : goal.invariant-loop-place
-invariant-loop-place l =
-    first_of (at_place (λ part. attribute_given l.target l.attribute part.1) l.clauses) (drop l.place-index l.places) ≡ first_of (at_place (λ part. attribute_given l.target l.attribute part.1) l.clauses) l.places

@@ -1,6 +1,0 @@
-use Rattle.std.proofs.Common.{◌≡◌, drop}
-use Rattle.cq_query.specs.QueryParts.{missing_assigned}
-use Rattle.cq_query.proofs.missing.check_all_assigned.Given as goal
-
-abbrev pub invariant-loop-key : goal.invariant-loop-key
-invariant-loop-key l = missing_assigned l.target l.scopes l.clauses (drop l.key-index l.keys) ≡ missing_assigned l.target l.scopes l.clauses l.keys

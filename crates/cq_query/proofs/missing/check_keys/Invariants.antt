@@ -1,6 +1,0 @@
-use Rattle.std.proofs.Common.{◌≡◌, drop}
-use Rattle.cq_query.specs.QueryParts.{missing_keys}
-use Rattle.cq_query.proofs.missing.check_keys.Given as goal
-
-abbrev pub invariant-loop-key : goal.invariant-loop-key
-invariant-loop-key l = missing_keys l.target l.clauses (drop l.key-index l.keys) ≡ missing_keys l.target l.clauses l.keys

@@ -1,6 +1,0 @@
-use Rattle.std.proofs.Common.{◌≡◌, drop}
-use Rattle.cq_query.specs.QueryParts.{missing_variable, first_of}
-use Rattle.cq_query.proofs.missing.check_variables.Given as goal
-
-abbrev pub invariant-loop-var : goal.invariant-loop-var
-invariant-loop-var l = first_of (missing_variable l.target l.clauses l.key) (drop l.var-index l.vars) ≡ first_of (missing_variable l.target l.clauses l.key) l.vars

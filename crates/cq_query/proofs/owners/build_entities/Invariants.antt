@@ -1,6 +1,0 @@
-use Rattle.std.proofs.Common.{◌≡◌, take, map}
-use Rattle.cq_query.specs.QueryParts.{entity_named}
-use Rattle.cq_query.proofs.owners.build_entities.Given as goal
-
-abbrev pub invariant-loop-name : goal.invariant-loop-name
-invariant-loop-name l = l.entities.items ≡ map (entity_named l.target) (take l.name-index l.names)

@@ -1,6 +1,0 @@
-use Rattle.std.proofs.Common.{◌≡◌, take}
-use Rattle.cq_query.specs.QueryParts.{sorts_of}
-use Rattle.cq_query.proofs.scopes.build_sorts.Given as goal
-
-abbrev pub invariant-loop-var : goal.invariant-loop-var
-invariant-loop-var l = l.sorts.items ≡ sorts_of (take l.var-index l.vars)
