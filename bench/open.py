@@ -22,7 +22,18 @@ import tempfile
 import time
 
 TOP = pathlib.Path(__file__).resolve().parent.parent
-CRATES = ["cq_base", "cq_theory", "cq_terms", "cq_tables", "cq_rows", "cq_flat", "cq_model", "cq_text"]
+CRATES = [
+    "cq_base",
+    "cq_theory",
+    "cq_terms",
+    "cq_tables",
+    "cq_rows",
+    "cq_flat",
+    "cq_instance",
+    "cq_names",
+    "cq_model",
+    "cq_text",
+]
 
 FILES = {
     "src/main.rt": r"""//! Makes an instance of so many rows, with so many different texts, and its transcript.
