@@ -17,7 +17,7 @@ use Rattle.cq_model.specs.declared.places.Places.{Places}
 use Rattle.cq_names.specs.Closed.{AreClosed}
 use Rattle.cq_names.specs.LeastNames.{rows_at}
 use Rattle.cq_model.specs.NodeTerms.{cell_place}
-use Rattle.cq_model.specs.Built.{IsClosureOf, IsBuilt, sheet_of, tables_of}
+use Rattle.cq_model.specs.Built.{IsClosureOf, IsBuilt, HasPlace, sheet_of, tables_of}
 use Rattle.cq_base.specs.declared.name.Name.{Name}
 use Rattle.cq_theory.specs.declared.presentation.Sort.{Sort}
 use Rattle.cq_theory.specs.declared.presentation.Sort.TheVariants.{Plain, Entity}

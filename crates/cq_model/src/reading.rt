@@ -12,7 +12,7 @@ ghost use Rattle.cq_theory.specs.declared.presentation.Sort.{Sort};
 ghost use Rattle.cq_theory.specs.SchemaData.{SchemaData};
 ghost use Rattle.cq_names.specs.LeastNames.{rows_at};
 ghost use Rattle.cq_model.specs.NodeTerms.{cell_place};
-ghost use Rattle.cq_model.specs.Built.{number_in, sheet_of, standing, assignment_of};
+ghost use Rattle.cq_model.specs.Built.{HasPlace, number_in, sheet_of, standing, assignment_of};
 ghost use Rattle.cq_instance.specs.Standing.{meaning};
 
 use crate::places::ClosedPlaces;
