@@ -25,5 +25,7 @@ mod places;
 mod reading;
 
 pub use building::{BuildRefusal, build};
-pub use cq_instance::{CellIndex, Image, Instance, KeyIndex, Standing, TablesRefusal, Transform, copied};
+pub use cq_instance::{
+    CellIndex, Image, Instance, KeyIndex, Standing, TablesRefusal, Transform, copied,
+};
 pub use moving::MoveRefusal;

@@ -7,8 +7,8 @@ ghost use Rattle.cq_stating.specs.declared.reason.Reason.TheVariants.{NameUnknow
 
 use crate::reason::{ProgramRefusal, Reason};
 use cq_base::{Hashing, Name, Seq};
-use cq_mapping::Mapping;
 use cq_instance::{Instance, Transform};
+use cq_mapping::Mapping;
 use cq_query::Query;
 use cq_syntax::Spot;
 use cq_theory::{Schema, Typeside};

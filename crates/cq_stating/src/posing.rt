@@ -19,8 +19,8 @@ use crate::queries::{pose_coeval, pose_eval, pose_query};
 use crate::reason::{ProgramRefusal, Reason};
 use crate::transforms::{BrokenImages, pose_identical, pose_transform};
 use cq_base::{Name, Place, Seq};
-use cq_mapping::Mapping;
 use cq_instance::{Instance, Transform};
+use cq_mapping::Mapping;
 use cq_parts::{
     instance_parts, instance_places, mapping_parts, mapping_places, schema_parts, schema_places,
     typeside_parts, typeside_places,

@@ -10,8 +10,8 @@ use crate::environment::{
 };
 use crate::reason::ProgramRefusal;
 use cq_base::Name;
-use cq_mapping::Mapping;
 use cq_instance::Instance;
+use cq_mapping::Mapping;
 use cq_query::Query;
 use cq_syntax::Spot;
 use std::alloc::AllocError;
