@@ -57,7 +57,9 @@ fn finish_blocks(alloc: Global, making: &Making) -> Result<(Vec<Block>, Beginnin
     Ok((blocks, beginnings))
 }
 
-/// The blocks that the variables and the clauses give.
+/// The blocks that the variables and the clauses give, one for each entity of the target, with what begins at each of
+/// these. The answer is otherwise the first fault, of the variables, then of the clauses in order, and then, entity by
+/// entity, of what no clause gives; or want of memory.
 pub fn make_blocks(
     alloc: Global,
     source: &Schema,

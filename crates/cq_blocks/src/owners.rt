@@ -82,7 +82,8 @@ fn build_entities(alloc: Global, target: &Schema, names: &[Name]) -> Result<Vec<
     Ok(entities)
 }
 
-/// The entity of each block, by the names of these entities.
+/// The entity of each block, by the names of these entities. The answer is otherwise the first fault of the names, or
+/// else the first entity without a block; or want of memory.
 pub fn make_entities(
     alloc: Global,
     target: &Schema,
