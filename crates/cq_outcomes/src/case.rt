@@ -1,12 +1,11 @@
 //! A case: what becomes of a run over files in memory.
+use crate::devices::Devices;
 use crate::entry::{Entry, Part};
+use crate::exports::{found, told};
 use crate::tally::Tally;
 use cq_io::{Exporter, Folder, MemFolder, MemSink, Sink};
 use cq_run::Status;
 use std::alloc::{AllocError, Global};
-
-/// The room of the sink that a run writes to.
-const ROOM: u64 = 65536;
 
 /// Tries the case of an entry, of which a part says what is told.
 pub fn try_case(
@@ -17,9 +16,35 @@ pub fn try_case(
 ) -> Result<(), AllocError> {
     let files = files_of(alloc, entry)?;
     let words = words_of(alloc, entry.words())?;
-    let came = outcome(alloc, words.as_slice(), files)?;
-    let told = told_by(alloc, part.name, part)?;
-    tally.add(alloc, entry.title(), told.as_str(), came.as_str())
+    let came = outcome(alloc, entry.devices(), words.as_slice(), files)?;
+    let told = told_of(alloc, entry, part)?;
+    let came = if part.rest == "and more" {
+        beginning(came.as_str(), told.len())
+    } else {
+        came.as_str()
+    };
+    tally.add(alloc, entry.title(), told.as_str(), came)
+}
+
+/// The first bytes of a text, so many, or the whole text.
+fn beginning(text: &str, length: usize) -> &str {
+    match text.get(..length) {
+        Some(first) => first,
+        None => text,
+    }
+}
+
+/// What is told of a case, with what is told of its exporters, if it has some.
+fn told_of(alloc: Global, entry: Entry<'_>, part: Part<'_>) -> Result<String, AllocError> {
+    let written = told_by(alloc, part.name, part)?;
+    if entry.devices().formats.is_empty() {
+        return Ok(written);
+    }
+    let left = entry.part("exported").rest;
+    let spoiled = entry.part("spoiled").rest;
+    let contents = entry.part("contents").written(alloc)?;
+    let exports = told(alloc, left, spoiled, contents.as_str())?;
+    format!(in alloc; "{written}{exports}")
 }
 
 /// What a part tells of a run with this status.
@@ -38,7 +63,7 @@ pub fn words_of(alloc: Global, line: &str) -> Result<Vec<String>, AllocError> {
 }
 
 /// The files of an entry: the head with the text, and the further ones.
-fn files_of(alloc: Global, entry: Entry<'_>) -> Result<Vec<(String, Vec<u8>)>, AllocError> {
+pub fn files_of(alloc: Global, entry: Entry<'_>) -> Result<Vec<(String, Vec<u8>)>, AllocError> {
     let mut files = Vec::new(alloc);
     let text = program(alloc, entry)?;
     files.push(file(alloc, "p.cql", text.as_str())?)?;
@@ -52,7 +77,7 @@ fn files_of(alloc: Global, entry: Entry<'_>) -> Result<Vec<(String, Vec<u8>)>, A
 }
 
 /// The head of an entry with its text.
-fn program(alloc: Global, entry: Entry<'_>) -> Result<String, AllocError> {
+pub fn program(alloc: Global, entry: Entry<'_>) -> Result<String, AllocError> {
     let text = entry.part("text").written(alloc)?;
     format!(in alloc; "{}{text}", entry.head)
 }
@@ -68,32 +93,74 @@ fn further_file(alloc: Global, part: Part<'_>) -> Result<(String, Vec<u8>), Allo
 }
 
 /// A file with this name and content.
-pub fn file(alloc: Global, name: &str, content: &str) -> Result<(String, Vec<u8>), AllocError> {
+fn file(alloc: Global, name: &str, content: &str) -> Result<(String, Vec<u8>), AllocError> {
     let bytes = Vec::from_slice(alloc, content.as_bytes())?;
     Ok((String::from_str(alloc, name)?, bytes))
 }
 
-/// What becomes of a run without exporters: the name of its status, and behind it, from the next line on, what is
-/// written.
+/// What becomes of a run of these words over the one file `p.cql` with this text.
+pub fn outcome_of_text(
+    alloc: Global,
+    devices: Devices<'_>,
+    words: &[String],
+    text: &str,
+) -> Result<String, AllocError> {
+    let mut files = Vec::new(alloc);
+    files.push(file(alloc, "p.cql", text)?)?;
+    outcome(alloc, devices, words, files)
+}
+
+/// What becomes of a run: the name of its status; behind it, from the next line on, what is written; and what the
+/// exporters have, if there were some.
 pub fn outcome(
     alloc: Global,
+    devices: Devices<'_>,
     words: &[String],
     files: Vec<(String, Vec<u8>)>,
 ) -> Result<String, AllocError> {
-    let mut folder = MemFolder::new(alloc, files, Vec::new(alloc))?;
-    let mut out = MemSink::new(alloc, Vec::new(alloc), ROOM)?;
-    let status = run(alloc, words, &mut folder, &mut out);
-    match std::str::from_utf8(out.bytes()) {
+    let mut folder = MemFolder::new(alloc, files, devices.failing(alloc, "reads")?)?;
+    let mut out = MemSink::new(alloc, devices.failing(alloc, "writes")?, devices.room)?;
+    let mut exporters: Vec<Box<dyn Exporter>> = Vec::new(alloc);
+    for name in devices.formats.split(", ") {
+        if let Some(exporter) = devices.exporter(alloc, name)? {
+            exporters.push(Box::new(alloc, exporter)?)?;
+        }
+    }
+    let mut spoiled: Vec<Box<dyn Exporter>> = Vec::new(alloc);
+    let status = run(
+        alloc,
+        words,
+        &mut folder,
+        &mut exporters,
+        &mut spoiled,
+        &mut out,
+    );
+    let written = ended(alloc, status, out.bytes())?;
+    if devices.formats.is_empty() {
+        return Ok(written);
+    }
+    let exports = found(alloc, devices, exporters.as_slice(), spoiled.as_slice())?;
+    format!(in alloc; "{written}{exports}")
+}
+
+/// A run, of which its callers see no clause: they only compare what it leaves.
+fn run<F: Folder, K: Sink>(
+    alloc: Global,
+    words: &[String],
+    folder: &mut F,
+    exporters: &mut Vec<Box<dyn Exporter>>,
+    spoiled: &mut Vec<Box<dyn Exporter>>,
+    out: &mut K,
+) -> Status {
+    cq_run::run(alloc, words, folder, exporters, spoiled, out)
+}
+
+/// The status of a run with what was written.
+fn ended(alloc: Global, status: Status, bytes: &[u8]) -> Result<String, AllocError> {
+    match std::str::from_utf8(bytes) {
         Ok(text) => format!(in alloc; "{}\n{text}", name_of(status)),
         Err(_) => format!(in alloc; "{}, and no text", name_of(status)),
     }
-}
-
-/// A run without exporters, of which its callers see no clause: they only compare what it leaves.
-fn run<F: Folder, K: Sink>(alloc: Global, words: &[String], folder: &mut F, out: &mut K) -> Status {
-    let mut exporters: Vec<Box<dyn Exporter>> = Vec::new(alloc);
-    let mut spoiled: Vec<Box<dyn Exporter>> = Vec::new(alloc);
-    cq_run::run(alloc, words, folder, &mut exporters, &mut spoiled, out)
 }
 
 /// The name of a status in a table.

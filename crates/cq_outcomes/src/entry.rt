@@ -19,18 +19,39 @@
 //! - `-- text`: the file `p.cql`, behind the head; else the head alone is;
 //! - `-- file data/E.csv`: a further file of the folder.
 //!
+//! The parts that say what devices a case has:
+//! - `-- room 10`: the sink takes so many bytes; else it takes 65,536;
+//! - `-- exporters csv, cql`: exporters of these formats, in this order; else there are none;
+//! - `-- failing reads 1, writes 0, csv 0 2`: the calls that fail, each device's by their numbers from 0: reads of the
+//!   folder, writes to the sink, and puts to the exporter of a format.
+//!
 //! The parts that say what is told, each of which is tried:
 //! - `-- ok`, `-- refused`, `-- usage`, `-- read`, `-- write`, `-- memory`: the status, and the lines that are written;
+//!   behind `-- ok and more`, the first ones of these;
 //! - `-- rows`: texts, each in a line (see `rows`);
 //! - `-- programs`: texts that are read as programs, each in a line (see `programs`);
-//! - `-- questions`: questions, each in a line (see `questions`).
+//! - `-- questions`: questions, each in a line (see `questions`);
+//! - `-- derived`: equations, each in a line with a rule by which it is derived (see `derived`);
+//! - `-- term 1:3 21 Syntax`: a text that stands alone as a term (see `terms`);
+//! - `-- beginnings`: each beginning of the program (see `beginnings`);
+//! - `-- faults`: calls that fail, each in a line with what follows (see `faults`).
+//!
+//! Where a case has exporters, its status is told with what they have when the run has ended:
+//! - `-- exported csv I/E.csv, cql I.cql`: the exporters that are left, each with the names of its files;
+//! - `-- spoiled csv`: those that were set aside, likewise. Without the part there are none; so it is with the other;
+//! - `-- contents`: what the files hold, of those that are left and then of the others, each behind a line `file
+//!   I/E.csv`. Without the part nothing is told of it.
 //!
 //! In the lines of heads, texts, files and statuses, and in each row, `~3~x~` stands for `xxx` (see `repeated`).
+use crate::devices::Devices;
 use crate::repeated::written_out;
 use std::alloc::{AllocError, Global};
 
 /// The words of a case that doesn't say its own.
 const USUAL: &str = "run p.cql";
+
+/// The room of the sink of a case that doesn't say its own.
+const ROOM: u64 = 65536;
 
 /// A line of `-- `, and the lines behind it, without the last end of line.
 #[derive(Clone, Copy)]
@@ -103,6 +124,16 @@ impl<'a> Entry<'a> {
     pub fn words(self) -> &'a str {
         let words = self.part("words").rest;
         if words.is_empty() { USUAL } else { words }
+    }
+
+    /// The devices that a run has.
+    pub fn devices(self) -> Devices<'a> {
+        Devices {
+            room: self.part("room").rest.parse::<u64>().unwrap_or(ROOM),
+            failing: self.part("failing").rest,
+            formats: self.part("exporters").rest,
+            contents: !self.part("contents").name.is_empty(),
+        }
     }
 }
 

@@ -1,14 +1,38 @@
 //! A table as a whole.
+use crate::beginnings::try_beginnings;
 use crate::case::try_case;
+use crate::derived::try_derived;
 use crate::entry::{Entry, Part};
+use crate::faults::try_faults;
 use crate::programs::try_programs;
 use crate::questions::try_questions;
 use crate::rows::try_rows;
 use crate::tally::Tally;
+use crate::terms::try_term;
 use std::alloc::{AllocError, Global};
 
 /// The end of a line that goes on, and what the next one begins with.
 const GOES_ON: &str = "\n        ";
+
+/// The parts that say what is tried, or what is told with another part.
+const SAID: [&str; 13] = [
+    "head",
+    "words",
+    "text",
+    "file",
+    "room",
+    "exporters",
+    "failing",
+    "exported",
+    "spoiled",
+    "contents",
+    "front",
+    "listed",
+    "leaf",
+];
+
+/// The parts that tell a status.
+const STATUSES: [&str; 6] = ["ok", "refused", "usage", "read", "write", "memory"];
 
 /// What is found of a table, entry by entry.
 pub fn tally_of(alloc: Global, table: &str) -> Result<Tally, AllocError> {
@@ -55,14 +79,20 @@ fn try_part(
     part: Part<'_>,
     tally: &mut Tally,
 ) -> Result<(), AllocError> {
+    if SAID.contains(&part.name) {
+        return Ok(());
+    }
+    if STATUSES.contains(&part.name) {
+        return try_case(alloc, entry, part, tally);
+    }
     match part.name {
-        "head" | "words" | "text" | "file" | "front" | "listed" | "leaf" => Ok(()),
-        "ok" | "refused" | "usage" | "read" | "write" | "memory" => {
-            try_case(alloc, entry, part, tally)
-        }
         "rows" => try_rows(alloc, entry, part, tally),
         "programs" => try_programs(alloc, part, tally),
         "questions" => try_questions(alloc, entry, part, tally),
+        "derived" => try_derived(alloc, entry, part, tally),
+        "term" => try_term(alloc, part, tally),
+        "beginnings" => try_beginnings(alloc, entry, tally),
+        "faults" => try_faults(alloc, entry, part, tally),
         _ => tally.refuse(alloc, entry.title(), "a part has no name that is known"),
     }
 }

@@ -3,15 +3,21 @@
 //! end as the table tells, and those that do not.
 #![tactic(auto)]
 
+mod beginnings;
 mod case;
+mod derived;
+mod devices;
 mod entry;
 mod examples;
+mod exports;
+mod faults;
 mod judge;
 mod programs;
 mod questions;
 mod repeated;
 mod rows;
 mod tally;
+mod terms;
 
 use crate::examples::show_examples;
 use crate::judge::tally_of;
@@ -22,7 +28,7 @@ use std::io;
 use std::process::ExitCode;
 
 /// The tables, by the names of their files.
-const TABLES: [&str; 17] = [
+const TABLES: [&str; 19] = [
     "syntax",
     "statuses",
     "models",
@@ -40,6 +46,8 @@ const TABLES: [&str; 17] = [
     "glued",
     "joined",
     "questions",
+    "devices",
+    "exports",
 ];
 
 /// A file of a table is shorter than this.

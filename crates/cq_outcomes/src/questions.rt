@@ -7,7 +7,7 @@
 //!     J; a; b => refused 1:1 37 NoInstance
 //!
 //! A part `-- leaf zero` in front of them says what `$` is a sum of, as it does for `rows`.
-use crate::case::{file, outcome};
+use crate::case::outcome_of_text;
 use crate::entry::{Entry, Part, cut};
 use crate::repeated::filled;
 use crate::tally::Tally;
@@ -51,12 +51,10 @@ fn told_by(alloc: Global, entry: Entry<'_>, answer: &str) -> Result<String, Allo
 }
 
 /// What is answered to a question.
-fn answer_to(alloc: Global, entry: Entry<'_>, question: &str) -> Result<String, AllocError> {
+pub fn answer_to(alloc: Global, entry: Entry<'_>, question: &str) -> Result<String, AllocError> {
     let question = filled(alloc, question, entry.part("leaf").rest)?;
     let words = asking(alloc, question.as_str())?;
-    let mut files = Vec::new(alloc);
-    files.push(file(alloc, "p.cql", entry.head)?)?;
-    outcome(alloc, words.as_slice(), files)
+    outcome_of_text(alloc, entry.devices(), words.as_slice(), entry.head)
 }
 
 /// The words that ask a question.

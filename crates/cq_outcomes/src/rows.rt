@@ -13,7 +13,7 @@
 //! - `-- front mapping F = literal :`: what each text begins with, and a blank behind it;
 //! - `-- listed`: what is written of each text that is accepted;
 //! - `-- leaf zero`: a term: `$` in a text stands for the sum of 256 of these (see `repeated`).
-use crate::case::{file, outcome, told_by, words_of};
+use crate::case::{outcome_of_text, told_by, words_of};
 use crate::entry::{Entry, Part, cut};
 use crate::repeated::filled;
 use crate::tally::Tally;
@@ -83,8 +83,6 @@ fn wanted(
 fn came(alloc: Global, entry: Entry<'_>, front: &str, text: &str) -> Result<String, AllocError> {
     let (before, behind) = cut(text, "^");
     let text = format!(in alloc; "{}{front}{before}{behind}", entry.head)?;
-    let mut files = Vec::new(alloc);
-    files.push(file(alloc, "p.cql", text.as_str())?)?;
     let words = words_of(alloc, entry.words())?;
-    outcome(alloc, words.as_slice(), files)
+    outcome_of_text(alloc, entry.devices(), words.as_slice(), text.as_str())
 }

@@ -1,16 +1,9 @@
-//! Files that are cut, and rows at their limit and past it.
+//! Rows at their limit and past it.
 use crate::tests::{RUN, folder, run, words};
 use cq_io::MemSink;
 use cq_run::Status;
 use std::alloc::{AllocError, Global};
 use std::test::Fail;
-
-const THREE_LINES: &str =
-    "typeside T = literal { types s n constants Al Bob Carl : s functions h : s -> s succ : n -> n }
-schema S = literal : T { entities Emp Dep foreign_keys worksIn : Emp -> Dep secretary : Dep -> Emp \
-path_equations secretary.worksIn = Dep }
-instance I = literal : S { generators c : Emp m d : Dep equations secretary(m) = c secretary(d) = c }
-";
 
 /// What a run writes for a text, with its status.
 pub(crate) fn outcome(
@@ -23,30 +16,6 @@ pub(crate) fn outcome(
     let words = words(alloc, RUN)?;
     let status = run(alloc, words.as_slice(), &mut folder, &mut out);
     Ok((status, out))
-}
-
-/// Whether a text that was cut is accepted where it ends with a declaration or with the line feed behind one, and else
-/// has no token or no declaration at some place.
-fn is_judged(alloc: Global, text: &str) -> Result<bool, AllocError> {
-    let (status, out) = outcome(alloc, text, 1000)?;
-    let ends_whole = text.is_empty() || text.ends_with(" }") || text.ends_with(" }\n");
-    Ok(if ends_whole {
-        status == Status::Ok
-    } else {
-        status == Status::Refused
-            && (out.bytes().ends_with(b" 11 BadByte\n") || out.bytes().ends_with(b" 21 Syntax\n"))
-    })
-}
-
-#[test]
-fn each_beginning_of_a_file(rt: HostRuntime) -> Result<(), Fail> {
-    let alloc = rt.alloc();
-    for length in 0..=THREE_LINES.len() {
-        if let Some(text) = THREE_LINES.get(..length) {
-            assert!(rt; is_judged(alloc, text)?, "{length}");
-        }
-    }
-    Ok(())
 }
 
 /// A file of one instance with this many generators.

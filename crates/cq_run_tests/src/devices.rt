@@ -1,6 +1,6 @@
 //! The devices of a run, in memory.
 use crate::tests::{file, run_with, words};
-use cq_io::{Exporter, Format, MemExporter, MemFolder, MemSink};
+use cq_io::{Exporter, MemFolder, MemSink};
 use cq_run::Status;
 use std::alloc::Global;
 use std::process::Abort;
@@ -41,39 +41,6 @@ fn one_file(rt: &impl Abort, alloc: Global, text: &str) -> MemFolder {
 pub(crate) fn sink(rt: &impl Abort, alloc: Global, failing: &[u64], room: u64) -> MemSink {
     let failing = Vec::from_slice(alloc, failing).expect(rt, "memory");
     MemSink::new(alloc, failing, room).expect(rt, "memory")
-}
-
-/// An exporter of a format, whose puts with these numbers fail.
-fn exporter(rt: &impl Abort, alloc: Global, format: Format, failing: &[u64]) -> Box<dyn Exporter> {
-    let failing = Vec::from_slice(alloc, failing).expect(rt, "memory");
-    let made = MemExporter::new(alloc, format, failing).expect(rt, "memory");
-    Box::new(alloc, made).expect(rt, "memory")
-}
-
-/// An exporter of CSV.
-pub(crate) fn only_csv(rt: &impl Abort, alloc: Global) -> Vec<Box<dyn Exporter>> {
-    let mut exporters = Vec::new(alloc);
-    exporters
-        .push(exporter(rt, alloc, Format::Csv, &[]))
-        .expect(rt, "memory");
-    exporters
-}
-
-/// An exporter of each format, whose puts with these numbers fail.
-pub(crate) fn both(
-    rt: &impl Abort,
-    alloc: Global,
-    csv: &[u64],
-    cql: &[u64],
-) -> Vec<Box<dyn Exporter>> {
-    let mut exporters = Vec::new(alloc);
-    exporters
-        .push(exporter(rt, alloc, Format::Csv, csv))
-        .expect(rt, "memory");
-    exporters
-        .push(exporter(rt, alloc, Format::Cql, cql))
-        .expect(rt, "memory");
-    exporters
 }
 
 /// Devices with a folder of one file, these exporters and a sink of this room.

@@ -10,8 +10,6 @@ mod devices;
 #[cfg(test)]
 mod exporting;
 #[cfg(test)]
-mod faults;
-#[cfg(test)]
 mod imports;
 #[cfg(test)]
 mod joined;
@@ -19,9 +17,5 @@ mod joined;
 mod limits;
 #[cfg(test)]
 mod moves;
-#[cfg(test)]
-mod questions;
-#[cfg(test)]
-mod terms;
 #[cfg(test)]
 mod tests;

@@ -2,7 +2,6 @@
 use cq_io::{Exporter, Folder, MemFolder, MemSink, Sink};
 use cq_run::Status;
 use std::alloc::{AllocError, Global};
-use std::test::Fail;
 
 pub(crate) fn words(alloc: Global, texts: &[&str]) -> Result<Vec<String>, AllocError> {
     let mut words = Vec::new(alloc);
@@ -20,21 +19,6 @@ pub(crate) fn file(
 ) -> Result<(String, Vec<u8>), AllocError> {
     let bytes = Vec::from_slice(alloc, content)?;
     Ok((String::from_str(alloc, name)?, bytes))
-}
-
-/// A folder with those of these files that aren't empty, whose reads with these numbers fail.
-pub(crate) fn folder_of(
-    alloc: Global,
-    texts: &[(&str, &str)],
-    failing: &[u64],
-) -> Result<MemFolder, AllocError> {
-    let mut files = Vec::new(alloc);
-    for (name, text) in texts {
-        if !text.is_empty() {
-            files.push(file(alloc, name, text.as_bytes())?)?;
-        }
-    }
-    MemFolder::new(alloc, files, Vec::from_slice(alloc, failing)?)
 }
 
 /// A folder with one file, whose reads with these numbers fail.
@@ -84,24 +68,3 @@ pub(crate) fn ends(
 }
 
 pub(crate) const RUN: &[&str] = &["run", "p.cql"];
-
-const FIRST: &str = "typeside T = literal { types s constants Al Bob : s }
-schema S = literal : T { entities E attributes x : E -> s }
-instance I = literal : S { generators a b : E }
-";
-
-#[test]
-fn devices_that_fail(rt: HostRuntime) -> Result<(), Fail> {
-    let alloc = rt.alloc();
-    for (failing, room, status, written) in [
-        ([0].as_slice(), 100, Status::Read, "read p.cql failed\n"),
-        ([].as_slice(), 10, Status::Write, "instance I"),
-    ] {
-        let mut folder = folder(alloc, FIRST, failing)?;
-        assert!(rt;
-            ends(alloc, RUN, &mut folder, room, status, written)?,
-            "{written}"
-        );
-    }
-    Ok(())
-}
