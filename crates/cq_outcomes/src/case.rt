@@ -120,6 +120,23 @@ pub fn outcome(
 ) -> Result<String, AllocError> {
     let mut folder = MemFolder::new(alloc, files, devices.failing(alloc, "reads")?)?;
     let mut out = MemSink::new(alloc, devices.failing(alloc, "writes")?, devices.room)?;
+    let (status, exports) = run(alloc, devices, words, &mut folder, &mut out)?;
+    let written = ended(alloc, status, out.bytes())?;
+    if devices.formats.is_empty() {
+        return Ok(written);
+    }
+    format!(in alloc; "{written}{exports}")
+}
+
+/// A run with the exporters of these devices: its status, and what the exporters have in the end. Its callers see no
+/// clause: they only compare what it leaves.
+fn run<F: Folder, K: Sink>(
+    alloc: Global,
+    devices: Devices<'_>,
+    words: &[String],
+    folder: &mut F,
+    out: &mut K,
+) -> Result<(Status, String), AllocError> {
     let mut exporters: Vec<Box<dyn Exporter>> = Vec::new(alloc);
     for name in devices.formats.split(", ") {
         if let Some(exporter) = devices.exporter(alloc, name)? {
@@ -127,32 +144,9 @@ pub fn outcome(
         }
     }
     let mut spoiled: Vec<Box<dyn Exporter>> = Vec::new(alloc);
-    let status = run(
-        alloc,
-        words,
-        &mut folder,
-        &mut exporters,
-        &mut spoiled,
-        &mut out,
-    );
-    let written = ended(alloc, status, out.bytes())?;
-    if devices.formats.is_empty() {
-        return Ok(written);
-    }
+    let status = cq_run::run(alloc, words, folder, &mut exporters, &mut spoiled, out);
     let exports = found(alloc, devices, exporters.as_slice(), spoiled.as_slice())?;
-    format!(in alloc; "{written}{exports}")
-}
-
-/// A run, of which its callers see no clause: they only compare what it leaves.
-fn run<F: Folder, K: Sink>(
-    alloc: Global,
-    words: &[String],
-    folder: &mut F,
-    exporters: &mut Vec<Box<dyn Exporter>>,
-    spoiled: &mut Vec<Box<dyn Exporter>>,
-    out: &mut K,
-) -> Status {
-    cq_run::run(alloc, words, folder, exporters, spoiled, out)
+    Ok((status, exports))
 }
 
 /// The status of a run with what was written.
