@@ -21,7 +21,7 @@ use Rattle.cq_theory.specs.Resolve.{or_else}
 use Rattle.cq_theory.specs.Declaring.{first_part_fault}
 use Rattle.cq_theory.specs.SchemaParts.{attribute_fault, attribute_ends_fault, entities_fault, keys_fault, path_eqs_fault, attributes_fault, schema_fault, schema_made}
 use Rattle.cq_theory.proofs.DeclaredParts.{or_else_none, new_name}
-use Rattle.cq_colimit.specs.declared.parts.ColimitParts.{ColimitParts}
+use Rattle.cq_theory.specs.declared.parts.ColimitParts.{ColimitParts}
 use Rattle.cq_colimit.specs.PlacedData.{PlacedData as Placed}
 use Rattle.cq_colimit.specs.Appended.{ArePathEqs, AreObsEqs, with_first}
 use Rattle.cq_colimit.specs.Joined.{entities_of, keys_of, attributes_of, keyed, framed, inclusion, path_eq_images, obs_eq_images, with_images}

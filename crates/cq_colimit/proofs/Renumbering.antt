@@ -13,7 +13,7 @@ use Rattle.cq_theory.specs.SchemaParts.{entities_fault, keys_fault, path_eqs_fau
 use Rattle.cq_theory.proofs.DeclaredParts.{or_else_none}
 use Rattle.cq_colimit.specs.declared.refusal.ColimitRefusal.{ColimitRefusal}
 use Rattle.cq_colimit.specs.declared.refusal.ColimitRefusal.TheVariants.{Memory}
-use Rattle.cq_colimit.specs.declared.parts.ColimitParts.{ColimitParts}
+use Rattle.cq_theory.specs.declared.parts.ColimitParts.{ColimitParts}
 use Rattle.cq_colimit.specs.PlacedData.{PlacedData as Placed}
 use Rattle.cq_colimit.specs.Faults.{of_colimit, added_fault}
 use Rattle.cq_colimit.specs.Joined.{entities_of, keys_of, attributes_of, keyed}

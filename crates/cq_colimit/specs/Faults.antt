@@ -13,7 +13,7 @@ use Rattle.cq_theory.specs.SchemaParts.{path_eqs_fault, observations_fault, exte
 use Rattle.cq_colimit.specs.declared.refusal.ColimitRefusal.{ColimitRefusal}
 use Rattle.cq_colimit.specs.declared.refusal.ColimitRefusal.TheVariants.{Duplicate, Unknown, WrongCount, WrongSort, Reserved, TooLarge}
 use Rattle.cq_colimit.specs.declared.refusal.ColimitRefusal.TheVariants.{NameClash, LongName, TooMany, Memory}
-use Rattle.cq_colimit.specs.declared.parts.ColimitParts.{ColimitParts}
+use Rattle.cq_theory.specs.declared.parts.ColimitParts.{ColimitParts}
 use Rattle.cq_colimit.specs.PlacedData.{PlacedData as Placed}
 use Rattle.cq_colimit.specs.Placing.{Part, placed}
 use Rattle.cq_colimit.specs.Ends.{pairs_fault}

@@ -14,7 +14,7 @@ use Rattle.cq_mapping.specs.Mapping.{IsMapping}
 use Rattle.cq_colimit.specs.PlacedData.{PlacedData as Placed}
 use Rattle.cq_colimit.specs.Placing.{Part, placed, entities_in}
 use Rattle.cq_colimit.specs.declared.refusal.ColimitRefusal.{ColimitRefusal}
-use Rattle.cq_colimit.specs.declared.parts.ColimitParts.{ColimitParts}
+use Rattle.cq_theory.specs.declared.parts.ColimitParts.{ColimitParts}
 use Rattle.cq_colimit.specs.Classes.{first_of, class_of}
 use Rattle.cq_colimit.specs.Clashes.{given_entities, given_arrows}
 use Rattle.cq_colimit.specs.Faults.{of_colimit, sizes_of, given_fault, added_fault}

@@ -11,7 +11,7 @@ use Rattle.cq_theory.specs.SchemaParts.{started, completed}
 use Rattle.cq_mapping.specs.MappingData.{MappingData as Mapping}
 use Rattle.cq_mapping.specs.Mapping.{attribute_itself}
 use Rattle.cq_mapping.specs.Images.{entity_image, path_image, type_image}
-use Rattle.cq_colimit.specs.declared.parts.ColimitParts.{ColimitParts}
+use Rattle.cq_theory.specs.declared.parts.ColimitParts.{ColimitParts}
 use Rattle.cq_colimit.specs.PlacedData.{PlacedData as Placed}
 use Rattle.cq_colimit.specs.Placing.{Part, placed}
 use Rattle.cq_colimit.specs.Ends.{links_of}

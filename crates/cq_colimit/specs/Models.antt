@@ -5,7 +5,7 @@ use Rattle.cq_theory.specs.Tables.{Tables, IsWellFormed, Satisfies}
 use Rattle.cq_mapping.specs.MappingData.{MappingData as Mapping}
 use Rattle.cq_mapping.specs.Mapping.{IsMapping}
 use Rattle.cq_mapping.specs.Moved.{delta_tables}
-use Rattle.cq_colimit.specs.declared.parts.ColimitParts.{ColimitParts}
+use Rattle.cq_theory.specs.declared.parts.ColimitParts.{ColimitParts}
 use Rattle.cq_colimit.specs.Placing.{Part, placed}
 use Rattle.cq_colimit.specs.Joined.{links_in, framed, joined, inclusions}
 

@@ -11,11 +11,10 @@ use crate::classes::Classes;
 use crate::ends::find_links;
 use crate::joined::Colimit;
 use crate::joining::join;
-use crate::parts::ColimitParts;
 use crate::placed::{Placed, is_too_many, part_table, place};
 use crate::refusal::{ColimitRefusal, of_colimit};
 use cq_base::{Name, Names};
-use cq_theory::{Schema, Typeside};
+use cq_theory::{ColimitParts, Schema, Typeside};
 use std::alloc::Global;
 use std::rc::Rc;
 

@@ -9,13 +9,12 @@ ghost use Rattle.cq_colimit.specs.Faults.{added_fault, of_colimit};
 ghost use Rattle.cq_colimit.specs.Frame.{AreSymbols, HasSymbols, IsFrame, bare as bare_by};
 
 use crate::added::of_added;
-use crate::parts::ColimitParts;
 use crate::placed::Placed;
 use crate::refusal::ColimitRefusal;
 use crate::text::Text;
 use crate::written::{attribute_parts, key_parts};
 use cq_base::{Name, Seq};
-use cq_theory::{ObsPart, Schema, SchemaParts, Typeside};
+use cq_theory::{ColimitParts, ObsPart, Schema, SchemaParts, Typeside};
 use std::alloc::{AllocError, Global};
 use std::rc::Rc;
 

@@ -17,11 +17,10 @@ use crate::given::{given_arrows, given_entities};
 use crate::images::images;
 use crate::inclusions::include_all;
 use crate::joined::Colimit;
-use crate::parts::ColimitParts;
 use crate::placed::Placed;
 use crate::refusal::ColimitRefusal;
 use cq_base::{Name, Seq};
-use cq_theory::{Schema, Typeside};
+use cq_theory::{ColimitParts, Schema, Typeside};
 use std::alloc::{AllocError, Global};
 use std::rc::Rc;
 

@@ -21,7 +21,6 @@ pub(crate) mod inclusions;
 pub mod joined;
 pub(crate) mod joining;
 pub mod laws;
-pub mod parts;
 pub(crate) mod placed;
 pub mod refusal;
 pub(crate) mod text;
@@ -30,5 +29,5 @@ pub(crate) mod written;
 
 pub use colimits::colimit;
 pub use joined::Colimit;
-pub use parts::ColimitParts;
+pub use cq_theory::ColimitParts;
 pub use refusal::ColimitRefusal;

@@ -35,7 +35,7 @@ use Rattle.cq_theory.specs.declared.parts.ArrowImage.{ArrowImage}
 use Rattle.cq_theory.specs.declared.parts.ArrowImage.TheVariants as image
 use Rattle.cq_theory.specs.declared.parts.ArrowPart.{ArrowPart}
 use Rattle.cq_theory.specs.declared.parts.MappingParts.{MappingParts}
-use Rattle.cq_colimit.specs.declared.parts.ColimitParts.{ColimitParts}
+use Rattle.cq_theory.specs.declared.parts.ColimitParts.{ColimitParts}
 use Rattle.cq_blocks.specs.declared.parts.Clause.{Clause}
 use Rattle.cq_blocks.specs.declared.parts.Clause.TheVariants as clause
 use Rattle.cq_blocks.specs.declared.parts.QueryParts.{QueryParts}

@@ -8,13 +8,13 @@ ghost use Rattle.cq_parts.specs.Parts.{colimit_parts, transform_parts};
 
 use crate::raw::copy_raw;
 use cq_base::{Name, Raw, Seq};
-use cq_colimit::ColimitParts;
 use cq_syntax::{
     AttImage, AttSyn, Bind, ColimitLit, EdgeSyn, EqSyn, FunSyn, GroupSyn, InstanceLit, KeyImage,
     MapBlock, MappingLit, ObsSyn, PairSyn, PathEqSyn, SchemaLit, Spot, TransformLit, TypesideLit,
 };
 use cq_theory::{
-    ArrowImage, ArrowPart, MappingParts, ObsPart, PresentationParts, SchemaParts, TypesideParts,
+    ArrowImage, ArrowPart, ColimitParts, MappingParts, ObsPart, PresentationParts, SchemaParts,
+    TypesideParts,
 };
 use std::alloc::{AllocError, Global};
 

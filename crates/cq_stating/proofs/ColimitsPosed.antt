@@ -12,7 +12,7 @@ use Rattle.cq_theory.specs.SchemaData.{SchemaData}
 use Rattle.cq_theory.specs.TypesideData.{TypesideData}
 use Rattle.cq_mapping.specs.MappingData.{MappingData}
 use Rattle.cq_mapping.specs.Duties.{Preserves}
-use Rattle.cq_colimit.specs.declared.parts.ColimitParts.{ColimitParts}
+use Rattle.cq_theory.specs.declared.parts.ColimitParts.{ColimitParts}
 use Rattle.cq_colimit.specs.declared.placed.Start.{Start}
 use Rattle.cq_colimit.specs.declared.refusal.ColimitRefusal.{ColimitRefusal}
 use Rattle.cq_colimit.specs.declared.refusal.ColimitRefusal.TheVariants as joining

@@ -39,7 +39,8 @@ pub use constant::{Con, is_reserved};
 pub use groups::{Groups, empty_groups, sealed};
 pub use lookup::{ArrowRefusal, SizeRefusal, Symbol, TermRefusal, TheoryRefusal, resolve};
 pub use parts::{
-    ArrowImage, ArrowPart, MappingParts, ObsPart, PresentationParts, SchemaParts, TypesideParts,
+    ArrowImage, ArrowPart, ColimitParts, MappingParts, ObsPart, PresentationParts, SchemaParts,
+    TypesideParts,
 };
 pub use presentation::{Equation, Presentation, Sort};
 pub use route::{Route, resolve_path};

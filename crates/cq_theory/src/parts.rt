@@ -1,4 +1,5 @@
-//! Parts: what the constructors of typesides, schemas and presentations take, with names that are not yet looked up.
+//! Parts: what the constructors of typesides, schemas and presentations, mappings and colimits take, with names that are
+//! not yet looked up.
 //! The parts of a call are numbered list after list, from 0.
 use cq_base::{Name, Raw, Seq};
 
@@ -62,4 +63,13 @@ pub enum ArrowImage {
     Key(Seq<Name>),
     Path(Seq<Name>),
     Lambda(Name, Option<Name>, Raw),
+}
+
+/// What a colimit takes besides its schemas: pairs of entities that are one, each entity with the name of its schema and
+/// its own name, and the added equations. The named schemas are parts before these.
+#[derive(Drop)]
+pub struct ColimitParts {
+    pub pairs: Seq<((Name, Name), (Name, Name))>,
+    pub path_eqs: Seq<(Seq<Name>, Seq<Name>)>,
+    pub obs_eqs: Seq<ObsPart>,
 }
