@@ -28,6 +28,6 @@ pub(crate) mod texts;
 pub(crate) mod written;
 
 pub use colimits::colimit;
-pub use joined::Colimit;
 pub use cq_theory::ColimitParts;
+pub use joined::Colimit;
 pub use refusal::ColimitRefusal;

@@ -1,1 +1,4 @@
 pub mod Return
+pub mod WrittenTerms
+pub mod Literals
+pub mod Writable

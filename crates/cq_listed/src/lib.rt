@@ -1,4 +1,0 @@
-//! Tables that are built anew.
-#![tactic(auto)]
-
-pub mod laws;

@@ -1,4 +1,0 @@
-//! Literals are read back.
-#![tactic(auto)]
-
-pub mod laws;
