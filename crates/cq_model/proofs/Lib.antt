@@ -28,7 +28,6 @@ pub mod BuiltReading
 pub mod AddedLeaves
 pub mod AddedSides
 pub mod NumberedEquations
-pub mod NamedRows
 pub mod NamedLeaves
 pub mod AllNodes
 pub mod ModelMade

@@ -20,7 +20,8 @@ use Rattle.cq_theory.specs.Canonical.{below}
 use Rattle.cq_theory.specs.Sorts.{Generators}
 use Rattle.cq_names.specs.declared.numbers.NumberedRows.{NumberedRows}
 use Rattle.cq_model.specs.declared.places.Places.{Places}
-use Rattle.cq_model.specs.BuiltParts.{AreNamedRows, AreLeaves}
+use Rattle.cq_model.specs.BuiltParts.{AreLeaves}
+use Rattle.cq_names.specs.NamedRows.{AreNamedRows}
 use Rattle.cq_names.specs.Closed.{AreClosed}
 use Rattle.cq_model.specs.Equating.{IsPresented}
 use Rattle.cq_model.specs.LeafPlaces.{sources, targets, AreFirsts, AddsLeaves, AddsGenerators, plain_type, places_from}

@@ -14,9 +14,7 @@ use Rattle.cq_instance.specs.InstanceData.{InstanceData}
 use Rattle.cq_model.specs.NodeListData.{NodeListData}
 use Rattle.cq_model.specs.NodeTerms.{leaf_terms, ArePlaces}
 use Rattle.cq_model.specs.Pushing.{HavePlaces, AreEquationsOf}
-use Rattle.cq_names.specs.RowNumbers.{AreNumberedAs}
 use Rattle.cq_instance.specs.Standing.{meaning}
-use Rattle.cq_names.specs.Walking.{IsWalkOf}
 use Rattle.cq_theory.specs.declared.presentation.Presentation.{Presentation}
 use Rattle.cq_theory.specs.SchemaData.{SchemaData as Schema}
 use Rattle.cq_theory.specs.declared.term.EntTerm.{EntTerm}
@@ -25,12 +23,6 @@ use Rattle.cq_theory.specs.Tables.{Tables, Assignment}
 
 module _ (S : Schema) (P : Presentation) where
   module _ (m : Content) (entries : List ℕ) where
-    -- the rows that a walk names, numbered by entity
-    pub record AreNamedRows (numbered : NumberedRows) : Type 0 where
-      pub names : List EntTerm
-      pub walk : IsWalkOf S P m entries numbered.rows names
-      pub numbers : AreNumberedAs m (length S.entities) numbered.rows names numbered
-
     -- the leaves alone, with no equation, and where they stand
     pub record AreLeaves (names : List (List EntTerm)) (places : Places) (list : NodeListData) : Type 0 where
       pub have : HavePlaces S m places (length list.nodes)

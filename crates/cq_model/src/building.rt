@@ -7,9 +7,10 @@ ghost use Rattle.cq_theory.specs.declared.constant.Con.{Con};
 ghost use Rattle.cq_theory.specs.Closing.{IsInconsistent, IsInconsistentAt};
 ghost use Rattle.cq_theory.specs.Presentation.{IsPresentation};
 ghost use Rattle.cq_model.specs.Built.{IsBuilt, IsClosureOf};
-ghost use Rattle.cq_model.specs.BuiltParts.{AreNamedRows, AreLeaves, instance_of, tables_read, assignment_read};
+ghost use Rattle.cq_model.specs.BuiltParts.{AreLeaves, instance_of, tables_read, assignment_read};
 ghost use Rattle.cq_model.specs.BuiltParts.{IsRefusal};
 ghost use Rattle.cq_names.specs.Closed.{AreClosed};
+ghost use Rattle.cq_names.specs.NamedRows.{AreNamedRows};
 ghost use Rattle.cq_instance.specs.InstanceData.{IsInstance};
 ghost use Rattle.cq_instance.specs.Listed.{IsListed};
 ghost use Rattle.cq_instance.specs.Standing.{meaning};
@@ -24,7 +25,7 @@ use crate::reading::{read_algebra, read_sheet, read_standings};
 use cq_base::Seq;
 use cq_flat::Flat;
 use cq_instance::{EntryTable, Instance, Standing, grouped, sources, targets};
-use cq_names::{NumberedRows, least_names, number_rows};
+use cq_names::{NumberedRows, name_rows};
 use cq_rows::{RowsRefusal, saturate};
 use cq_tables::Tables;
 use cq_theory::{Con, Presentation, Schema, Sheet};
@@ -52,22 +53,6 @@ impl From<AllocError> for BuildRefusal {
     fn from(_error: AllocError) -> BuildRefusal {
         BuildRefusal::Memory
     }
-}
-
-/// The rows of closed tables in the order of their least names, numbered by entity.
-fn name_rows(
-    alloc: Global,
-    schema: &Schema,
-    presentation: &Presentation,
-    tables: &Tables,
-    entries: &[u64],
-) -> Result<NumberedRows, AllocError>
-    requires presentation { IsPresentation schema.now presentation.now }
-    requires closed { AreClosed schema.now presentation.now tables.now entries.now }
-    ensures { IfOk result (λ numbered. AreNamedRows schema.now presentation.now tables.now entries.now numbered) }
-{
-    let (rows, names) = least_names(alloc, schema, presentation, tables, entries)?;
-    number_rows(alloc, schema.entities.len(), tables, rows, names)
 }
 
 /// The cells and the generators of types as nodes, and their places.

@@ -5,3 +5,4 @@ pub mod NumberedNames
 pub mod RowMembers
 pub mod Spreads
 pub mod GroupedNames
+pub mod NamedRows

@@ -3,3 +3,4 @@ pub mod LeastNames
 pub mod Walking
 pub mod RowNumbers
 pub mod Ranks
+pub mod NamedRows

@@ -115,7 +115,7 @@ fn names_in_groups(
 
 /// Numbers rows among those of their entity, in the order in which they stand. There is want of memory also where
 /// there are 2^32 rows or more.
-pub fn number_rows(
+pub(crate) fn number_rows(
     alloc: Global,
     entities: usize,
     tables: &Tables,

@@ -155,7 +155,7 @@ fn expand(
 /// All rows of closed tables in the order of their least names, and these names. The first term that reaches a row,
 /// in a walk that takes shorter terms first, and among those of one length goes by the generators and then by the
 /// keys in order, is the least name of the row.
-pub fn least_names(
+pub(crate) fn least_names(
     alloc: Global,
     schema: &Schema,
     presentation: &Presentation,

@@ -9,7 +9,7 @@ use Rattle.cq_model.specs.BuiltParts.{AreLeaves}
 use Rattle.cq_model.specs.Equating.{AddsObservations}
 use Rattle.cq_names.specs.LeastNames.{rows_at, AreNumbered}
 use Rattle.cq_model.proofs.AllNodes.{built_nodes}
-use Rattle.cq_model.proofs.NamedRows.{numbered_rows}
+use Rattle.cq_names.proofs.NamedRows.{numbered_rows}
 use Rattle.cq_model.proofs.PushedTerms.{HavePlaces-wider}
 use Rattle.cq_model.proofs.building.make_nodes.Goals as goal
 

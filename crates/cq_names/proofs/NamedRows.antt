@@ -6,7 +6,7 @@ use Rattle.cq_theory.specs.declared.presentation.Presentation.{Presentation}
 use Rattle.cq_theory.specs.SchemaData.{SchemaData as Schema}
 use Rattle.cq_theory.specs.declared.term.EntTerm.{EntTerm}
 use Rattle.cq_names.specs.declared.numbers.NumberedRows.{NumberedRows}
-use Rattle.cq_model.specs.BuiltParts.{AreNamedRows}
+use Rattle.cq_names.specs.NamedRows.{AreNamedRows}
 use Rattle.cq_names.specs.Closed.{AreClosed}
 use Rattle.cq_names.specs.LeastNames.{AreNumbered}
 use Rattle.cq_names.specs.RowNumbers.{AreNumberedAs}
