@@ -6,7 +6,7 @@
 //!     -- derived
 //!     path 1 a: a.f.f = a.f
 //!     : v(b) = s(k)
-use crate::entry::{Entry, Part, cut};
+use crate::entry::{Entry, cut};
 use crate::questions::answer_to;
 use crate::tally::Tally;
 use std::alloc::{AllocError, Global};
@@ -14,21 +14,8 @@ use std::alloc::{AllocError, Global};
 /// What is told of each.
 const DERIVED: &str = "a list of steps";
 
-/// Tries each equation of a part.
-pub fn try_derived(
-    alloc: Global,
-    entry: Entry<'_>,
-    part: Part<'_>,
-    tally: &mut Tally,
-) -> Result<(), AllocError> {
-    for row in part.lines.lines() {
-        try_equation(alloc, entry, row, tally)?;
-    }
-    Ok(())
-}
-
 /// Tries an equation.
-fn try_equation(
+pub fn try_equation(
     alloc: Global,
     entry: Entry<'_>,
     row: &str,

@@ -8,26 +8,13 @@
 //!     csv 0, cql 0 => write; ; csv, cql
 use crate::case::{files_of, outcome, told_by, words_of};
 use crate::devices::Devices;
-use crate::entry::{Entry, Part, cut};
+use crate::entry::{Entry, cut};
 use crate::exports::told;
 use crate::tally::Tally;
 use std::alloc::{AllocError, Global};
 
-/// Tries each row of a part.
-pub fn try_faults(
-    alloc: Global,
-    entry: Entry<'_>,
-    part: Part<'_>,
-    tally: &mut Tally,
-) -> Result<(), AllocError> {
-    for row in part.lines.lines() {
-        try_fault(alloc, entry, row, tally)?;
-    }
-    Ok(())
-}
-
 /// Tries a row.
-fn try_fault(
+pub fn try_fault(
     alloc: Global,
     entry: Entry<'_>,
     row: &str,

@@ -1,12 +1,12 @@
 //! A table as a whole.
 use crate::beginnings::try_beginnings;
 use crate::case::try_case;
-use crate::derived::try_derived;
+use crate::derived::try_equation;
 use crate::entry::{Entry, Part};
-use crate::faults::try_faults;
-use crate::programs::try_programs;
-use crate::questions::try_questions;
-use crate::rows::try_rows;
+use crate::faults::try_fault;
+use crate::programs::try_program;
+use crate::questions::try_question;
+use crate::rows::try_row;
 use crate::tally::Tally;
 use crate::terms::try_term;
 use std::alloc::{AllocError, Global};
@@ -85,14 +85,65 @@ fn try_part(
     if STATUSES.contains(&part.name) {
         return try_case(alloc, entry, part, tally);
     }
+    if let Some(line) = line_of(part.name) {
+        return try_lines(alloc, entry, line, part.lines, tally);
+    }
     match part.name {
-        "rows" => try_rows(alloc, entry, part, tally),
-        "programs" => try_programs(alloc, part, tally),
-        "questions" => try_questions(alloc, entry, part, tally),
-        "derived" => try_derived(alloc, entry, part, tally),
         "term" => try_term(alloc, part, tally),
         "beginnings" => try_beginnings(alloc, entry, tally),
-        "faults" => try_faults(alloc, entry, part, tally),
         _ => tally.refuse(alloc, entry.title(), "a part has no name that is known"),
+    }
+}
+
+/// What each line of a part is.
+#[derive(Clone, Copy)]
+enum Line {
+    Row,
+    Program,
+    Question,
+    Equation,
+    Fault,
+}
+
+/// What each line of a part with this name is, where its lines are tried one by one.
+fn line_of(name: &str) -> Option<Line> {
+    match name {
+        "rows" => Some(Line::Row),
+        "programs" => Some(Line::Program),
+        "questions" => Some(Line::Question),
+        "derived" => Some(Line::Equation),
+        "faults" => Some(Line::Fault),
+        _ => None,
+    }
+}
+
+/// Tries lines, each of which is this.
+fn try_lines(
+    alloc: Global,
+    entry: Entry<'_>,
+    line: Line,
+    lines: &str,
+    tally: &mut Tally,
+) -> Result<(), AllocError> {
+    for text in lines.lines() {
+        try_line(alloc, entry, line, text, tally)?;
+    }
+    Ok(())
+}
+
+/// Tries a line.
+fn try_line(
+    alloc: Global,
+    entry: Entry<'_>,
+    line: Line,
+    text: &str,
+    tally: &mut Tally,
+) -> Result<(), AllocError> {
+    match line {
+        Line::Row => try_row(alloc, entry, text, tally),
+        Line::Program => try_program(alloc, text, tally),
+        Line::Question => try_question(alloc, entry, text, tally),
+        Line::Equation => try_equation(alloc, entry, text, tally),
+        Line::Fault => try_fault(alloc, entry, text, tally),
     }
 }

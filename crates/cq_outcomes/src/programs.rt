@@ -2,7 +2,6 @@
 //!
 //!     -- programs
 //!     options prover = auto timeout = "5"
-use crate::entry::Part;
 use crate::repeated::written_out;
 use crate::tally::Tally;
 use cq_lex::lex;
@@ -12,16 +11,8 @@ use std::alloc::{AllocError, Global};
 /// What is told of each.
 const PROGRAM: &str = "a program";
 
-/// Tries each text of a part.
-pub fn try_programs(alloc: Global, part: Part<'_>, tally: &mut Tally) -> Result<(), AllocError> {
-    for row in part.lines.lines() {
-        try_program(alloc, row, tally)?;
-    }
-    Ok(())
-}
-
 /// Tries a text.
-fn try_program(alloc: Global, row: &str, tally: &mut Tally) -> Result<(), AllocError> {
+pub fn try_program(alloc: Global, row: &str, tally: &mut Tally) -> Result<(), AllocError> {
     let text = written_out(alloc, row)?;
     let came = if is_program(alloc, text.as_str()) {
         PROGRAM

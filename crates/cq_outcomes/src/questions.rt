@@ -8,26 +8,13 @@
 //!
 //! A part `-- leaf zero` in front of them says what `$` is a sum of, as it does for `rows`.
 use crate::case::outcome_of_text;
-use crate::entry::{Entry, Part, cut};
+use crate::entry::{Entry, cut};
 use crate::repeated::filled;
 use crate::tally::Tally;
 use std::alloc::{AllocError, Global};
 
-/// Tries each question of a part.
-pub fn try_questions(
-    alloc: Global,
-    entry: Entry<'_>,
-    part: Part<'_>,
-    tally: &mut Tally,
-) -> Result<(), AllocError> {
-    for row in part.lines.lines() {
-        try_question(alloc, entry, row, tally)?;
-    }
-    Ok(())
-}
-
 /// Tries a question.
-fn try_question(
+pub fn try_question(
     alloc: Global,
     entry: Entry<'_>,
     row: &str,

@@ -14,26 +14,13 @@
 //! - `-- listed`: what is written of each text that is accepted;
 //! - `-- leaf zero`: a term: `$` in a text stands for the sum of 256 of these (see `repeated`).
 use crate::case::{outcome_of_text, told_by, words_of};
-use crate::entry::{Entry, Part, cut};
+use crate::entry::{Entry, cut};
 use crate::repeated::filled;
 use crate::tally::Tally;
 use std::alloc::{AllocError, Global};
 
-/// Tries each row of a part.
-pub fn try_rows(
-    alloc: Global,
-    entry: Entry<'_>,
-    part: Part<'_>,
-    tally: &mut Tally,
-) -> Result<(), AllocError> {
-    for row in part.lines.lines() {
-        try_row(alloc, entry, row, tally)?;
-    }
-    Ok(())
-}
-
 /// Tries a row.
-fn try_row(
+pub fn try_row(
     alloc: Global,
     entry: Entry<'_>,
     row: &str,
