@@ -1,6 +1,5 @@
-//! Parts: what the constructors of typesides, schemas and presentations, mappings and colimits take, with names that are
-//! not yet looked up.
-//! The parts of a call are numbered list after list, from 0.
+//! Parts: what the constructors of typesides, schemas, presentations, mappings and colimits take, with names that are
+//! not yet looked up. The parts of a call are numbered list after list, from 0.
 use cq_base::{Name, Raw, Seq};
 
 /// The parts of a typeside: types, the name of the open type where there is one, constants with their types, and
@@ -65,8 +64,8 @@ pub enum ArrowImage {
     Lambda(Name, Option<Name>, Raw),
 }
 
-/// What a colimit takes besides its schemas: pairs of entities that are one, each entity with the name of its schema and
-/// its own name, and the added equations. The named schemas are parts before these.
+/// What a colimit takes besides its schemas: pairs of entities that are one, each entity with the name of its schema
+/// and its own name, and the added equations. The named schemas are parts before these.
 #[derive(Drop)]
 pub struct ColimitParts {
     pub pairs: Seq<((Name, Name), (Name, Name))>,
