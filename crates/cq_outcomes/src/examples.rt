@@ -1,5 +1,6 @@
-//! The files of `examples/`: each is run in turn, and its transcript and the files that it exports are printed.
-use cq_io::{DirFolder, Exporter, Format, MemExporter, Sink, StdSink};
+//! The files of `examples/`: each is run in turn, and its transcript is printed, and the files that it exports, as they
+//! are read back from the folders into which they are exported.
+use cq_io::{DirExporter, DirFolder, Exporter, Folder, Format, Sink, StdSink};
 use cq_run::run;
 use std::alloc::Global;
 
@@ -19,7 +20,10 @@ const FILES: [&str; 13] = [
     "examples/exercises/streets.cql",
 ];
 
-/// Runs the files in turn. None: the memory or the output failed.
+/// An exported file is shorter than this.
+const LIMIT: u64 = 1048576;
+
+/// Runs the files in turn. None: the memory, the output or a folder failed.
 pub fn show_examples(rt: HostRuntime) -> Option<()> {
     let mut out = StdSink::new(rt);
     for name in FILES {
@@ -28,14 +32,15 @@ pub fn show_examples(rt: HostRuntime) -> Option<()> {
     Some(())
 }
 
-/// Prints the name of a file, what a run of it prints, and what it exports. None: the memory or the output failed.
+/// Prints the name of a file, what a run of it prints, and what it exports. None: the memory, the output or a folder
+/// failed.
 fn show<K: Sink>(rt: HostRuntime, out: &mut K, name: &str) -> Option<()> {
     let alloc = rt.alloc();
     head(out, "== ", name)?;
     let words = words(alloc, name)?;
     let mut folder = DirFolder::new(rt, alloc);
-    let csv = MemExporter::new(alloc, Format::Csv, Vec::new(alloc)).ok()?;
-    let cql = MemExporter::new(alloc, Format::Cql, Vec::new(alloc)).ok()?;
+    let csv = DirExporter::new(rt, alloc, Format::Csv, folder_of(Format::Csv)).ok()?;
+    let cql = DirExporter::new(rt, alloc, Format::Cql, folder_of(Format::Cql)).ok()?;
     let mut exporters: Vec<Box<dyn Exporter>> = Vec::new(alloc);
     exporters.push(Box::new(alloc, csv).ok()?).ok()?;
     exporters.push(Box::new(alloc, cql).ok()?).ok()?;
@@ -49,9 +54,17 @@ fn show<K: Sink>(rt: HostRuntime, out: &mut K, name: &str) -> Option<()> {
         out,
     );
     for exporter in exporters.iter() {
-        files(out, exporter.kept())?;
+        files(rt, out, folder_of(exporter.format()), exporter.kept())?;
     }
     Some(())
+}
+
+/// The folder into which files of a format are exported.
+fn folder_of(format: Format) -> &'static str {
+    match format {
+        Format::Csv => "out/csv",
+        Format::Cql => "out/cql",
+    }
 }
 
 /// The words that run a file.
@@ -62,13 +75,26 @@ fn words(alloc: Global, name: &str) -> Option<Vec<String>> {
     Some(words)
 }
 
-/// Prints files with their names.
-fn files<K: Sink>(out: &mut K, kept: &[(String, Vec<u8>)]) -> Option<()> {
-    for (name, bytes) in kept {
+/// Prints the files of these names with what a folder has of each.
+fn files<K: Sink>(
+    rt: HostRuntime,
+    out: &mut K,
+    folder: &str,
+    kept: &[(String, Vec<u8>)],
+) -> Option<()> {
+    for (name, _) in kept {
         head(out, "-- ", name.as_str())?;
-        out.write_all(bytes.as_slice()).ok()?;
+        file(rt, out, folder, name.as_str())?;
     }
     Some(())
+}
+
+/// Prints what a folder has of a file.
+fn file<K: Sink>(rt: HostRuntime, out: &mut K, folder: &str, name: &str) -> Option<()> {
+    let alloc = rt.alloc();
+    let path = format!(in alloc; "{folder}/{name}").ok()?;
+    let bytes = DirFolder::new(rt, alloc).read(path.as_str(), LIMIT).ok()?;
+    out.write_all(bytes.as_slice()).ok()
 }
 
 /// Prints a line with a name.
