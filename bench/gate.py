@@ -8,9 +8,6 @@ With names, `rt ci NAME..`. Once it has ended, it prints a row for each crate, w
 together, and then the functions that took longest, with the part of each: `Lts` is the making of its steps, `Proof` the search for
 what they leave. What was kept of an earlier run isn't done again, and isn't counted; other checks on the machine are. A check's time is
 read every second, so that of each the last second is lost.
-
-Where the processors are shared with other machines of a host, the same work takes more of their time, and nothing says so. So a fixed
-loop is tried every ten seconds, and the run's minutes are also told as they would be had each try been as fast as the fastest twentieth.
 """
 import collections
 import os
@@ -26,8 +23,6 @@ KINDS = ["proof", "tests", "seed", "edits"]
 TICKS = os.sysconf("SC_CLK_TCK")
 BUILT = "/tmp/rattle-logic-built-locked-"
 DEAREST = 20
-TURNS = 300_000
-BETWEEN = 10
 
 
 def kind_of(words):
@@ -95,36 +90,6 @@ class Times:
         return sorted(found, reverse=True)[:DEAREST]
 
 
-class Speed:
-    """The processor seconds that a fixed loop takes, try by try."""
-
-    def __init__(self):
-        self.seconds = []
-
-    def attempt(self):
-        before, number = time.thread_time(), 0
-        for turn in range(TURNS):
-            number = (number * 31 + turn) & 0xFFFF
-        self.seconds.append(time.thread_time() - before)
-
-    def best(self):
-        """The mean of the fastest twentieth."""
-        fastest = sorted(self.seconds)[: max(1, len(self.seconds) // 20)]
-        return sum(fastest) / len(fastest)
-
-    def share(self):
-        """The speed of the run, as a share of the best."""
-        return sum(min(1, self.best() / it) for it in self.seconds) / len(self.seconds)
-
-
-def show_speed(speed, minutes):
-    print(f"\n{minutes:.0f} minutes")
-    if speed.seconds:
-        mean = sum(speed.seconds) / len(speed.seconds)
-        print(f"a loop took {1000 * speed.best():.0f} ms at its fastest and {1000 * mean:.0f} in the mean of {len(speed.seconds)} tries,")
-        print(f"so the processors had {100 * speed.share():.0f} % of their speed: {minutes * speed.share():.0f} minutes at all of it\n")
-
-
 def show(times):
     crates = sorted({crate for crate, _ in times.seconds})
     print("| crate | " + " | ".join(KINDS) + " |")
@@ -138,15 +103,11 @@ def show(times):
 
 
 def main():
-    times, speed, ended = Times(), Speed(), threading.Event()
+    times, ended = Times(), threading.Event()
 
     def watch():
-        turn = 0
         while not ended.wait(1):
             times.read()
-            turn += 1
-            if turn % BETWEEN == 0:
-                speed.attempt()
 
     watcher = threading.Thread(target=watch)
     watcher.start()
@@ -156,7 +117,7 @@ def main():
     finally:
         ended.set()
         watcher.join()
-    show_speed(speed, (time.monotonic() - start) / 60)
+    print(f"\n{(time.monotonic() - start) / 60:.0f} minutes")
     show(times)
     sys.exit(status)
 
