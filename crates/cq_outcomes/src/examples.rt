@@ -4,13 +4,14 @@ use cq_io::{DirExporter, DirFolder, Exporter, Folder, Format, Sink, StdSink};
 use cq_run::run;
 use std::alloc::Global;
 
-const FILES: [&str; 13] = [
+const FILES: [&str; 22] = [
     "examples/first-run.cql",
     "examples/orders.cql",
     "examples/departments.cql",
     "examples/employees.cql",
     "examples/people.cql",
     "examples/lists.cql",
+    "examples/conflict.cql",
     "examples/glued.cql",
     "examples/joined.cql",
     "examples/moves.cql",
@@ -18,6 +19,14 @@ const FILES: [&str; 13] = [
     "examples/exercises/chief.cql",
     "examples/exercises/merged.cql",
     "examples/exercises/streets.cql",
+    "examples/recipes/matched.cql",
+    "examples/recipes/deduped.cql",
+    "examples/recipes/keys.cql",
+    "examples/recipes/conflicts.cql",
+    "examples/recipes/optional.cql",
+    "examples/recipes/filled.cql",
+    "examples/recipes/months.cql",
+    "examples/recipes/spreadsheet.cql",
 ];
 
 /// An exported file is shorter than this.

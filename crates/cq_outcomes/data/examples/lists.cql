@@ -1,13 +1,13 @@
-// The lists of a shop and of a newsletter come as CSV files and become one by their e-mail addresses: each address has
+// The lists of a shop and of a newsletter come as CSV files and become one by their e-mail addresses: each mailbox has
 // one owner, so a customer and a subscriber with one address are one person.
 typeside T = literal { types text literals text }
 
 schema Lists = literal : T {
-  entities Customer Subscriber Address Person
+  entities Customer Subscriber Mailbox Person
   foreign_keys
-    mail : Customer -> Address
-    news : Subscriber -> Address
-    owner : Address -> Person
+    mail : Customer -> Mailbox
+    news : Subscriber -> Mailbox
+    owner : Mailbox -> Person
   attributes
     name street : Customer -> text
     nick : Subscriber -> text

@@ -1,4 +1,4 @@
-// Two lists of people become one by their e-mail addresses: each address has one owner, so
+// Two lists of people become one by their e-mail addresses: each mailbox has one owner, so
 // a customer and a subscriber with one address are one person.
 typeside T = literal {
   types text
@@ -6,11 +6,11 @@ typeside T = literal {
 }
 
 schema Lists = literal : T {
-  entities Customer Subscriber Address Person
+  entities Customer Subscriber Mailbox Person
   foreign_keys
-    mail : Customer -> Address
-    news : Subscriber -> Address
-    owner : Address -> Person
+    mail : Customer -> Mailbox
+    news : Subscriber -> Mailbox
+    owner : Mailbox -> Person
   attributes
     street : Customer -> text
     nick : Subscriber -> text
@@ -26,10 +26,10 @@ instance Merged = literal : Lists {
   generators
     c1 c2 : Customer
     s1 s2 : Subscriber
-    elm oak : Address
+    m1 m2 : Mailbox
   equations
-    mail(c1) = elm street(c1) = "1 Elm St"
-    mail(c2) = oak street(c2) = "2 Oak St"
-    news(s1) = elm nick(s1) = Ann
+    mail(c1) = m1 street(c1) = "1 Elm St"
+    mail(c2) = m2 street(c2) = "2 Oak St"
+    news(s1) = m1 nick(s1) = Ann
     nick(s2) = Cleo
 }

@@ -1,0 +1,20 @@
+// What examples/lists.cql exports, with one null typed over: Ben Li's street, in the table of customers alone. The rule
+// makes it the home of the person too, where the label still stands.
+typeside T = literal { types text literals text }
+
+schema Lists = literal : T {
+  entities Customer Subscriber Mailbox Person
+  foreign_keys
+    mail : Customer -> Mailbox
+    news : Subscriber -> Mailbox
+    owner : Mailbox -> Person
+  attributes
+    name street : Customer -> text
+    nick : Subscriber -> text
+    called home : Person -> text
+  observation_equations
+    forall c : Customer. street(c) = home(owner(mail(c)))
+    forall s : Subscriber. nick(s) = called(owner(news(s)))
+}
+
+instance Filled = import_csv "examples/recipes/filled" : Lists
