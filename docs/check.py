@@ -1,0 +1,191 @@
+#!/usr/bin/env python3
+"""Types each command of README.md, docs/TUTORIAL.md and docs/RECIPES.md, and compares what it prints with the page.
+
+    docs/check.py [--program FILE] [PAGE..]
+
+FILE is the program that `./cqlrun` stands for; by default it is `./cqlrun` itself, which builds it. The commands of a page
+are typed in turn by bash, in a new folder with a copy of examples/. A block of code whose first word is one of a command
+is typed as it stands, and has to end with status 0, or with one line that is a refusal. Each block that follows it has to
+be lines of what it printed, one after the other, where blanks at their ends aren't compared; or pieces of a file of
+examples/, or of one that was exported, but for where its lines end. A line `..` stands for any lines. SQL that says the same as CQL is counted and not run. A command
+that this machine doesn't have is told, and what needs it isn't run. Where the machine has PostgreSQL, a server is started
+for the time of the check, in a folder of its own.
+
+In each page, README.md, CONTRIBUTING.md and docs/*.md, it also finds links and names that lead nowhere: of files, crates
+and functions. The status is 0 where nothing was found.
+"""
+import argparse
+import collections
+import contextlib
+import os
+import pathlib
+import shutil
+import subprocess
+import sys
+import tempfile
+
+from check_names import faults_of
+
+ROOT = pathlib.Path(__file__).resolve().parent.parent
+TYPED = ["README.md", "docs/TUTORIAL.md", "docs/RECIPES.md"]
+COMMANDS = "./cqlrun cat cp diff for iconv mkdir mlr psql rm sed sqlite3".split()
+LEFT = "git ln ls rt".split()
+SQL = "create insert select".split()
+Block = collections.namedtuple("Block", "line lines")
+
+
+def blocks_of(text):
+    """The blocks of code, each of them a run of lines that are four columns in, without them."""
+    lines, found = text.split("\n"), []
+    for number, line in enumerate(lines, 1):
+        if not line.startswith("    "):
+            continue
+        if found and found[-1].line + len(found[-1].lines) == number:
+            found[-1].lines.append(line[4:])
+        else:
+            found.append(Block(number, [line[4:]]))
+    # What is four columns in below an entry of a list is text.
+    return [block for block in found if lines[block.line - 2] == ""]
+
+
+def stands_in(shown, lines, at=0):
+    """Whether the shown lines stand in these, one after the other from some place on; `..` is any lines."""
+    parts, part = [], []
+    for line in shown:
+        if line.strip() == "..":
+            parts.append(part)
+            part = []
+        else:
+            part.append(line.strip())
+    parts.append(part)
+    lines = [line.strip() for line in lines]
+    for part in parts:
+        places = range(at, len(lines) - len(part) + 1)
+        at = next((place + len(part) for place in places if lines[place : place + len(part)] == part), None)
+        if at is None:
+            return False
+    return True
+
+
+class Typist:
+    """Types the commands of a page, in a folder of its own."""
+
+    def __init__(self, folder, environment):
+        self.folder = folder
+        self.environment = environment
+        self.printed = []
+        self.counts = collections.Counter()
+        self.missing = set()
+        self.faults = []
+
+    def lacks(self, block):
+        words = set(" ".join(block.lines).split())
+        lacking = {word for word in words & set(COMMANDS) if "/" not in word and not shutil.which(word)}
+        lacking -= {"for"}
+        if "psql" in words and "PGHOST" not in self.environment:
+            lacking.add("psql")
+        return lacking
+
+    def type(self, page, block):
+        lacking = self.lacks(block)
+        if lacking:
+            self.missing |= lacking
+            self.counts["not run"] += 1
+            self.printed = None
+            return
+        script = "set -e -o pipefail\n" + "\n".join(block.lines)
+        ran = subprocess.run(["bash", "-c", script], cwd=self.folder, env=self.environment, capture_output=True, text=True)
+        self.printed = ran.stdout.split("\n")
+        self.counts["typed"] += 1
+        is_refusal = ran.returncode == 1 and ran.stdout.startswith("refused ") and ran.stdout.count("\n") == 1
+        if ran.returncode != 0 and not is_refusal:
+            self.faults.append(f"{page}:{block.line}: status {ran.returncode}: {ran.stderr.strip()}")
+
+    def stands_in_file(self, block):
+        """Whether the block stands in a file of examples/ or in one that was exported, but for where lines end."""
+        parts = [part.strip() for part in f" {' '.join(' '.join(block.lines).split())} ".split(" .. ")]
+        for name in ("examples", "cql-out"):
+            for file in (self.folder / name).rglob("*.c[qs][lv]"):
+                text = " ".join(file.read_bytes().decode(errors="replace").split())
+                for part in parts:
+                    _, found, text = text.partition(part)
+                    if not found:
+                        break
+                else:
+                    return True
+        return False
+
+    def compare(self, page, block):
+        if self.printed is not None and stands_in(block.lines, self.printed):
+            self.counts["shown"] += 1
+        elif self.stands_in_file(block):
+            self.counts["of a file"] += 1
+        elif block.lines[0].split()[0] in SQL:
+            self.counts["SQL"] += 1
+        elif self.printed is None:
+            self.counts["not compared"] += 1
+        else:
+            self.faults.append(f"{page}:{block.line}: neither printed nor in a file: {block.lines[0]}")
+
+    def read(self, page):
+        for block in blocks_of((ROOT / page).read_text()):
+            first = block.lines[0].split()[0]
+            if first in COMMANDS:
+                self.type(page, block)
+            elif first in LEFT:
+                self.counts["not typed"] += 1
+            else:
+                self.compare(page, block)
+
+
+@contextlib.contextmanager
+def database(folder):
+    """The variables by which psql finds a server that runs for this time; none where there is no PostgreSQL."""
+    found = sorted(pathlib.Path("/usr/lib/postgresql").glob("*/bin/initdb"))
+    bin_folder = found[-1].parent if found else None
+    if not (bin_folder and shutil.which("psql")):
+        yield {}
+        return
+    own = ["runuser", "-u", "postgres", "--"] if os.geteuid() == 0 else []
+    folder.mkdir()
+    if own:
+        shutil.chown(folder, "postgres")
+        os.chmod(folder.parent, 0o755)
+    quiet = {"cwd": folder, "stdout": subprocess.DEVNULL, "check": True}
+    initdb = ["initdb", "-D", folder / "data", "-A", "trust", "-U", "postgres", "-E", "UTF8", "--locale", "C.UTF-8"]
+    control = [*own, bin_folder / "pg_ctl", "-D", folder / "data", "-w", "-s"]
+    subprocess.run([*own, bin_folder / initdb[0], *initdb[1:]], **quiet)
+    subprocess.run([*control, "-l", folder / "log", "-o", f"-k {folder} -c listen_addresses=''", "start"], **quiet)
+    try:
+        yield {"PGHOST": str(folder), "PGUSER": "postgres", "PGDATABASE": "postgres"}
+    finally:
+        subprocess.run([*control, "stop"], **quiet)
+
+
+def check_page(page, program):
+    with tempfile.TemporaryDirectory() as name, contextlib.ExitStack() as stack:
+        folder = pathlib.Path(name, "root")
+        shutil.copytree(ROOT / "examples", folder / "examples")
+        (folder / "cqlrun").symlink_to(program)
+        server = stack.enter_context(database(pathlib.Path(name, "server"))) if "psql" in (ROOT / page).read_text() else {}
+        typist = Typist(folder, {**os.environ, **server})
+        typist.read(page)
+    counts = ", ".join(f"{count} {what}" for what, count in typist.counts.items())
+    print(f"{page}: {counts}" + "".join(f"; this machine has no {word}" for word in sorted(typist.missing)))
+    return typist.faults
+
+
+def main():
+    words = argparse.ArgumentParser()
+    words.add_argument("--program", type=pathlib.Path, default=ROOT / "cqlrun")
+    words.add_argument("pages", nargs="*", default=TYPED)
+    words = words.parse_args()
+    faults = [fault for page in words.pages for fault in check_page(page, words.program.resolve())]
+    faults += faults_of(ROOT)
+    for fault in faults:
+        print(fault)
+    sys.exit(1 if faults else 0)
+
+
+if __name__ == "__main__":
+    main()
