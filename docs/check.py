@@ -2,17 +2,20 @@
 """Types each command of README.md, docs/TUTORIAL.md and docs/RECIPES.md, and compares what it prints with the page.
 
     docs/check.py [--program FILE] [PAGE..]
+    docs/check.py [--program FILE] --record
 
-FILE is the program that `./cqlrun` stands for; by default it is `./cqlrun` itself, which builds it. The commands of a page
-are typed in turn by bash, in a new folder with a copy of examples/. A block of code whose first word is one of a command
-is typed as it stands, and has to end with status 0, or with one line that is a refusal. Each block that follows it has to
-be lines of what it printed, one after the other, where blanks at their ends aren't compared; or pieces of a file of
-examples/, or of one that was exported, but for where its lines end. A line `..` stands for any lines. SQL that says the same as CQL is counted and not run. A command
-that this machine doesn't have is told, and what needs it isn't run. Where the machine has PostgreSQL, a server is started
-for the time of the check, in a folder of its own.
+FILE is the program that `./cqlrun` stands for; by default it is `./cqlrun` itself, which builds it. The commands of a
+page are typed in turn by bash, in a new folder with a copy of examples/. A block of code whose first word is one of a
+command is typed as it stands, and has to end with status 0, or with one line that is a refusal. Each block that follows
+it has to be lines of what it printed, one after the other, where blanks at their ends aren't compared; or pieces of a
+file of examples/, or of one that was exported, but for comments and where its lines end. A line `..` stands for any
+lines. SQL that says the same as CQL is counted and not run. A command that this machine doesn't have is told, and what
+needs it isn't run. Where the machine has PostgreSQL, a server is started for the time of the check, in a folder of its
+own. Of docs/terminal.txt each line that begins with `$ ` is typed, and all that it prints stands below it, to the byte;
+with --record it is written anew.
 
-In each page, README.md, CONTRIBUTING.md and docs/*.md, it also finds links and names that lead nowhere: of files, crates
-and functions. The status is 0 where nothing was found.
+In each page, README.md, CONTRIBUTING.md and docs/*.md, it also finds links and names that lead nowhere: of files,
+crates and functions. The status is 0 where nothing was found.
 """
 import argparse
 import collections
@@ -31,6 +34,20 @@ TYPED = ["README.md", "docs/TUTORIAL.md", "docs/RECIPES.md"]
 COMMANDS = "./cqlrun cat cp diff for iconv mkdir mlr psql rm sed sqlite3".split()
 LEFT = "git ln ls rt".split()
 SQL = "create insert select".split()
+RECORDING = ROOT / "docs/terminal.txt"
+RECORDED = [
+    "cat examples/lists/Customer.csv",
+    "cat examples/lists/Subscriber.csv",
+    "./cqlrun run examples/lists.cql",
+    "ls cql-out/csv/Merged cql-out/cql",
+    "cat cql-out/csv/Merged/Person.csv",
+    "./cqlrun explain examples/lists.cql Merged g1.mail.owner g3.news.owner",
+    "./cqlrun explain examples/lists.cql Merged g2.mail.owner g3.news.owner",
+    "./cqlrun run examples/conflict.cql",
+    "./cqlrun run examples/departments.cql",
+    "./cqlrun explain examples/departments.cql Both physics phys",
+    "./cqlrun example 1000",
+]
 Block = collections.namedtuple("Block", "line lines")
 
 
@@ -78,6 +95,10 @@ class Typist:
         self.missing = set()
         self.faults = []
 
+    def run(self, script):
+        words = ["bash", "-c", script]
+        return subprocess.run(words, cwd=self.folder, env=self.environment, capture_output=True, text=True)
+
     def lacks(self, block):
         words = set(" ".join(block.lines).split())
         lacking = {word for word in words & set(COMMANDS) if "/" not in word and not shutil.which(word)}
@@ -93,8 +114,7 @@ class Typist:
             self.counts["not run"] += 1
             self.printed = None
             return
-        script = "set -e -o pipefail\n" + "\n".join(block.lines)
-        ran = subprocess.run(["bash", "-c", script], cwd=self.folder, env=self.environment, capture_output=True, text=True)
+        ran = self.run("set -e -o pipefail\n" + "\n".join(block.lines))
         self.printed = ran.stdout.split("\n")
         self.counts["typed"] += 1
         is_refusal = ran.returncode == 1 and ran.stdout.startswith("refused ") and ran.stdout.count("\n") == 1
@@ -106,7 +126,8 @@ class Typist:
         parts = [part.strip() for part in f" {' '.join(' '.join(block.lines).split())} ".split(" .. ")]
         for name in ("examples", "cql-out"):
             for file in (self.folder / name).rglob("*.c[qs][lv]"):
-                text = " ".join(file.read_bytes().decode(errors="replace").split())
+                lines = file.read_bytes().decode(errors="replace").split("\n")
+                text = " ".join(" ".join(line for line in lines if not line.startswith("//")).split())
                 for part in parts:
                     _, found, text = text.partition(part)
                     if not found:
@@ -162,26 +183,49 @@ def database(folder):
         subprocess.run([*control, "stop"], **quiet)
 
 
-def check_page(page, program):
+@contextlib.contextmanager
+def typing(program, has_database=False):
+    """A typist in a new folder."""
     with tempfile.TemporaryDirectory() as name, contextlib.ExitStack() as stack:
         folder = pathlib.Path(name, "root")
         shutil.copytree(ROOT / "examples", folder / "examples")
         (folder / "cqlrun").symlink_to(program)
-        server = stack.enter_context(database(pathlib.Path(name, "server"))) if "psql" in (ROOT / page).read_text() else {}
-        typist = Typist(folder, {**os.environ, **server})
+        server = stack.enter_context(database(pathlib.Path(name, "server"))) if has_database else {}
+        yield Typist(folder, {**os.environ, **server})
+
+
+def check_page(page, program):
+    with typing(program, "psql" in (ROOT / page).read_text()) as typist:
         typist.read(page)
     counts = ", ".join(f"{count} {what}" for what, count in typist.counts.items())
     print(f"{page}: {counts}" + "".join(f"; this machine has no {word}" for word in sorted(typist.missing)))
     return typist.faults
 
 
+def record(commands, program):
+    """What a terminal shows when these commands are typed."""
+    with typing(program) as typist:
+        return "".join(f"$ {command}\n{typist.run(command).stdout}" for command in commands)
+
+
+def check_recording(program):
+    shown = RECORDING.read_text()
+    commands = [line[2:] for line in shown.split("\n") if line.startswith("$ ")]
+    print(f"{RECORDING.relative_to(ROOT)}: {len(commands)} typed")
+    return [] if record(commands, program) == shown else [f"{RECORDING.relative_to(ROOT)}: shows something else"]
+
+
 def main():
     words = argparse.ArgumentParser()
     words.add_argument("--program", type=pathlib.Path, default=ROOT / "cqlrun")
+    words.add_argument("--record", action="store_true")
     words.add_argument("pages", nargs="*", default=TYPED)
     words = words.parse_args()
-    faults = [fault for page in words.pages for fault in check_page(page, words.program.resolve())]
-    faults += faults_of(ROOT)
+    program = words.program.resolve()
+    if words.record:
+        RECORDING.write_text(record(RECORDED, program))
+    faults = [fault for page in words.pages for fault in check_page(page, program)]
+    faults += check_recording(program) + faults_of(ROOT)
     for fault in faults:
         print(fault)
     sys.exit(1 if faults else 0)
