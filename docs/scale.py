@@ -4,21 +4,21 @@
     docs/scale.py [--largest N] [--partitions P]
 
 N is the most rows, 10,000,000 by default, and P the number of machines, 64. Needs numpy and scipy, and for the default
-some 3 GB of memory. Rows are names of 8 bytes, and each lives on the machine that its hash names. The pairs lie anywhere.
-In a round
+some 3 GB of memory. Rows are names of 8 bytes, and each lives on the machine that its hash names. The pairs lie
+anywhere. In a round
 
   1. each machine joins the pairs that it has, as on one machine, and sends for each row of a class but the least
      the least one, to the machine where the row lives: 16 bytes, where that is another machine;
   2. each machine takes for each row the least one that it was sent, or had before, for its parent, and keeps a pair of
      it with each other one that it was sent or had, for the next round.
 
-Once the pairs that are left are no more than a P-th of the rows, each row asks its parent for the parent's parent, until
-nothing changes: a round is a question and an answer, 16 bytes each, and a machine asks once for each parent. Then the
-pairs, each of two rows that have no parent, go to one machine, which joins them and answers; and each row asks anew. The
-outcome is compared with the components that scipy finds. Printed are for each graph the rounds of joining and of asking,
-the bytes over the network for each row, what the busiest machine receives in the heaviest round, as a multiple of the
-mean, and the bytes in all. Rows marked `reckoned` weren't simulated: they have the bytes a row of the largest size, and
-for each factor of ten as many rounds more as from a tenth to that size.
+Once the pairs that are left are no more than a P-th of the rows, each row asks its parent for the parent's parent,
+until nothing changes: a round is a question and an answer, 16 bytes each, and a machine asks once for each parent.
+Then the pairs, each of two rows that have no parent, go to one machine, which joins them and answers; and each row
+asks anew. The outcome is compared with the components that scipy finds. Printed are for each graph the rounds of
+joining and of asking, the bytes over the network for each row, what the busiest machine receives in the heaviest
+round, as a multiple of the mean, and the bytes in all. Rows marked `reckoned` weren't simulated: they have the bytes a
+row of the largest size, and for each factor of ten as many rounds more as from a tenth to that size.
 """
 import argparse
 

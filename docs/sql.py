@@ -6,8 +6,8 @@
 FILE is the program, by default `./cqlrun`. For each instance `eval Q I` and `delta F I` of a file of examples/ it
 writes docs/sql/FILE-INSTANCE.sql, over the tables as which I is exported: each entity is a select, each step along a
 foreign key a join, each where equation a condition. The statements are run by sqlite3 on the exported files of I, and
-what they give is compared with the exported files of the instance, row by row, in order, with labels and ids. Read are literals of
-schemas, mappings and queries, colimits, and terms without functions, which is all that the examples have.
+what they give is compared with the exported files of the instance, row by row, in order, with labels and ids. Read are
+literals of schemas, mappings and queries, colimits, and terms without functions, which is all that the examples have.
 """
 import argparse
 import csv
@@ -21,6 +21,7 @@ import tempfile
 ROOT = pathlib.Path(__file__).resolve().parent.parent
 TOKEN = re.compile(r'//[^\n]*|/\*.*?\*/|("(?:\\.|[^"\\])*"|[A-Za-z0-9_$]+|->|\S)', re.S)
 HEADS = "typeside schema schema_colimit mapping query instance transform".split()
+ESCAPES = {"n": "\n", "t": "\t", "r": "\r"}
 # The variable of a mapping's block.
 ROW = "row"
 SECTIONS = "entities foreign_keys path_equations attributes observation_equations entity_equations from where".split()
@@ -248,7 +249,7 @@ class Select:
 
     def value(self, path):
         if path[0].startswith('"'):
-            content = re.sub(r"\\(.)", lambda found: {"n": "\n", "t": "\t", "r": "\r"}.get(found[1], found[1]), path[0][1:-1])
+            content = re.sub(r"\\(.)", lambda found: ESCAPES.get(found[1], found[1]), path[0][1:-1])
             return "'" + content.replace("'", "''") + "'"
         if path[-1] in self.schema.attributes:
             return f"{self.row(path[:-1])}.{quoted(path[-1])}"
@@ -302,7 +303,8 @@ def loads(schema, folder):
     """The statements that make the tables of an instance, and load its exported files."""
     for entity in schema.entities:
         names, keys = schema.columns(entity)
-        columns = ["id integer", *(f"{quoted(name)} text" for name in names), *(f"{quoted(key)} integer" for key in keys)]
+        columns = ["id integer", *(f"{quoted(name)} text" for name in names)]
+        columns += [f"{quoted(key)} integer" for key in keys]
         yield f"create table {quoted(entity)} ({', '.join(columns)});"
         yield f".import --csv --skip 1 {folder}/{entity}.csv {quoted(entity)}"
 

@@ -3,9 +3,10 @@
 
     editors/check.py
 
-First it looks whether the two files are what editors/make.py writes. Then each .cql file of examples/ is cut into words,
-texts, comments and marks, and each byte of it has to be coloured as what it is: by Vim, where the machine has it, and by
-the TextMate grammar, which is followed here line by line as editors follow it. The status is 0 where nothing was found.
+First it looks whether the two files are what editors/make.py writes. Then each .cql file of examples/ is cut into
+words, texts, comments and marks, and each byte of it has to be coloured as what it is: by Vim, where the machine has
+it, and by the TextMate grammar, which is followed here line by line as editors follow it. The status is 0 where
+nothing was found.
 """
 import json
 import pathlib
@@ -18,7 +19,8 @@ import tempfile
 import make
 
 ROOT = make.ROOT
-TOKEN = re.compile(rb'(?P<comment>//[^\n]*|/\*.*?\*/)|(?P<text>"(?:\\.|[^"\\])*")|(?P<word>[A-Za-z0-9_$]+)|(?P<mark>\S)', re.S)
+COMMENT, TEXT, WORD = rb"//[^\n]*|/\*.*?\*/", rb'"(?:\\.|[^"\\])*"', rb"[A-Za-z0-9_$]+"
+TOKEN = re.compile(rb"(?P<comment>%b)|(?P<text>%b)|(?P<word>%b)|(?P<mark>\S)" % (COMMENT, TEXT, WORD), re.DOTALL)
 # The kind of a piece: its groups in Vim, and how its scopes begin in the TextMate grammar.
 KINDS = {
     "comment": (["Comment"], ["comment"]),
@@ -69,7 +71,8 @@ def by_vim(file):
         script, out = pathlib.Path(folder, "s.vim"), pathlib.Path(folder, "out")
         script.write_text(f"let g:found = []\n{VIM_SCRIPT}call writefile(g:found, '{out}')\nqall!\n")
         path = f"set runtimepath^={ROOT / 'editors/vim'} encoding=utf-8 nomodeline"
-        words = ["vim", "-N", "-u", "NONE", "-i", "NONE", "-es", "--cmd", path, "--cmd", "filetype on", "-S", script, file]
+        words = "vim -N -u NONE -i NONE -es".split()
+        words += ["--cmd", path, "--cmd", "filetype on", "-S", script, file]
         subprocess.run(words, stdin=subprocess.DEVNULL, timeout=60)
         return [line.replace("cql", "").split(",") for line in out.read_text().split("\n")]
 
@@ -128,18 +131,17 @@ def faults(file, words, colours, place):
 
 
 def faults_of(file, words, patterns):
-    colours = {"TextMate": by_textmate(file, patterns)}
+    found = [f"TextMate: {fault}" for fault in faults(file, words, by_textmate(file, patterns), 1)]
     if shutil.which("vim"):
-        colours["Vim"] = by_vim(file)
-    return [
-        f"{by}: {fault}" for by, found in colours.items() for fault in faults(file, words, found, 1 if by == "TextMate" else 0)
-    ]
+        found += [f"Vim: {fault}" for fault in faults(file, words, by_vim(file), 0)]
+    return found
 
 
 def main():
     words = make.Words((ROOT / "docs/LANGUAGE.md").read_text())
     made = {make.VIM: make.vim(words), make.TEXTMATE: make.textmate(words)}
-    found = [f"{file.relative_to(ROOT)}: run editors/make.py" for file, text in made.items() if file.read_text() != text]
+    old = [file for file, text in made.items() if file.read_text() != text]
+    found = [f"{file.relative_to(ROOT)}: run editors/make.py" for file in old]
     patterns = json.loads(make.TEXTMATE.read_text())["patterns"]
     files = sorted((ROOT / "examples").resolve().rglob("*.cql"))
     files = [ROOT / "examples" / file.relative_to((ROOT / "examples").resolve()) for file in files]

@@ -3,10 +3,10 @@
 
     editors/make.py
 
-The words are those that stand between quotation marks in the productions, and the list of reserved words; the marks are
-those of its section on tokens. So a word that is added there is coloured once this has run again. Written are
-editors/vim/syntax/cql.vim, for Vim, and editors/vscode/syntaxes/cql.tmLanguage.json, a TextMate grammar, for VS Code and
-others.
+The words are those that stand between quotation marks in the productions, and the list of reserved words; the marks
+are those of its section on tokens. So a word that is added there is coloured once this has run again. Written are
+editors/vim/syntax/cql.vim, for Vim, and editors/vscode/syntaxes/cql.tmLanguage.json, a TextMate grammar, for VS Code
+and others.
 """
 import json
 import pathlib
