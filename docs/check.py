@@ -14,8 +14,8 @@ needs it isn't run. Where the machine has PostgreSQL, a server is started for th
 own. Of docs/terminal.txt each line that begins with `$ ` is typed, and all that it prints stands below it, to the byte;
 with --record it is written anew.
 
-In each page, README.md, CONTRIBUTING.md and docs/*.md, it also finds links and names that lead nowhere: of files,
-crates and functions. The status is 0 where nothing was found.
+In each page, README.md, CONTRIBUTING.md, docs/*.md and editors/*.md, it also finds links and names that lead nowhere:
+of files, crates and functions. The status is 0 where nothing was found.
 """
 import argparse
 import collections

@@ -83,7 +83,8 @@ def faults_of(root):
     """What leads nowhere in each page, with the page."""
     names = Names(root)
     found = []
-    for page in [root / "README.md", root / "CONTRIBUTING.md", *sorted((root / "docs").glob("*.md"))]:
+    folders = [page for folder in ("docs", "editors") for page in sorted(root.glob(f"{folder}/*.md"))]
+    for page in [root / "README.md", root / "CONTRIBUTING.md", *folders]:
         text = page.read_text()
         faults = [*links(root, page, text), *words(names, text)]
         if page.name == "README.md":
