@@ -12,6 +12,7 @@ looked at. Where a crate isn't built, nothing more is begun, the end of its log 
 import argparse
 import os
 import pathlib
+import signal
 import subprocess
 import sys
 import time
@@ -65,25 +66,49 @@ def tell(text):
     print(text, file=sys.stderr, flush=True)
 
 
-def build(uses, jobs):
-    """Builds each crate once those that it uses are built. Answers the first that isn't, if there is one."""
-    waiting, running, built = dict(uses), {}, set()
-    while waiting or running:
-        ready = [crate for crate, used in waiting.items() if used <= built]
-        for place, crate in enumerate(ready[: jobs - len(running)]):
-            share = max(1, (jobs - len(running)) // (len(ready) - place))
-            running[crate] = begin(crate, share), time.monotonic()
-            del waiting[crate]
-        time.sleep(0.1)
-        for crate, (process, since) in list(running.items()):
-            if process.poll() is None:
-                continue
-            del running[crate]
+class Build:
+    """The crates that wait, those that are being built, and those that are."""
+
+    def __init__(self, uses, jobs):
+        self.uses, self.jobs = uses, jobs
+        self.waiting, self.running, self.built = dict(uses), {}, set()
+
+    def begin_some(self):
+        ready = [crate for crate, used in self.waiting.items() if used <= self.built]
+        for place, crate in enumerate(ready[: self.jobs - len(self.running)]):
+            share = max(1, (self.jobs - len(self.running)) // (len(ready) - place))
+            self.running[crate] = begin(crate, share), time.monotonic()
+            del self.waiting[crate]
+
+    def end_some(self):
+        """Takes note of those that have ended. Answers one that isn't built, if there is one."""
+        ended = [crate for crate, (process, _) in self.running.items() if process.poll() is not None]
+        for crate in ended:
+            process, since = self.running.pop(crate)
             if not is_built(crate, process.returncode):
-                return crate, [process for process, _ in running.values()]
-            built.add(crate)
-            tell(f"{len(built)} of {len(uses)} built: {crate}, {time.monotonic() - since:.0f} s")
-    return None, []
+                return crate
+            self.built.add(crate)
+            tell(f"{len(self.built)} of {len(self.uses)} built: {crate}, {time.monotonic() - since:.0f} s")
+        return None
+
+    def run(self):
+        """Builds each crate once those that it uses are built. Answers the first that isn't, if there is one."""
+        failed = None
+        try:
+            while self.waiting or self.running:
+                self.begin_some()
+                time.sleep(0.1)
+                failed = self.end_some()
+                if failed:
+                    break
+            # What the others have begun is kept for the next build.
+            for process, _ in self.running.values():
+                process.wait()
+        except BaseException:
+            for process, _ in self.running.values():
+                process.terminate()
+            raise
+        return failed
 
 
 def main():
@@ -92,9 +117,8 @@ def main():
     jobs = max(1, words.parse_args().jobs)
     uses = crates_below(PROGRAM)
     tell(f"building {PROGRAM}: {len(uses)} crates, each of which is proved first, {jobs} at a time")
-    failed, running = build(uses, jobs)
-    for process in running:
-        process.wait()
+    signal.signal(signal.SIGTERM, lambda *_: sys.exit(FAILED))
+    failed = Build(uses, jobs).run()
     if failed:
         tell(f"{failed} is not built; the end of {log_of(failed).relative_to(ROOT)}:")
         tell("\n".join(log_of(failed).read_text(errors="replace").splitlines()[-SHOWN:]))
