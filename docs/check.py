@@ -12,7 +12,8 @@ file of examples/, or of one that was exported, but for comments and where its l
 lines. SQL that says the same as CQL is counted and not run. A command that this machine doesn't have is told, and what
 needs it isn't run. Where the machine has PostgreSQL, a server is started for the time of the check, in a folder of its
 own. Of docs/terminal.txt each line that begins with `$ ` is typed, and all that it prints stands below it, to the byte;
-with --record it is written anew.
+with --record it is written anew. What docs/scale.py printed stands in docs/scale.txt, and each row of its table in
+docs/SCALE.md is one of these.
 
 In each page, README.md, CONTRIBUTING.md, docs/*.md and editors/*.md, it also finds links and names that lead nowhere:
 of files, crates and functions. The status is 0 where nothing was found.
@@ -48,6 +49,7 @@ RECORDED = [
     "./cqlrun explain examples/departments.cql Both physics phys",
     "./cqlrun example 1000",
 ]
+SIMULATED = ("| pairs", "| chain", "| star", "| random")
 Block = collections.namedtuple("Block", "line lines")
 
 
@@ -215,6 +217,13 @@ def check_recording(program):
     return [] if record(commands, program) == shown else [f"{RECORDING.relative_to(ROOT)}: shows something else"]
 
 
+def check_scale():
+    """The rows of the simulation in docs/SCALE.md are ones that it printed, as they are stored."""
+    printed = (ROOT / "docs/scale.txt").read_text().split("\n")
+    shown = [line for line in (ROOT / "docs/SCALE.md").read_text().split("\n") if line.startswith(SIMULATED)]
+    return [f"docs/SCALE.md: docs/scale.py printed no {line}" for line in shown if line not in printed]
+
+
 def main():
     words = argparse.ArgumentParser()
     words.add_argument("--program", type=pathlib.Path, default=ROOT / "cqlrun")
@@ -225,7 +234,7 @@ def main():
     if words.record:
         RECORDING.write_text(record(RECORDED, program))
     faults = [fault for page in words.pages for fault in check_page(page, program)]
-    faults += check_recording(program) + faults_of(ROOT)
+    faults += check_recording(program) + check_scale() + faults_of(ROOT)
     for fault in faults:
         print(fault)
     sys.exit(1 if faults else 0)
