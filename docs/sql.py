@@ -64,22 +64,33 @@ class Reader:
         self.at += found
         return found
 
-    def skip_block(self):
-        depth = 0
-        while True:
-            depth += {"{": 1, "}": -1}.get(self.next(), 0)
-            if depth == 0:
-                return
+    def skip(self, *tokens):
+        for token in tokens:
+            self.next(token)
+
+    def names_of_group(self):
+        """The names before a colon."""
+        names = [self.next()]
+        while self.peek() != ":":
+            names.append(self.next())
+        self.next(":")
+        return names
+
+    def arrow(self):
+        """The two schemas of a literal of a mapping or query, up to its brace."""
+        self.skip("literal", ":")
+        source = self.next()
+        self.next("->")
+        target = self.next()
+        self.next("{")
+        return source, target
 
     def edges(self):
         while not self.is_end():
-            names = [self.next()]
-            while self.peek() != ":":
-                names.append(self.next())
-            self.next(":")
-            source = self.next()
+            names, source = self.names_of_group(), self.next()
             self.next("->")
-            yield from ((name, source, target) for target in [self.next()] for name in names)
+            target = self.next()
+            yield from ((name, source, target) for name in names)
 
     def term(self):
         """A path of names, the variable first, or a text."""
@@ -99,14 +110,15 @@ class Reader:
 
     def schema(self, name):
         found = self.schemas[name] = Schema()
-        self.at += 3
+        self.skip("literal", ":")
+        self.next()
         self.next("{")
         if self.section("entities"):
             while not self.is_end():
                 found.entities.append(self.next())
         if self.section("foreign_keys"):
             found.keys = {key: (source, target) for key, source, target in self.edges()}
-        while not self.peek() in ("attributes", "observation_equations", "}"):
+        while self.peek() not in ("attributes", "observation_equations", "}"):
             self.next()
         if self.section("attributes"):
             found.attributes = {attribute: source for attribute, source, _ in self.edges()}
@@ -118,13 +130,15 @@ class Reader:
         parts = [self.next()]
         while self.section("+"):
             parts.append(self.next())
-        self.at += 2
+        self.next(":")
+        self.next()
         self.next("{")
         first = {(part, entity): f"{part}_{entity}" for part in parts for entity in self.schemas[part].entities}
         if self.section("entity_equations"):
             while not self.is_end():
-                left, right = self.term(), (self.next("="), self.term())[1]
-                first[tuple(right)] = first[tuple(left)]
+                left = self.term()
+                self.next("=")
+                first[tuple(self.term())] = first[tuple(left)]
         while self.next() != "}":
             pass
         joined = self.schemas[name] = Schema()
@@ -141,9 +155,7 @@ class Reader:
             of = self.schemas[part]
             images = {name: [ROW, f"{part}_{name}"] for name in [*of.attributes, *of.keys]}
             return part, joined, {entity: self.colimits[joined][part, entity] for entity in of.entities}, images
-        self.at += 2
-        source, target = self.next(), (self.next("->"), self.next())[1]
-        self.next("{")
+        source, target = self.arrow()
         entities, images = {}, {}
         while self.section("entity"):
             entity = self.next()
@@ -160,13 +172,11 @@ class Reader:
         return source, target, entities, images
 
     def query(self):
-        self.at += 2
-        source, target = self.next(), (self.next("->"), self.next())[1]
-        self.next("{")
+        source, target = self.arrow()
         blocks = {}
         while self.section("entity"):
             entity = self.next()
-            self.at += 2
+            self.skip("->", "{")
             blocks[entity] = self.block()
         self.next("}")
         return source, target, blocks
@@ -175,11 +185,7 @@ class Reader:
         variables, tests, attributes, keys = {}, [], {}, {}
         if self.section("from"):
             while not self.is_end():
-                names = [self.next()]
-                while self.peek() != ":":
-                    names.append(self.next())
-                self.next(":")
-                entity = self.next()
+                names, entity = self.names_of_group(), self.next()
                 variables.update({name: entity for name in names})
         if self.section("where"):
             while not self.is_end():
@@ -194,7 +200,7 @@ class Reader:
         if self.section("foreign_keys"):
             while self.peek() != "}":
                 key = self.next()
-                self.at += 2
+                self.skip("->", "{")
                 keys[key] = {}
                 while self.peek() != "}":
                     name = self.next()
