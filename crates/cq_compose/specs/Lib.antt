@@ -1,2 +1,1 @@
 pub mod Composite
-pub mod MappingQuery

@@ -1,0 +1,5 @@
+use Rattle.cq_compose.proofs.Putting.{Derives-put}
+use Rattle.cq_compose.proofs.laws.composites_are_sound.Goals as goal
+
+pub returns : goal.returns
+returns c = ?
