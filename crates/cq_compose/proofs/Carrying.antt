@@ -39,10 +39,10 @@ use Rattle.cq_query.proofs.Answering.{IsIn}
 use Rattle.cq_query.proofs.Holding.{path_duty_in, observation_duty_in}
 use Rattle.cq_query.proofs.Standing.{Stand, generators_at, no_type_at, within_length, put_type_sorted, assigned_stand, along_stand, variables_stand}
 use Rattle.cq_compose.specs.Composite.{components, term_components, translated, translated_step, translated_test, composite}
-use Rattle.cq_compose.proofs.Typed.{on_typed, each_twice}
+use Rattle.cq_compose.proofs.Typed.{no_variable, variable_is, on_typed, each_across}
 use Rattle.cq_compose.proofs.Putting.{put_term, put_type-put, Fits, Derives-put}
 use Rattle.cq_compose.proofs.Equals.{AreEqual, Derives-moved, Derives-given, equal_reflexive, equal_symmetric, equal_transitive, equal_from, equal_mapped}
-use Rattle.cq_compose.proofs.Fitting.{along-append, put-along, put-variables, stand_sorted, put_equal_each, put_type_equal}
+use Rattle.cq_compose.proofs.Fitting.{along-append, put-along, put-variables, stand_sorted, put_equal_each, put_type_equal, attribute_typed}
 use Rattle.cq_compose.proofs.Components.{second_query, translated_test_in, term_fits}
 
 module _ (Q : Query) (U : Schema) (blocks : List Block) (query : IsQuery Q) (sound : Sound Q) (u : ℕ) where
@@ -67,9 +67,6 @@ module _ (Q : Query) (U : Schema) (blocks : List Block) (query : IsQuery Q) (sou
   -- components behind a path
   comps-extended : (t : EntTerm) (path : List ℕ) → comps (extended t path) ≡ along Q (comps t) path
   comps-extended t path = along-append Q (components Q W u t.generator) t.path path
-
-  attribute_typed : (a : ℕ) (edge : Edge) → slice_get Q.target.attributes a ≡ Some edge → type_of Q.source (generators_at Q edge.from) (attribute_term Q a) ≡ Some edge.to
-  attribute_typed a edge is = let term = query.attributes a edge is in ap (λ o. type_of Q.source (generators_at Q edge.from) (term_or_constant o)) term.found ∙ term.typed
 
   -- types stay
   abbrev Keeps : TypeTerm → Type 0
@@ -99,7 +96,7 @@ module _ (Q : Query) (U : Schema) (blocks : List Block) (query : IsQuery Q) (sou
       let edge = followed_some (slice_get Q.target.attributes a) e type last in
       let fit : Fits Q Here (comps t) edge.0.from = fits t edge.0.from (led ∙ ap (λ n. Some n) (sym edge.2)) in
       ap (type_of Q.source Here.generators) (fold-Att TypeTerm (translated_step Q W u) a t)
-      ∙ put_type_sorted Q Here.generators (comps t) edge.0.from fit.stand (attribute_term Q a) edge.0.to (attribute_typed a edge.0 edge.1)
+      ∙ put_type_sorted Q Here.generators (comps t) edge.0.from fit.stand (attribute_term Q a) edge.0.to (attribute_typed Q query a edge.0 edge.1)
       ∙ ap (λ n. Some n) edge.3))
       (λ f ts each type h.
       let f' = applied_type_some (slice_get Q.target.typeside.functions f) (map (type_of Q.target There.generators) ts) type (sym (fold-Fun (Option ℕ) (type_step Q.target There.generators) f ts) ∙ h) in
@@ -169,7 +166,7 @@ module _ (Q : Query) (U : Schema) (blocks : List Block) (query : IsQuery Q) (sou
       let edge = followed_some (slice_get Q.target.attributes n) e type.0 last in
       let fit : Fits Q Here (comps a) edge.0.from = fits a edge.0.from (led ∙ ap (λ m. Some m) (sym edge.2)) in
       Derives-moved Q.source Here _ _ _ _ (ap Typ (sym (fold-Att TypeTerm (translated_step Q W u) n a))) (ap Typ (sym (fold-Att TypeTerm (translated_step Q W u) n b)))
-      (put_type_equal Q Here (comps a) (comps b) edge.0.from fit.stand equal (attribute_term Q n) edge.0.to (attribute_typed n edge.0 edge.1)))
+      (put_type_equal Q Here (comps a) (comps b) edge.0.from fit.stand equal (attribute_term Q n) edge.0.to (attribute_typed Q query n edge.0 edge.1)))
 
   function_same : (f : ℕ) (ts us : List TypeTerm) → EachDerives Q.source Here (map turned ts) (map turned us) → IsGround Q.target There (Typ (Fun f ts)) → AreSame (Typ (Fun f ts)) (Typ (Fun f us))
   function_same f ts us each ground =
@@ -188,38 +185,22 @@ module _ (Q : Query) (U : Schema) (blocks : List Block) (query : IsQuery Q) (sou
 
     put_translated : (t : TypeTerm) (type : ℕ) → type_of Q.target (one_of entity) t ≡ Some type → put_type (comps at) (first.translated Q (variable_terms Q entity) t) ≡ turned (substituted at t)
     put_translated = on_typed Q.target (one_of entity) (λ t. put_type (comps at) (first.translated Q (variable_terms Q entity) t) ≡ turned (substituted at t))
-        (λ n type h. absurd (no_variable n type h))
+        (λ n type h. absurd (no_variable entity n type h))
         (λ c type h. ap (put_type (comps at)) (fold-Const TypeTerm (first.translated_step Q (variable_terms Q entity)) c) ∙ fold-Const TypeTerm (put_type_step (comps at)) c
         ∙ sym (ap turned (fold-Const TypeTerm (substituted_step at) c) ∙ fold-Const TypeTerm (translated_step Q W u) c))
         (λ a t edge is led h.
         option_and_then_some (target_of Q.target.keys t.path) (entity_at (slice_get (one_of entity) t.generator)) edge.from led (λ start begins rest.
-        let path : target_of Q.target.keys t.path entity ≡ Some edge.from = ap (target_of Q.target.keys t.path) (variable_is t.generator start begins) ∙ rest in
+        let path : target_of Q.target.keys t.path entity ≡ Some edge.from = ap (target_of Q.target.keys t.path) (variable_is entity t.generator start begins) ∙ rest in
         let terms = along Q (variable_terms Q entity) t.path in
         let stand = along_stand Q query (generators_at Q entity) t.path (variable_terms Q entity) entity edge.from path (variables_stand Q entity) in
         ap (put_type (comps at)) (fold-Att TypeTerm (first.translated_step Q (variable_terms Q entity)) a t)
-        ∙ put_type-put Q (comps at) (along Q (variable_terms Q entity) t.path) edge.from stand.count (attribute_term Q a) edge.to (attribute_typed a edge is)
+        ∙ put_type-put Q (comps at) (along Q (variable_terms Q entity) t.path) edge.from stand.count (attribute_term Q a) edge.to (attribute_typed Q query a edge is)
         ∙ ap (λ l. put_type l (attribute_term Q a)) (put_path t.path edge.from path)
         ∙ sym (ap turned (fold-Att TypeTerm (substituted_step at) a t) ∙ fold-Att TypeTerm (translated_step Q W u) a (extended at t.path))))
         (λ f ts type h each.
         ap (put_type (comps at)) (fold-Fun TypeTerm (first.translated_step Q (variable_terms Q entity)) f ts) ∙ fold-Fun TypeTerm (put_type_step (comps at)) f (map (first.translated Q (variable_terms Q entity)) ts)
-        ∙ ap (Fun f) (all_same ts each)
+        ∙ ap (Fun f) (each_across (put_type (comps at)) (first.translated Q (variable_terms Q entity)) turned (substituted at) ts each)
         ∙ sym (ap turned (fold-Fun TypeTerm (substituted_step at) f ts) ∙ fold-Fun TypeTerm (translated_step Q W u) f (map (substituted at) ts)))
-      where
-        no_variable : (n type : ℕ) → type_at (slice_get (one_of entity) n) ≡ Some type → ⊥
-        no_variable zero type h = cc
-        no_variable (suc n) type h = cc
-
-        variable_is : (n start : ℕ) → entity_at (slice_get (one_of entity) n) ≡ Some start → entity ≡ start
-        variable_is zero start h = cc
-        variable_is (suc n) start h = cc
-
-        all_same : (ts : List TypeTerm) → Each (λ t. put_type (comps at) (first.translated Q (variable_terms Q entity) t) ≡ turned (substituted at t)) ts
-            → map (put_type (comps at)) (map (first.translated Q (variable_terms Q entity)) ts) ≡ map turned (map (substituted at) ts)
-        all_same [] each = refl
-        all_same (t ∷ ts) each =
-            let one : put_type (comps at) (first.translated Q (variable_terms Q entity) t) ≡ turned (substituted at t) = each.0 in
-            let rest = all_same ts each.1 in
-            λ i. one i ∷ rest i
 
     path_same : (n : ℕ) (e : PathEq) → slice_get Q.target.path_eqs n ≡ Some e → e.entity ≡ entity → AreSame (Ent (extended at e.left)) (Ent (extended at e.right))
     path_same n e is from =

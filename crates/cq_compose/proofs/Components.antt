@@ -50,6 +50,13 @@ mapped_term f constant [] n = sym constant
 mapped_term f constant (x ∷ xs) zero = refl
 mapped_term f constant (x ∷ xs) (suc n) = mapped_term f constant xs n
 
+-- the terms of a foreign key and of an attribute in a block, by their place there
+abbrev terms_in : Option ℕ → Option Block → List EntTerm
+terms_in place b = terms_or_none (option_and_then (λ (block : Block). option_and_then (slice_get block.keys) place) b)
+
+abbrev term_in : Option ℕ → Option Block → TypeTerm
+term_in place b = term_or_constant (option_and_then (λ (block : Block). option_and_then (slice_get block.attributes) place) b)
+
 module _ (Q W : Query) where
   block_at : (u : ℕ) (block : Block) → slice_get W.blocks u ≡ Some block → slice_get (composite Q W).blocks u ≡ Some (composite_block Q W (u, block))
   block_at u block is =
@@ -80,37 +87,28 @@ module _ (Q W : Query) where
   pub assigned_are : (k : ℕ) (edge : Edge) → slice_get W.target.keys k ≡ Some edge → assigned (composite Q W) k ≡ flat_map (term_components Q W edge.from) (assigned W k)
   assigned_are k edge is = at (slice_get W.blocks edge.from) refl
     where
-      number : Option ℕ
-      number = slice_get (places (edge_sources W.target.keys)) k
-
       at_number : (block : Block) (o : Option ℕ)
           → terms_or_none (option_and_then (slice_get (map (flat_map (term_components Q W edge.from)) block.keys)) o)
           ≡ flat_map (term_components Q W edge.from) (terms_or_none (option_and_then (slice_get block.keys) o))
       at_number block None = refl
       at_number block (Some p) = mapped_terms (flat_map (term_components Q W edge.from)) refl block.keys p
 
-      abbrev from_block : Option Block → List EntTerm
-      from_block b = terms_or_none (option_and_then (λ (block : Block). option_and_then (slice_get block.keys) number) b)
-
-      edge_found : (X : Query) → slice_get X.target.keys k ≡ Some edge → X.target ≡ W.target → assigned X k ≡ from_block (slice_get X.blocks edge.from)
+      edge_found : (X : Query) → slice_get X.target.keys k ≡ Some edge → X.target ≡ W.target → assigned X k ≡ terms_in (slice_get (places (edge_sources W.target.keys)) k) (slice_get X.blocks edge.from)
       edge_found X here same =
           ap (λ (e : Option Edge). terms_or_none (option_and_then (λ (e : Edge). option_and_then (λ (block : Block). option_and_then (slice_get block.keys)
           (slice_get (places (edge_sources X.target.keys)) k)) (slice_get X.blocks e.from)) e)) here
           ∙ ap (λ (T : Schema). terms_or_none (option_and_then (λ (block : Block). option_and_then (slice_get block.keys) (slice_get (places (edge_sources T.keys)) k)) (slice_get X.blocks edge.from))) same
 
       at : (o : Option Block) → slice_get W.blocks edge.from ≡ o → assigned (composite Q W) k ≡ flat_map (term_components Q W edge.from) (assigned W k)
-      at None none = edge_found (composite Q W) is refl ∙ ap from_block (no_block edge.from none)
-          ∙ sym (ap (flat_map (term_components Q W edge.from)) (edge_found W is refl ∙ ap from_block none))
-      at (Some block) here = edge_found (composite Q W) is refl ∙ ap from_block (block_at edge.from block here) ∙ at_number block number
-          ∙ sym (ap (flat_map (term_components Q W edge.from)) (edge_found W is refl ∙ ap from_block here))
+      at None none = edge_found (composite Q W) is refl ∙ ap (terms_in (slice_get (places (edge_sources W.target.keys)) k)) (no_block edge.from none)
+          ∙ sym (ap (flat_map (term_components Q W edge.from)) (edge_found W is refl ∙ ap (terms_in (slice_get (places (edge_sources W.target.keys)) k)) none))
+      at (Some block) here = edge_found (composite Q W) is refl ∙ ap (terms_in (slice_get (places (edge_sources W.target.keys)) k)) (block_at edge.from block here) ∙ at_number block (slice_get (places (edge_sources W.target.keys)) k)
+          ∙ sym (ap (flat_map (term_components Q W edge.from)) (edge_found W is refl ∙ ap (terms_in (slice_get (places (edge_sources W.target.keys)) k)) here))
 
   -- the term of an attribute
   pub attribute_are : (a : ℕ) (edge : Edge) → slice_get W.target.attributes a ≡ Some edge → attribute_term (composite Q W) a ≡ translated Q W edge.from (attribute_term W a)
   attribute_are a edge is = at (slice_get W.blocks edge.from) refl
     where
-      number : Option ℕ
-      number = slice_get (places (edge_sources W.target.attributes)) a
-
       constant : translated Q W edge.from (term.Const (Named 0)) ≡ term.Const (Named 0)
       constant = fold-Const TypeTerm (translated_step Q W edge.from) (Named 0)
 
@@ -120,20 +118,17 @@ module _ (Q W : Query) where
       at_number block None = sym constant
       at_number block (Some p) = mapped_term (translated Q W edge.from) constant block.attributes p
 
-      abbrev from_block : Option Block → TypeTerm
-      from_block b = term_or_constant (option_and_then (λ (block : Block). option_and_then (slice_get block.attributes) number) b)
-
-      edge_found : (X : Query) → slice_get X.target.attributes a ≡ Some edge → X.target ≡ W.target → attribute_term X a ≡ from_block (slice_get X.blocks edge.from)
+      edge_found : (X : Query) → slice_get X.target.attributes a ≡ Some edge → X.target ≡ W.target → attribute_term X a ≡ term_in (slice_get (places (edge_sources W.target.attributes)) a) (slice_get X.blocks edge.from)
       edge_found X here same =
           ap (λ (e : Option Edge). term_or_constant (option_and_then (λ (e : Edge). option_and_then (λ (block : Block). option_and_then (slice_get block.attributes)
           (slice_get (places (edge_sources X.target.attributes)) a)) (slice_get X.blocks e.from)) e)) here
           ∙ ap (λ (T : Schema). term_or_constant (option_and_then (λ (block : Block). option_and_then (slice_get block.attributes) (slice_get (places (edge_sources T.attributes)) a)) (slice_get X.blocks edge.from))) same
 
       at : (o : Option Block) → slice_get W.blocks edge.from ≡ o → attribute_term (composite Q W) a ≡ translated Q W edge.from (attribute_term W a)
-      at None none = edge_found (composite Q W) is refl ∙ ap from_block (no_block edge.from none)
-          ∙ sym (ap (translated Q W edge.from) (edge_found W is refl ∙ ap from_block none) ∙ constant)
-      at (Some block) here = edge_found (composite Q W) is refl ∙ ap from_block (block_at edge.from block here) ∙ at_number block number
-          ∙ sym (ap (translated Q W edge.from) (edge_found W is refl ∙ ap from_block here))
+      at None none = edge_found (composite Q W) is refl ∙ ap (term_in (slice_get (places (edge_sources W.target.attributes)) a)) (no_block edge.from none)
+          ∙ sym (ap (translated Q W edge.from) (edge_found W is refl ∙ ap (term_in (slice_get (places (edge_sources W.target.attributes)) a)) none) ∙ constant)
+      at (Some block) here = edge_found (composite Q W) is refl ∙ ap (term_in (slice_get (places (edge_sources W.target.attributes)) a)) (block_at edge.from block here) ∙ at_number block (slice_get (places (edge_sources W.target.attributes)) a)
+          ∙ sym (ap (translated Q W edge.from) (edge_found W is refl ∙ ap (term_in (slice_get (places (edge_sources W.target.attributes)) a)) here))
 
   -- a component's variable is of the component's entity
   component_sorted : (u m e : ℕ) → slice_get (component_entities Q W u) m ≡ Some e → entity_of Q.source (generators_at (composite Q W) u) (alone m) ≡ Some e

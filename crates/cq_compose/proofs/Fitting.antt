@@ -22,7 +22,7 @@ use Rattle.cq_theory.proofs.OnValues.{All_at}
 use Rattle.cq_mapping.proofs.Preserved.{path_derived}
 use Rattle.cq_query.specs.QueryData.{QueryData as Query}
 use Rattle.cq_query.specs.Puts.{term_or_first, put, put_type, put_type_step, put_equation, generators_from}
-use Rattle.cq_query.specs.Translation.{variables_at, tests_at, variable_terms, assigned, along}
+use Rattle.cq_query.specs.Translation.{variables_at, tests_at, variable_terms, assigned, attribute_term, term_or_constant, along}
 use Rattle.cq_query.specs.Duties.{Sound}
 use Rattle.cq_query.specs.IsQuery.{IsQuery}
 use Rattle.cq_query.proofs.Standing.{Stand, generators_at, variable_at, no_type_at, within_length, put_sorted, put_type_sorted, assigned_stand, put_stand}
@@ -76,6 +76,10 @@ module _ (Q : Query) where
       λ i. first i ∷ rest i
 
   module _ (query : IsQuery Q) where
+    -- the term of an attribute has the attribute's type
+    pub attribute_typed : (a : ℕ) (edge : Edge) → slice_get Q.target.attributes a ≡ Some edge → type_of Q.source (generators_at Q edge.from) (attribute_term Q a) ≡ Some edge.to
+    attribute_typed a edge is = let term = query.attributes a edge is in ap (λ o. type_of Q.source (generators_at Q edge.from) (term_or_constant o)) term.found ∙ term.typed
+
     -- terms put into what stands at the end of a path
     pub put-along : (terms : List EntTerm) (path : List ℕ) (ts : List EntTerm) (entity target : ℕ) → target_of Q.target.keys path entity ≡ Some target → length ts ≡ length (variables_at Q entity)
         → map (put terms) (along Q ts path) ≡ along Q (map (put terms) ts) path

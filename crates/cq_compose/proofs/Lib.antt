@@ -5,3 +5,5 @@ pub mod Fitting
 pub mod Places
 pub mod Components
 pub mod Carrying
+pub mod Pieces
+pub mod SoundComposites

@@ -1,5 +1,5 @@
 -- Induction over the terms that have a type.
-use Rattle.std.proofs.Common.{ℕ, Bool, true, List, [], ◌∷◌, Option, Some, ◌≡◌, map, refl, sym, ap, ◌∙◌}
+use Rattle.std.proofs.Common.{ℕ, zero, suc, Bool, true, List, [], ◌∷◌, Option, Some, ◌≡◌, map, refl, sym, ap, ◌∙◌}
 use Rattle.std.specs.Prelude.{slice_get}
 use Rattle.std.proofs.lemmas.Option.{option_and_then_some}
 use Rattle.cq_theory.specs.SchemaData.{SchemaData as Schema}
@@ -10,10 +10,20 @@ use Rattle.cq_theory.specs.declared.term.EntTerm.{EntTerm}
 use Rattle.cq_theory.specs.declared.term.TypeTerm.{TypeTerm}
 use Rattle.cq_theory.specs.declared.term.TypeTerm.TheVariants.{Gen, Const, Att, Fun}
 use Rattle.cq_theory.specs.declared.term.Term.TheVariants.{Typ}
-use Rattle.cq_theory.specs.Sorts.{Generators, followed, type_at, entity_of, is_type, have_types, type_of, type_step}
+use Rattle.cq_theory.specs.Schema.{one_of}
+use Rattle.cq_theory.specs.Sorts.{Generators, followed, entity_at, type_at, entity_of, is_type, have_types, type_of, type_step}
 use Rattle.cq_theory.specs.Derivation.{Derives, EachDerives}
 use Rattle.cq_theory.proofs.TypeTerms.{fold-Gen, fold-Att, fold-Fun, Each, on_terms}
 use Rattle.cq_theory.proofs.Sound.{followed_some, both, is_type_some, applied_type_some}
+
+-- the one variable of an equation is of its entity, and of no type
+pub no_variable : (e n type : ℕ) → type_at (slice_get (one_of e) n) ≡ Some type → ⊥
+no_variable e zero type h = cc
+no_variable e (suc n) type h = cc
+
+pub variable_is : (e n start : ℕ) → entity_at (slice_get (one_of e) n) ≡ Some start → e ≡ start
+variable_is e zero start h = cc
+variable_is e (suc n) start h = cc
 
 module _ (S : Schema) (G : Generators) (R : TypeTerm → Type 0)
     (on_gen : (n type : ℕ) → type_at (slice_get G n) ≡ Some type → R (Gen n))
