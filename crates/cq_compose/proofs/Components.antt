@@ -79,7 +79,7 @@ module _ (Q W : Query) where
     where
       at : (o : Option Block) → slice_get W.blocks u ≡ o → tests_at (composite Q W) u ≡ composite_tests Q W u
       at None is = ap tests_in (no_block u is)
-          ∙ sym (ap (λ o. flat_map (λ (y : ℕ × Name × ℕ). map (put_equation (components Q W u y.0)) (tests_at Q y.1.1)) (enumerate_from 0 (variables_in o))
+          ∙ sym (ap (λ o. flat_map (λ (y : ℕ × (Name × ℕ)). map (put_equation (components Q W u y.0)) (tests_at Q y.1.1)) (enumerate_from 0 (variables_in o))
           ++ flat_map (translated_test Q W u) (tests_in o)) is)
       at (Some block) is = ap tests_in (block_at u block is)
 
@@ -148,7 +148,7 @@ module _ (Q W : Query) where
   component_stand u y v is = record {
     count = length-map (range_with_len (first_of Q W u y) (width Q W v)) alone ∙ length-range_with_len (first_of Q W u y) (width Q W v);
     each = λ n t x at at'.
-        let same : alone (first_of Q W u y + n) ≡ t = alone_at (first_of Q W u y) (width Q W v) n t at in
+        let same : alone (first_of Q W u y + n) ≡ t = alone_at Q (first_of Q W u y) (width Q W v) n t at in
         let entities : Name × ℕ → List ℕ = λ (w : Name × ℕ). map (λ (z : Name × ℕ). z.1) (variables_at Q w.1) in
         let there : slice_get (component_entities Q W u) (first_of Q W u y + n) ≡ Some x.1 =
         flat_at (λ (w : Name × ℕ). map (λ (z : Name × ℕ). z.1) (variables_at Q w.1)) (width Q W) (variables_at W u) (variables_at W u)
@@ -168,16 +168,16 @@ module _ (Q W : Query) where
       let number : slice_get (enumerate_from 0 (variables_at W u)) y ≡ Some (y, v) = enumerated 0 (variables_at W u) y v is ∙ ap (λ m. Some (m, v)) here in
       subst (IsIn (put_equation (components Q W u y) e)) (sym (tests_are u))
       (in_front (put_equation (components Q W u y) e)
-      (flat_map (λ (x : ℕ × Name × ℕ). map (put_equation (components Q W u x.0)) (tests_at Q x.1.1)) (enumerate_from 0 (variables_at W u)))
+      (flat_map (λ (x : ℕ × (Name × ℕ)). map (put_equation (components Q W u x.0)) (tests_at Q x.1.1)) (enumerate_from 0 (variables_at W u)))
       (flat_map (translated_test Q W u) (tests_at W u))
-      (in_flat_map (λ (x : ℕ × Name × ℕ). map (put_equation (components Q W u x.0)) (tests_at Q x.1.1)) (y, v) (enumerate_from 0 (variables_at W u)) (put_equation (components Q W u y) e) (y, number)
+      (in_flat_map (λ (x : ℕ × (Name × ℕ)). map (put_equation (components Q W u x.0)) (tests_at Q x.1.1)) (y, v) (enumerate_from 0 (variables_at W u)) (put_equation (components Q W u y) e) (y, number)
       (in_map (put_equation (components Q W u y)) (tests_at Q v.1) n e at)))
 
   -- the equations that a where equation of the second query gives are where equations of the composite
   pub translated_test_in : (u n : ℕ) (e f : Equation) → slice_get (tests_at W u) n ≡ Some e → IsIn f (translated_test Q W u e) → IsIn f (tests_at (composite Q W) u)
   translated_test_in u n e f at is =
       subst (IsIn f) (sym (tests_are u))
-      (in_back f (flat_map (λ (x : ℕ × Name × ℕ). map (put_equation (components Q W u x.0)) (tests_at Q x.1.1)) (enumerate_from 0 (variables_at W u)))
+      (in_back f (flat_map (λ (x : ℕ × (Name × ℕ)). map (put_equation (components Q W u x.0)) (tests_at Q x.1.1)) (enumerate_from 0 (variables_at W u)))
       (flat_map (translated_test Q W u) (tests_at W u))
       (in_flat_map (translated_test Q W u) e (tests_at W u) f (n, at) is))
 

@@ -78,13 +78,13 @@ module _ (Q : Query) (U : Schema) (blocks : List Block) (query : IsQuery Q) (sou
         ∙ ap (Fun f) (each_across (put_type pieces) (translated Q W other) (translated Q W u) (put_type ts) args each)
         ∙ sym (ap (translated Q W u) (fold-Fun TypeTerm (put_type_step ts) f args) ∙ fold-Fun TypeTerm (translated_step Q W u) f (map (put_type ts) args)))
 
-    put_pieces : (as : List EntTerm) → AreSorted W other as → map (put pieces) (flat_map (term_components Q W other) as) ≡ flat_map comps (map (put ts) as)
+    put_pieces : (us : List EntTerm) → AreSorted W other us → map (put pieces) (flat_map (term_components Q W other) us) ≡ flat_map comps (map (put ts) us)
     put_pieces [] h = refl
-    put_pieces (t ∷ as) h =
+    put_pieces (t ∷ us) h =
         let e = h 0 t refl in
         let one : map (put pieces) (term_components Q W other t) ≡ comps (put ts t) = put_components t e.0 e.1 in
-        let rest : map (put pieces) (flat_map (term_components Q W other) as) ≡ flat_map comps (map (put ts) as) = put_pieces as (λ n x at. h (suc n) x at) in
-        map-append (put pieces) (term_components Q W other t) (flat_map (term_components Q W other) as) ∙ (λ i. one i ++ rest i)
+        let rest : map (put pieces) (flat_map (term_components Q W other) us) ≡ flat_map comps (map (put ts) us) = put_pieces us (λ n x at. h (suc n) x at) in
+        map-append (put pieces) (term_components Q W other t) (flat_map (term_components Q W other) us) ∙ (λ i. one i ++ rest i)
 
   module _ (second : IsQuery W) where
     -- what the composite has at the end of a path

@@ -128,9 +128,9 @@ module _ (Q : Query) (U : Schema) (blocks : List Block) (query : IsQuery Q) (sou
 
     tests_met : All_in IsMet (composite_tests Q W edge.to)
     tests_met = all_append IsMet
-        (flat_map (λ (y : ℕ × Name × ℕ). map (put_equation (components Q W edge.to y.0)) (tests_at Q y.1.1)) (enumerate_from 0 (variables_at W edge.to)))
+        (flat_map (λ (y : ℕ × (Name × ℕ)). map (put_equation (components Q W edge.to y.0)) (tests_at Q y.1.1)) (enumerate_from 0 (variables_at W edge.to)))
         (flat_map (translated_test Q W edge.to) (tests_at W edge.to))
-        (all_flat_map IsMet (λ (y : ℕ × Name × ℕ). map (put_equation (components Q W edge.to y.0)) (tests_at Q y.1.1)) (enumerate_from 0 (variables_at W edge.to)) (λ n y at.
+        (all_flat_map IsMet (λ (y : ℕ × (Name × ℕ)). map (put_equation (components Q W edge.to y.0)) (tests_at Q y.1.1)) (enumerate_from 0 (variables_at W edge.to)) (λ n y at.
         let from = from_enumerated 0 (variables_at W edge.to) n y at in
         all_mapped IsMet (put_equation (components Q W edge.to y.0)) (tests_at Q y.1.1)
         (component_met y.0 y.1 (ap (slice_get (variables_at W edge.to)) (from.1 ∙ none_before n) ∙ from.0))))
