@@ -7,3 +7,5 @@ pub mod Components
 pub mod Carrying
 pub mod Pieces
 pub mod SoundComposites
+pub mod Filtered
+pub mod Tuples
