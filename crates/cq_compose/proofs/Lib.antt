@@ -9,3 +9,4 @@ pub mod Pieces
 pub mod SoundComposites
 pub mod Filtered
 pub mod Tuples
+pub mod Landing
