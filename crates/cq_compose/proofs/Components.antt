@@ -22,6 +22,8 @@ use Rattle.cq_theory.specs.Groups.{places, edge_sources}
 use Rattle.cq_theory.specs.Sorts.{target_of, entity_at, entity_of}
 use Rattle.cq_theory.specs.Derivation.{Derives, left_of, right_of}
 use Rattle.cq_theory.proofs.Every.{enumerated}
+use Rattle.cq_theory.proofs.OnValues.{All_at}
+use Rattle.cq_theory.specs.Presentation.{IsSort}
 use Rattle.cq_theory.proofs.TypeTerms.{fold-Const}
 use Rattle.cq_blocks.specs.declared.block.Block.{Block}
 use Rattle.cq_query.specs.QueryData.{QueryData as Query}
@@ -31,7 +33,7 @@ use Rattle.cq_query.specs.Duties.{frozen, Sound}
 use Rattle.cq_query.specs.IsQuery.{IsQuery}
 use Rattle.cq_query.proofs.Answering.{IsIn, in_front, in_back}
 use Rattle.cq_query.proofs.Holding.{in_map, in_flat_map}
-use Rattle.cq_query.proofs.Standing.{Stand, generators_at, variable_at, alone_at}
+use Rattle.cq_query.proofs.Standing.{Stand, generators_at, variable_at, alone_at, along_stand}
 use Rattle.cq_compose.specs.Composite.{numbered, width, first_of, components_of, components, term_components, translated, translated_step, translated_test, component_entities, composite_tests, composite_block, composite}
 use Rattle.cq_compose.proofs.Putting.{get_mapped, put-left, put-right, put_term, Fits}
 use Rattle.cq_compose.proofs.Equals.{Derives-moved, Derives-given}
@@ -161,7 +163,7 @@ module _ (Q W : Query) where
       same_width vs i a b left right = let same : a ≡ b = cc in length-map (variables_at Q a.1) (λ (z : Name × ℕ). z.1) ∙ ap (width Q W) same
 
   -- the where equations of the first query on a variable's components are where equations of the composite
-  component_test : (u y n : ℕ) (v : Name × ℕ) (e : Equation) → slice_get (variables_at W u) y ≡ Some v → slice_get (tests_at Q v.1) n ≡ Some e
+  pub component_test : (u y n : ℕ) (v : Name × ℕ) (e : Equation) → slice_get (variables_at W u) y ≡ Some v → slice_get (tests_at Q v.1) n ≡ Some e
       → IsIn (put_equation (components Q W u y) e) (tests_at (composite Q W) u)
   component_test u y n v e is at =
       let here : 0 + y ≡ y = omega arith in
@@ -189,20 +191,38 @@ module _ (Q W : Query) where
         (Derives-given Q.source (frozen (composite Q W) u) (put_equation (components Q W u y) e) (component_test u y n v e is at));
   }
 
-  -- the variables of a block of the composite are the components of all variables of the second query's block
-  pub variable_components : (u : ℕ) → variable_terms (composite Q W) u ≡ flat_map (term_components Q W u) (variable_terms W u)
-  variable_components u =
-      let count : length (variables_at (composite Q W) u) ≡ sum (map (width Q W) (variables_at W u)) =
+  -- a block of the composite has as many variables as components
+  pub variable_count_is : (u : ℕ) → length (variables_at (composite Q W) u) ≡ sum (map (width Q W) (variables_at W u))
+  variable_count_is u =
       ap length (variables_are u) ∙ length-map (enumerate_from 1 (component_entities Q W u)) (λ (p : ℕ × ℕ). let v : Name × ℕ = (codes "x" ++ decimal p.0, p.1) in v)
       ∙ length-enumerated 1 (component_entities Q W u)
-      ∙ length-flat {V = Name × ℕ} (λ (w : Name × ℕ). map (λ (z : Name × ℕ). z.1) (variables_at Q w.1)) (width Q W) (variables_at W u) (width Q W) (λ w. length-map (variables_at Q w.1) (λ (z : Name × ℕ). z.1)) in
-      ap (generators_from 0) count
+      ∙ length-flat {V = Name × ℕ} (λ (w : Name × ℕ). map (λ (z : Name × ℕ). z.1) (variables_at Q w.1)) (width Q W) (variables_at W u) (width Q W) (λ w. length-map (variables_at Q w.1) (λ (z : Name × ℕ). z.1))
+
+  -- they are the components of all variables of the second query's block
+  pub variable_components : (u : ℕ) → variable_terms (composite Q W) u ≡ flat_map (term_components Q W u) (variable_terms W u)
+  variable_components u =
+      ap (generators_from 0) (variable_count_is u)
       ∙ sym (flat_map-map (term_components Q W u) alone (range_with_len 0 (length (variables_at W u)))
       ∙ all_rows alone (width Q W) (components Q W u) (variables_at W u) (λ y v at. components_are u y v at))
 
 -- a query from the target of the first to a schema
 abbrev pub second_query : Query → Schema → List Block → Query
 second_query Q U blocks = record { source = Q.target; target = U; blocks = blocks }
+
+module _ (Q : Query) (U : Schema) (blocks : List Block) (second : IsQuery (second_query Q U blocks)) where
+  -- a variable is of an entity of the first query's target
+  pub variable_within : (u y : ℕ) (v : Name × ℕ) → u < length U.entities → slice_get (variables_at (second_query Q U blocks) u) y ≡ Some v → v.1 < length Q.target.entities
+  variable_within u y v within at =
+      let generator = get_mapped (λ (w : Name × ℕ). let g : Name × Sort = (w.0, Entity w.1) in g) (variables_at (second_query Q U blocks) u) y v at in
+      All_at (λ (g : Name × Sort). IsSort Q.target g.1) (generators_at (second_query Q U blocks) u) y (v.0, Entity v.1) (second.each_frozen u within).generators generator
+
+-- the components of a term stand for a row
+pub term_stand : (Q : Query) (U : Schema) (blocks : List Block) → IsQuery Q → (u : ℕ) (t : EntTerm) (e : ℕ) → entity_of Q.target (generators_at (second_query Q U blocks) u) t ≡ Some e
+    → Stand Q (generators_at (composite Q (second_query Q U blocks)) u) (term_components Q (second_query Q U blocks) u t) e
+term_stand Q U blocks query u t e h = option_and_then_some (target_of Q.target.keys t.path) (entity_at (slice_get (generators_at (second_query Q U blocks) u) t.generator)) e h (λ start first rest.
+    let v = variable_at (second_query Q U blocks) u t.generator start first in
+    along_stand Q query (generators_at (composite Q (second_query Q U blocks)) u) t.path (components Q (second_query Q U blocks) u t.generator) start e rest
+    (subst (Stand Q (generators_at (composite Q (second_query Q U blocks)) u) (components Q (second_query Q U blocks) u t.generator)) v.2 (component_fits Q (second_query Q U blocks) u t.generator v.0 v.1).stand))
 
 module _ (Q : Query) (U : Schema) (blocks : List Block) (query : IsQuery Q) (sound : Sound Q) where
   abbrev Second : Query

@@ -10,3 +10,4 @@ pub mod SoundComposites
 pub mod Filtered
 pub mod Tuples
 pub mod Landing
+pub mod JoinedRows

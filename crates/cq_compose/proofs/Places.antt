@@ -1,10 +1,12 @@
 -- Where the members of lists stand that are put one behind another.
-use Rattle.std.proofs.Common.{ℕ, zero, suc, List, [], ◌∷◌, ◌++◌, Some, None, ◌≡◌, ◌+◌, map, length, take, refl, sym, ap, ◌∙◌, append_assoc, arith}
+use Rattle.std.proofs.Common.{ℕ, zero, suc, List, [], ◌∷◌, ◌++◌, Some, None, ◌≡◌, ◌+◌, map, length, take, refl, sym, ap, subst, ◌∙◌, append_assoc, arith}
 use Rattle.std.specs.Prelude.{slice_get, sum}
 use Rattle.std.specs.List.{flat_map, enumerate_from, range_with_len}
 use Rattle.std.proofs.Math.Seq.{take-append_seam}
 use Rattle.std.proofs.lemmas.List.{map-append, length-append}
 use Rattle.std.proofs.lemmas.List.Sums.{sum_by-cons, sum_by-append}
+use Rattle.cq_theory.proofs.Faults.{made_of}
+use Rattle.cq_query.proofs.SortedDuties.{All_in}
 
 pub get_front : {X : Type 0} (xs ys : List X) (n : ℕ) (x : X) → slice_get xs n ≡ Some x → slice_get (xs ++ ys) n ≡ Some x
 get_front [] ys n x h = cc
@@ -28,6 +30,16 @@ no_enumerated s (x ∷ xs) (suc n) h = no_enumerated (s + 1) xs n h
 pub length-enumerated : {X : Type 0} (s : ℕ) (xs : List X) → length (enumerate_from s xs) ≡ length xs
 length-enumerated s [] = refl
 length-enumerated s (x ∷ xs) = ap suc (length-enumerated (s + 1) xs)
+
+-- all members of a list that is made of one
+pub all_mapped : {X Y : Type 0} (R : Y → Type 0) (f : X → Y) (xs : List X) → All_in (λ x. R (f x)) xs → All_in R (map f xs)
+all_mapped R f xs h n y is =
+    let made = made_of f xs n y is in
+    subst R (sym made.2) (h n made.0 made.1)
+
+pub one_member : {X : Type 0} (R : X → Type 0) (x : X) → R x → All_in R (x ∷ [])
+one_member R x h zero y is = let same : x ≡ y = cc in subst R same h
+one_member R x h (suc n) y is = cc
 
 module _ {X V Y : Type 0} (f : X → List Y) (width : V → ℕ) where
   -- What the member at place y gives stands behind what the members before it give, whose numbers are the widths of other members.

@@ -17,11 +17,9 @@ use Rattle.cq_theory.specs.declared.term.TypeTerm.{TypeTerm}
 use Rattle.cq_theory.specs.declared.term.Term.TheVariants.{Ent, Typ}
 use Rattle.cq_theory.specs.Groups.{positions}
 use Rattle.cq_theory.specs.Schema.{one_of}
-use Rattle.cq_theory.specs.Presentation.{IsSort}
 use Rattle.cq_theory.specs.Sorts.{target_of, entity_of, type_of}
 use Rattle.cq_theory.specs.Derivation.{Derives, left_of, right_of}
 use Rattle.cq_theory.proofs.Every.{from_enumerated}
-use Rattle.cq_theory.proofs.Faults.{made_of}
 use Rattle.cq_theory.proofs.OnValues.{All_at}
 use Rattle.cq_theory.proofs.ResolvedSorts.{map_some}
 use Rattle.cq_blocks.specs.declared.block.Block.{Block}
@@ -36,22 +34,13 @@ use Rattle.cq_query.proofs.Holding.{in_map, key_duty_in, path_duty_in, observati
 use Rattle.cq_query.proofs.SortedDuties.{All_in, all_append, all_flat_map, from_position}
 use Rattle.cq_query.proofs.Standing.{Stand, generators_at, within_length, assigned_stand, along_stand, variables_stand}
 use Rattle.cq_compose.specs.Composite.{components, term_components, translated, translated_test, composite_tests, composite}
-use Rattle.cq_compose.proofs.Putting.{get_mapped, put_term, put-left, put-right, put_term-put, Fits}
+use Rattle.cq_compose.proofs.Putting.{put_term, put-left, put-right, put_term-put, Fits}
 use Rattle.cq_compose.proofs.Equals.{AreEqual, Derives-moved, equal_from, equal_each, equal_flat}
 use Rattle.cq_compose.proofs.Fitting.{AreSorted}
-use Rattle.cq_compose.proofs.Components.{tests_are, assigned_are, component_fits, variable_components, second_query, term_fits}
+use Rattle.cq_compose.proofs.Places.{all_mapped, one_member}
+use Rattle.cq_compose.proofs.Components.{tests_are, assigned_are, component_fits, variable_components, variable_within, second_query, term_fits}
 use Rattle.cq_compose.proofs.Carrying.{AreSame, Derives-carried}
 use Rattle.cq_compose.proofs.Pieces.{piece_at, put_components, put_turned, along_pieces, turned_translated}
-
--- all members of a list that is made of one
-all_mapped : {X Y : Type 0} (R : Y → Type 0) (f : X → Y) (xs : List X) → All_in (λ x. R (f x)) xs → All_in R (map f xs)
-all_mapped R f xs h n y is =
-    let made = made_of f xs n y is in
-    subst R (sym made.2) (h n made.0 made.1)
-
-one_member : {X : Type 0} (R : X → Type 0) (x : X) → R x → All_in R (x ∷ [])
-one_member R x h zero y is = let same : x ≡ y = cc in subst R same h
-one_member R x h (suc n) y is = cc
 
 module _ (Q : Query) (U : Schema) (blocks : List Block) (query : IsQuery Q) (sound : Sound Q) (second : IsQuery (second_query Q U blocks)) (second_sound : Sound (second_query Q U blocks)) where
   abbrev W : Query
@@ -77,16 +66,10 @@ module _ (Q : Query) (U : Schema) (blocks : List Block) (query : IsQuery Q) (sou
     abbrev IsMet : Equation → Type 0
     IsMet e = IsDerived edge.from (put_equation pieces e)
 
-    -- a variable is of an entity of the first query's target
-    variable_within : (y : ℕ) (v : Name × ℕ) → slice_get (variables_at W edge.to) y ≡ Some v → v.1 < length Q.target.entities
-    variable_within y v at =
-        let generator = get_mapped (λ (w : Name × ℕ). let g : Name × Sort = (w.0, Entity w.1) in g) (variables_at W edge.to) y v at in
-        All_at (λ (g : Name × Sort). IsSort Q.target g.1) (generators_at W edge.to) y (v.0, Entity v.1) (second.each_frozen edge.to ends.1).generators generator
-
     component_met : (y : ℕ) (v : Name × ℕ) → slice_get (variables_at W edge.to) y ≡ Some v → All_in (λ e. IsMet (put_equation (components Q W edge.to y) e)) (tests_at Q v.1)
     component_met y v is_v n e at =
         let a = within_length (assigned W k) (variables_at W edge.to) y v is_v key.count in
-        let test = (query.each_frozen v.1 (variable_within y v is_v)).equations n e at in
+        let test = (query.each_frozen v.1 (variable_within Q U blocks second edge.to y v ends.1 is_v)).equations n e at in
         let count = (component_fits Q W edge.to y v is_v).stand.count in
         let there : map (put pieces) (components Q W edge.to y) ≡ term_components Q W edge.from a.0 = piece_at Q U blocks query sound edge.from edge.to (assigned W k) key y v a.0 is_v a.1 in
         let fit : Fits Q (frozen C edge.from) (term_components Q W edge.from a.0) v.1 = term_fits Q U blocks query sound edge.from a.0 v.1 (key.each y a.0 v a.1 is_v) in

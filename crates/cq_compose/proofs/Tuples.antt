@@ -80,6 +80,20 @@ paired [] rows = []
 paired (v ∷ vs) [] = []
 paired (v ∷ vs) (row ∷ rows) = (v.1, row) ∷ paired vs rows
 
+pub paired_at : (vs : List (Name × ℕ)) (rows : List ℕ) (y : ℕ) (v : Name × ℕ) (row : ℕ) → slice_get vs y ≡ Some v → slice_get rows y ≡ Some row → slice_get (paired vs rows) y ≡ Some (v.1, row)
+paired_at [] rows y v row h k = cc
+paired_at (w ∷ vs) [] y v row h k = cc
+paired_at (w ∷ vs) (r ∷ rows) zero v row h k =
+    let left : w ≡ v = cc in
+    let right : r ≡ row = cc in
+    λ i. Some ((left i).1, right i)
+paired_at (w ∷ vs) (r ∷ rows) (suc y) v row h k = paired_at vs rows y v row h k
+
+pub paired_length : (vs : List (Name × ℕ)) (rows : List ℕ) → length rows ≡ length vs → length (paired vs rows) ≡ length vs
+paired_length [] rows same = refl
+paired_length (v ∷ vs) [] same = absurd (omega arith)
+paired_length (v ∷ vs) (r ∷ rows) same = ap suc (paired_length vs rows (omega arith))
+
 abbrev pub answer_of : (ℕ → List (List ℕ)) → ℕ × ℕ → List ℕ
 answer_of answers p = slice_index_or (answers p.0) p.1 []
 
