@@ -11,3 +11,4 @@ pub mod Filtered
 pub mod Tuples
 pub mod Landing
 pub mod JoinedRows
+pub mod AnswersInTurn
