@@ -29,21 +29,13 @@ use Rattle.cq_query.proofs.Standing.{generators_at, assigned_stand}
 use Rattle.cq_compose.specs.Composite.{numbered, width, first_of, components, term_components, translated, translated_test, component_entities, composite_tests, composite}
 use Rattle.cq_compose.proofs.Putting.{get_mapped}
 use Rattle.cq_compose.proofs.Fitting.{attribute_typed}
-use Rattle.cq_compose.proofs.Places.{all_mapped}
+use Rattle.cq_compose.proofs.Concatenated.{all_mapped, same_below}
 use Rattle.cq_compose.proofs.Components.{variables_are, tests_are, assigned_are, attribute_are, components_are, component_fits, component_test, translated_test_in, variable_count_is, second_query, variable_within}
 use Rattle.cq_compose.proofs.Filtered.{filtered_both, filtered_mapped, filtered_alike}
 use Rattle.cq_compose.proofs.Tuples.{tuples_are, joined, AreAllMet, all_met, met_at, met_from, part_fits}
 use Rattle.cq_compose.proofs.Landing.{part_rows, HoldsAt, holds_put, answers_at, count_is}
+use Rattle.cq_compose.proofs.Evaluations.{one_evaluation}
 use Rattle.cq_compose.proofs.JoinedRows.{all_of, term_values, list_rows, TestsHold, tests_hold, tests_back}
-
--- functions that agree on the numbers in range
-same_below : {X : Type 0} (f g : ℕ → X) (s n : ℕ) → ((k : ℕ) → k < s + n → f k ≡ g k) → map f (range_with_len s n) ≡ map g (range_with_len s n)
-same_below f g s zero h = refl
-same_below f g s (suc n) h =
-    let inside : s < s + suc n = omega arith in
-    let first : f s ≡ g s = h s inside in
-    let rest = same_below f g (s + 1) n (λ k within. h k (omega arith)) in
-    λ i. first i ∷ rest i
 
 -- the counts of the variables of a composite's block
 module _ (Q : Query) (M : Tables) where
@@ -224,3 +216,16 @@ composite_answers Q W query second same M N R eval next =
     composite_eval Q W.target W.blocks query
     (subst (λ (T : Schema). IsQuery (record { source = T; target = W.target; blocks = W.blocks })) (sym same) second) M N eval R
     (subst (λ (T : Schema). IsEval (record { source = T; target = W.target; blocks = W.blocks }) N R) (sym same) next)
+
+-- and no other tables are
+pub composite_alone : (Q W : Query) → IsQuery Q → IsQuery W → Q.target ≡ W.source → (M N R X : Tables) → IsEval Q M N → IsEval W N R → IsEval (composite Q W) M X → X ≡ R
+composite_alone Q W query second same M N R X eval next given =
+    one_evaluation (composite Q W) second.target M X R given (composite_answers Q W query second same M N R eval next)
+
+-- three queries in a row
+pub composite_thrice : (Q W V : Query) → IsQuery Q → IsQuery W → IsQuery V → IsQuery (composite Q W) → IsQuery (composite W V) → Q.target ≡ W.source → W.target ≡ V.source
+    → (M N R X : Tables) → IsEval Q M N → IsEval W N R → IsEval V R X → IsEval (composite (composite Q W) V) M X × IsEval (composite Q (composite W V)) M X
+composite_thrice Q W V first second third front back same same' M N R X a b c = (
+  composite_answers (composite Q W) V front third same' M R X (composite_answers Q W first second same M N R a b) c,
+  composite_answers Q (composite W V) first back same M N X a (composite_answers W V second third same' N R X b c),
+)

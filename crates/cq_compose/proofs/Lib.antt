@@ -2,7 +2,7 @@ pub mod Typed
 pub mod Putting
 pub mod Equals
 pub mod Fitting
-pub mod Places
+pub mod Concatenated
 pub mod Components
 pub mod Carrying
 pub mod Pieces
@@ -12,3 +12,4 @@ pub mod Tuples
 pub mod Landing
 pub mod JoinedRows
 pub mod AnswersInTurn
+pub mod Evaluations

@@ -37,7 +37,7 @@ use Rattle.cq_compose.specs.Composite.{components, term_components, translated, 
 use Rattle.cq_compose.proofs.Putting.{put_term, put-left, put-right, put_term-put, Fits}
 use Rattle.cq_compose.proofs.Equals.{AreEqual, Derives-moved, equal_from, equal_each, equal_flat}
 use Rattle.cq_compose.proofs.Fitting.{AreSorted}
-use Rattle.cq_compose.proofs.Places.{all_mapped, one_member}
+use Rattle.cq_compose.proofs.Concatenated.{all_mapped, one_member}
 use Rattle.cq_compose.proofs.Components.{tests_are, assigned_are, component_fits, variable_components, variable_within, second_query, term_fits}
 use Rattle.cq_compose.proofs.Carrying.{AreSame, Derives-carried}
 use Rattle.cq_compose.proofs.Pieces.{piece_at, put_components, put_turned, along_pieces, turned_translated}

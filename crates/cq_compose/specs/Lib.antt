@@ -1,1 +1,2 @@
 pub mod Composite
+pub mod MappingQuery

@@ -1,5 +1,5 @@
 -- Where the members of lists stand that are put one behind another.
-use Rattle.std.proofs.Common.{ℕ, zero, suc, List, [], ◌∷◌, ◌++◌, Some, None, ◌≡◌, ◌+◌, map, length, take, refl, sym, ap, subst, ◌∙◌, append_assoc, arith}
+use Rattle.std.proofs.Common.{ℕ, zero, suc, List, [], ◌∷◌, ◌++◌, Some, None, ◌≡◌, ◌<◌, ◌+◌, map, length, take, refl, sym, ap, subst, ◌∙◌, append_assoc, arith}
 use Rattle.std.specs.Prelude.{slice_get, sum}
 use Rattle.std.specs.List.{flat_map, enumerate_from, range_with_len}
 use Rattle.std.proofs.Math.Seq.{take-append_seam}
@@ -65,6 +65,15 @@ module _ {X V Y : Type 0} (f : X → List Y) (width : V → ℕ) where
       let first = h v in
       let all : sum (map width' (v ∷ vs)) ≡ width' v + sum (map width' vs) = sum_by-cons (λ n. n) (width' v) (map width' vs) in
       omega (arith, all, rest, first, length-append (f v) (flat_map f vs))
+
+-- functions that agree on the numbers in range
+pub same_below : {X : Type 0} (f g : ℕ → X) (s n : ℕ) → ((k : ℕ) → k < s + n → f k ≡ g k) → map f (range_with_len s n) ≡ map g (range_with_len s n)
+same_below f g s zero h = refl
+same_below f g s (suc n) h =
+    let inside : s < s + suc n = omega arith in
+    let first : f s ≡ g s = h s inside in
+    let rest = same_below f g (s + 1) n (λ k within. h k (omega arith)) in
+    λ i. first i ∷ rest i
 
 pub range-append : (s a b : ℕ) → range_with_len s (a + b) ≡ range_with_len s a ++ range_with_len (s + a) b
 range-append s zero b =
