@@ -1,13 +1,12 @@
 //! The query of a mapping, which answers what the mapping pulls back.
 ghost use Rattle.std.specs.Prelude.{◌≡◌, ◌<◌, [], ◌∷◌, IfOk, map, length};
-ghost use Rattle.std.specs.List.{enumerate_from};
-ghost use Rattle.cq_theory.specs.declared.term.EntTerm.{EntTerm as EntityTerm};
-ghost use Rattle.cq_theory.specs.Groups.{positions, edge_sources, AreGroups};
-ghost use Rattle.cq_mapping.specs.Images.{key_image, attribute_image};
+ghost use Rattle.cq_theory.specs.Canonical.{below};
+ghost use Rattle.cq_theory.specs.Groups.{edge_sources, AreGroups};
+ghost use Rattle.cq_mapping.specs.Images.{entity_image, key_image, attribute_image};
 ghost use Rattle.cq_compose.specs.MappingQuery.{mapping_query as query_of_mapping, mapping_block, from_variable};
 
 use crate::numbered::number_entities;
-use cq_base::Seq;
+use cq_base::{Seq, number_at};
 use cq_mapping::Mapping;
 use cq_query::{Block, Query};
 use cq_terms::copy_type_term;
@@ -89,48 +88,61 @@ impl Drop for Sources {
     }
 }
 
-/// The block of an entity with this image.
+/// The block of an entity.
 fn build_block(
     alloc: Global,
     mapping: &Mapping,
     sources: &Sources,
     entity: u32,
-    image: u32,
 ) -> Result<Block, AllocError>
     requires attributes { AreGroups (edge_sources mapping.now.source.attributes)
         (length mapping.now.source.entities) sources.now.attributes }
     requires keys { AreGroups (edge_sources mapping.now.source.keys) (length mapping.now.source.entities)
         sources.now.keys }
     requires entity { entity < length mapping.now.source.entities }
-    ensures { IfOk result (λ made. made ≡ mapping_block mapping.now (entity, image)) }
+    ensures { IfOk result (λ made. made ≡ mapping_block mapping.now (entity, entity_image mapping.now entity)) }
 {
+    let image = number_at(mapping.entities.as_slice(), entity as usize);
     let vars = number_entities(alloc, &[image])?;
-    let attributes = images_of_attributes(alloc, mapping, sources.attributes.of(entity))?;
-    let keys = assignments(alloc, mapping, sources.keys.of(entity))?;
+    let from_here = sources.attributes.of(entity);
+    let attributes = images_of_attributes(alloc, mapping, from_here)?;
+    let away = sources.keys.of(entity);
+    let keys = assignments(alloc, mapping, away)?;
+    let tests = Vec::new(alloc);
     Ok(Block {
         vars: Seq::from_vec(vars),
-        tests: Seq::from_vec(Vec::new(alloc)),
+        tests: Seq::from_vec(tests),
         attributes: Seq::from_vec(attributes),
         keys: Seq::from_vec(keys),
     })
 }
 
 /// The blocks of all entities.
+#[tactic(auto, using(cq_mapping::proofs::Ranges::map_below_more))]
 fn build_blocks(alloc: Global, mapping: &Mapping, sources: &Sources) -> Result<Vec<Block>, AllocError>
     requires attributes { AreGroups (edge_sources mapping.now.source.attributes)
         (length mapping.now.source.entities) sources.now.attributes }
     requires keys { AreGroups (edge_sources mapping.now.source.keys) (length mapping.now.source.entities)
         sources.now.keys }
     ensures { IfOk result (λ made. made.items
-        ≡ map (mapping_block mapping.now) (enumerate_from 0 mapping.now.entities)) }
+        ≡ map (λ e. mapping_block mapping.now (e, entity_image mapping.now e))
+        (below (length mapping.now.source.entities))) }
 {
-    mapping.is_well_sorted();
-    let images = mapping.entities.as_slice();
-    let mut made = Vec::with_capacity(alloc, images.len())?;
-    for (entity, image) in images.iter().enumerate() {
-        made.push(build_block(alloc, mapping, sources, entity as u32, *image)?)?;
+    let count = entity_count(mapping);
+    let mut made = Vec::new(alloc);
+    for entity in 0..count {
+        made.push(build_block(alloc, mapping, sources, entity)?)?;
     }
     Ok(made)
+}
+
+/// How many entities a mapping's source has.
+fn entity_count(mapping: &Mapping) -> u32
+    ensures { result ≡ length mapping.now.source.entities }
+{
+    let source = &mapping.source;
+    source.is_well_sorted();
+    source.entities.len() as u32
 }
 
 /// The query of a mapping, from the mapping's target to its source: for each entity one variable `x1` of its image, for
@@ -140,10 +152,9 @@ pub fn mapping_query(alloc: Global, mapping: &Mapping) -> Result<Query, AllocErr
     ensures query { IfOk result (λ made. made ≡ query_of_mapping mapping.now) }
 {
     mapping.is_well_sorted();
-    let sources = Sources {
-        attributes: attributes_by_entity(alloc, &mapping.source)?,
-        keys: keys_by_entity(alloc, &mapping.source)?,
-    };
+    let attributes = attributes_by_entity(alloc, &mapping.source)?;
+    let keys = keys_by_entity(alloc, &mapping.source)?;
+    let sources = Sources { attributes, keys };
     let blocks = build_blocks(alloc, mapping, &sources)?;
     let source = mapping.target.clone()?;
     let target = mapping.source.clone()?;
