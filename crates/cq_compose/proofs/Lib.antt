@@ -1,3 +1,11 @@
+pub mod Placing
+pub mod Variable
+pub mod Pulled
+pub mod Numbered
+pub mod MadeBlocks
+pub mod Places
+pub mod Pairwise
+pub mod Composed
 pub mod Typed
 pub mod Putting
 pub mod Equals
@@ -10,6 +18,6 @@ pub mod SoundComposites
 pub mod Filtered
 pub mod Tuples
 pub mod Landing
+pub mod Evaluations
 pub mod JoinedRows
 pub mod AnswersInTurn
-pub mod Evaluations

@@ -1,6 +1,11 @@
-//! Composed queries: one query that asks what a second query asks of the answers of a first, and mappings as queries.
+//! Composed queries, and mappings as queries.
 //!
-//! `laws` says what follows for the composite of two queries.
+//! `of_mapping` has the query that answers what a mapping pulls back, and `numbered` the names of a block's variables.
+//! `laws` says what follows for the query of a mapping, and for the composite of two queries.
 #![tactic(auto)]
 
 pub mod laws;
+mod numbered;
+pub mod of_mapping;
+
+pub use of_mapping::mapping_query;
