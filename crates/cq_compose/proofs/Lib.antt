@@ -1,7 +1,7 @@
 pub mod Placing
 pub mod Variable
 pub mod Pulled
-pub mod Numbered
+pub mod Numbering
 pub mod MadeBlocks
 pub mod Places
 pub mod Pairwise
@@ -21,3 +21,5 @@ pub mod Landing
 pub mod Evaluations
 pub mod JoinedRows
 pub mod AnswersInTurn
+pub mod AllDuties
+pub mod SoundMappings

@@ -40,6 +40,7 @@ use Rattle.cq_compose.proofs.Fitting.{AreSorted}
 use Rattle.cq_compose.proofs.Concatenated.{all_mapped, one_member}
 use Rattle.cq_compose.proofs.Components.{tests_are, assigned_are, component_fits, variable_components, variable_within, second_query, term_fits}
 use Rattle.cq_compose.proofs.Carrying.{AreSame, Derives-carried}
+use Rattle.cq_compose.proofs.AllDuties.{all_duties}
 use Rattle.cq_compose.proofs.Pieces.{piece_at, put_components, put_turned, along_pieces, turned_translated}
 
 module _ (Q : Query) (U : Schema) (blocks : List Block) (query : IsQuery Q) (sound : Sound Q) (second : IsQuery (second_query Q U blocks)) (second_sound : Sound (second_query Q U blocks)) where
@@ -160,36 +161,8 @@ module _ (Q : Query) (U : Schema) (blocks : List Block) (query : IsQuery Q) (sou
       one_member (IsDerived e.entity) (equation.Typ (first.translated C (variable_terms C e.entity) e.left) (first.translated C (variable_terms C e.entity) e.right))
       (Derives-moved Q.source (frozen C e.entity) _ _ _ _ (ap Typ (side e.left sides.left)) (ap Typ (side e.right sides.right)) derived)
 
-  duties_derived : (u : ℕ) → All_in (IsDerived u) (duties C u)
-  duties_derived u = all_append (IsDerived u)
-      (flat_map (λ k. key_duties C k (slice_get U.keys k)) (positions (key_sources C) u) ++ flat_map (λ n. path_duties C u (slice_get U.path_eqs n)) (positions (path_sources C) u))
-      (flat_map (λ n. observation_duties C u (slice_get U.obs_eqs n)) (positions (observation_sources C) u))
-      (all_append (IsDerived u)
-      (flat_map (λ k. key_duties C k (slice_get U.keys k)) (positions (key_sources C) u)) (flat_map (λ n. path_duties C u (slice_get U.path_eqs n)) (positions (path_sources C) u))
-      (all_flat_map (IsDerived u) (λ k. key_duties C k (slice_get U.keys k)) (positions (key_sources C) u) all_keys)
-      (all_flat_map (IsDerived u) (λ n. path_duties C u (slice_get U.path_eqs n)) (positions (path_sources C) u) all_paths))
-      (all_flat_map (IsDerived u) (λ n. observation_duties C u (slice_get U.obs_eqs n)) (positions (observation_sources C) u) all_observations)
-    where
-      all_keys : All_in (λ k. All_in (IsDerived u) (key_duties C k (slice_get U.keys k))) (positions (key_sources C) u)
-      all_keys r k is =
-          let edge = from_position (λ (x : Edge). x.from) U.keys u r k is in
-          subst (λ (o : Option Edge). All_in (IsDerived u) (key_duties C k o)) (sym edge.1)
-          (subst (λ m. All_in (IsDerived m) (key_duties C k (Some edge.0))) edge.2 (key_derived k edge.0 edge.1))
-
-      all_paths : All_in (λ n. All_in (IsDerived u) (path_duties C u (slice_get U.path_eqs n))) (positions (path_sources C) u)
-      all_paths r n is =
-          let e = from_position (λ (x : PathEq). x.entity) U.path_eqs u r n is in
-          subst (λ (o : Option PathEq). All_in (IsDerived u) (path_duties C u o)) (sym e.1)
-          (subst (λ m. All_in (IsDerived m) (path_duties C m (Some e.0))) e.2 (path_derived n e.0 e.1))
-
-      all_observations : All_in (λ n. All_in (IsDerived u) (observation_duties C u (slice_get U.obs_eqs n))) (positions (observation_sources C) u)
-      all_observations r n is =
-          let e = from_position (λ (x : ObsEq). x.entity) U.obs_eqs u r n is in
-          subst (λ (o : Option ObsEq). All_in (IsDerived u) (observation_duties C u o)) (sym e.1)
-          (subst (λ m. All_in (IsDerived m) (observation_duties C m (Some e.0))) e.2 (observation_derived n e.0 e.1))
-
   sound_composite : Sound C
-  sound_composite u n e within is = duties_derived u n e is
+  sound_composite u n e within is = all_duties C IsDerived key_derived path_derived observation_derived u n e is
 
 -- the composite of sound queries is sound
 pub composite_sound : (Q W : Query) → IsQuery Q → IsQuery W → Q.target ≡ W.source → Sound Q → Sound W → Sound (composite Q W)
