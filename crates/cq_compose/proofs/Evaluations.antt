@@ -23,7 +23,7 @@ member_at (x ∷ xs) zero h = (x, refl)
 member_at (x ∷ xs) (suc n) h = member_at xs n (omega arith)
 
 -- lists with the same members at the same places
-same_lists : {X : Type 0} (xs ys : List X) → length xs ≡ length ys → ((n : ℕ) (x y : X) → slice_get xs n ≡ Some x → slice_get ys n ≡ Some y → x ≡ y) → xs ≡ ys
+pub same_lists : {X : Type 0} (xs ys : List X) → length xs ≡ length ys → ((n : ℕ) (x y : X) → slice_get xs n ≡ Some x → slice_get ys n ≡ Some y → x ≡ y) → xs ≡ ys
 same_lists [] [] same h = refl
 same_lists [] (y ∷ ys) same h = absurd (omega arith)
 same_lists (x ∷ xs) [] same h = absurd (omega arith)

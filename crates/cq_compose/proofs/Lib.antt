@@ -23,3 +23,4 @@ pub mod JoinedRows
 pub mod AnswersInTurn
 pub mod AllDuties
 pub mod SoundMappings
+pub mod IdentityQueries

@@ -1,11 +1,13 @@
 //! Laws of composites. Each is the contract of a function that does nothing.
 ghost use Rattle.std.specs.Prelude.{◌≡◌};
-ghost use Rattle.cq_theory.specs.Tables.{Tables};
+ghost use Rattle.cq_theory.specs.Tables.{Tables, IsWellFormed, Satisfies};
+ghost use Rattle.cq_mapping.specs.Mapping.{identity_of};
 ghost use Rattle.cq_query.specs.QueryData.{QueryData as Query};
 ghost use Rattle.cq_query.specs.IsQuery.{IsQuery};
 ghost use Rattle.cq_query.specs.Duties.{Sound};
 ghost use Rattle.cq_query.specs.Answers.{IsEval};
 ghost use Rattle.cq_compose.specs.Composite.{composite};
+ghost use Rattle.cq_compose.specs.MappingQuery.{mapping_query};
 
 /// The composite of sound queries is sound.
 pub fn composites_are_sound()
@@ -31,4 +33,12 @@ pub fn composites_are_associative()
     ensures { (Q W V : Query) → IsQuery Q → IsQuery W → IsQuery V → IsQuery (composite Q W) → IsQuery (composite W V)
         → Q.target ≡ W.source → W.target ≡ V.source → (M N R X : Tables) → IsEval Q M N → IsEval W N R → IsEval V R X
         → IsEval (composite (composite Q W) V) M X × IsEval (composite Q (composite W V)) M X }
+{}
+
+/// Composed with the query of an identity, before it or after it, a query answers what it answered.
+pub fn identities_compose()
+    ensures before { (Q : Query) → IsQuery Q → (M N : Tables) → IsWellFormed Q.source M → IsEval Q M N
+        → IsEval (composite (mapping_query (identity_of Q.source)) Q) M N }
+    ensures after { (Q : Query) → IsQuery Q → (M N : Tables) → IsWellFormed Q.source M → Satisfies Q.source M → IsEval Q M N
+        → IsEval (composite Q (mapping_query (identity_of Q.target))) M N }
 {}
