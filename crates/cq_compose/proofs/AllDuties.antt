@@ -1,5 +1,5 @@
 -- What holds of each kind of duty holds of all duties.
-use Rattle.std.proofs.Common.{ℕ, List, ◌++◌, Option, Some, ◌≡◌, sym, subst}
+use Rattle.std.proofs.Common.{ℕ, ◌++◌, Option, Some, ◌≡◌, sym, subst}
 use Rattle.std.specs.Prelude.{slice_get}
 use Rattle.std.specs.List.{flat_map}
 use Rattle.cq_theory.specs.declared.presentation.Equation.{Equation}

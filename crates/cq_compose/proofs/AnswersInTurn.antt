@@ -1,23 +1,20 @@
 -- The composite of two queries answers what the second answers over what the first answers.
-use Rattle.std.proofs.Common.{ℕ, zero, suc, List, [], ◌∷◌, ◌++◌, Option, Some, ◌≡◌, ◌<◌, ◌≤◌, ◌+◌, ◌↔◌, map, length, take, drop, refl, sym, ap, subst, ◌∙◌, arith}
-use Rattle.std.specs.Prelude.{slice_get, slice_index, slice_index_or, sum, codes, decimal}
-use Rattle.std.specs.List.{flat_map, enumerate_from, range_with_len}
+use Rattle.std.proofs.Common.{ℕ, suc, List, [], ◌∷◌, ◌++◌, Some, ◌≡◌, ◌<◌, ◌≤◌, ◌+◌, ◌↔◌, map, length, take, drop, refl, sym, ap, subst, ◌∙◌, arith}
+use Rattle.std.specs.Prelude.{slice_get, slice_index_or, sum, codes, decimal}
+use Rattle.std.specs.List.{flat_map, enumerate_from}
 use Rattle.std.proofs.lemmas.List.{length-map, map-append}
 use Rattle.std.proofs.lemmas.List.FromFn.{get_or-map-range_with_len}
 use Rattle.cq_base.specs.declared.name.Name.{Name}
-use Rattle.cq_theory.specs.declared.presentation.Equation.{Equation}
 use Rattle.cq_theory.specs.declared.schema.Edge.{Edge}
 use Rattle.cq_theory.specs.SchemaData.{SchemaData as Schema}
-use Rattle.cq_theory.specs.declared.term.EntTerm.{EntTerm}
 use Rattle.cq_theory.specs.Canonical.{below}
-use Rattle.cq_theory.specs.Derivation.{left_of, right_of}
-use Rattle.cq_theory.specs.Tables.{Tables, AtRow, Assignment, count_of, key_at, cell_at, row_of, value_of, meaning_of}
-use Rattle.cq_theory.proofs.Every.{Every, Every-from, Every-weaker, from_enumerated}
+use Rattle.cq_theory.specs.Tables.{Tables, Assignment, count_of, key_at, cell_at, row_of, value_of}
+use Rattle.cq_theory.proofs.Every.{Every-weaker, from_enumerated}
 use Rattle.cq_theory.proofs.Faults.{made_of}
 use Rattle.cq_theory.proofs.OnValues.{All_at}
 use Rattle.cq_blocks.specs.declared.block.Block.{Block}
 use Rattle.cq_query.specs.QueryData.{QueryData as Query}
-use Rattle.cq_query.specs.Puts.{put_equation, generators_from}
+use Rattle.cq_query.specs.Puts.{put_equation}
 use Rattle.cq_query.specs.Translation.{variables_at, tests_at, assigned, attribute_term}
 use Rattle.cq_query.specs.IsQuery.{IsQuery}
 use Rattle.cq_query.specs.Answers.{tuples, IsTuple, AreFiltered, stands, variable_counts, MeetsTests, AreAnswers, IsEval}
@@ -25,8 +22,8 @@ use Rattle.cq_query.proofs.Answering.{among_answers}
 use Rattle.cq_query.proofs.Holding.{variable_count}
 use Rattle.cq_query.proofs.Meaning.{put_holds}
 use Rattle.cq_query.proofs.SortedDuties.{All_in, all_append, all_flat_map}
-use Rattle.cq_query.proofs.Standing.{generators_at, assigned_stand}
-use Rattle.cq_compose.specs.Composite.{numbered, width, first_of, components, term_components, translated, translated_test, component_entities, composite_tests, composite}
+use Rattle.cq_query.proofs.Standing.{assigned_stand}
+use Rattle.cq_compose.specs.Composite.{width, first_of, components, translated_test, component_entities, composite}
 use Rattle.cq_compose.proofs.Putting.{get_mapped}
 use Rattle.cq_compose.proofs.Fitting.{attribute_typed}
 use Rattle.cq_compose.proofs.Concatenated.{all_mapped, same_below}
@@ -35,7 +32,7 @@ use Rattle.cq_compose.proofs.Filtered.{filtered_both, filtered_mapped, filtered_
 use Rattle.cq_compose.proofs.Tuples.{tuples_are, joined, AreAllMet, all_met, met_at, met_from, part_fits}
 use Rattle.cq_compose.proofs.Landing.{part_rows, HoldsAt, holds_put, answers_at, count_is}
 use Rattle.cq_compose.proofs.Evaluations.{one_evaluation}
-use Rattle.cq_compose.proofs.JoinedRows.{all_of, term_values, list_rows, TestsHold, tests_hold, tests_back}
+use Rattle.cq_compose.proofs.JoinedRows.{term_values, list_rows, TestsHold, tests_hold, tests_back}
 
 -- the counts of the variables of a composite's block
 module _ (Q : Query) (M : Tables) where

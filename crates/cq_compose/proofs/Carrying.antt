@@ -1,27 +1,24 @@
 -- What is derivable from the second query's frozen presentation is derivable of components from the composite's.
-use Rattle.std.proofs.Common.{ℕ, zero, suc, Bool, true, List, [], ◌∷◌, ◌++◌, Option, Some, None, ◌≡◌, ◌<◌, ◌&&◌, if◌then◌else◌, map, length, refl, sym, ap, subst, ◌∙◌}
-use Rattle.std.specs.Prelude.{slice_get, option_and_then, option_map}
+use Rattle.std.proofs.Common.{ℕ, Bool, true, List, [], ◌∷◌, Option, Some, None, ◌≡◌, ◌<◌, ◌&&◌, if◌then◌else◌, map, length, refl, sym, ap, subst, ◌∙◌}
+use Rattle.std.specs.Prelude.{slice_get, option_map}
 use Rattle.std.proofs.lemmas.Option.{option_and_then_some}
 use Rattle.cq_theory.specs.Typeside.{constant_type}
 use Rattle.cq_theory.specs.declared.presentation.Presentation.{Presentation}
 use Rattle.cq_theory.specs.declared.presentation.Equation.{Equation}
 use Rattle.cq_theory.specs.declared.presentation.Equation.TheVariants as equation
-use Rattle.cq_theory.specs.declared.presentation.Sort.{Sort}
 use Rattle.cq_theory.specs.declared.presentation.Sort.TheVariants.{Plain, Entity}
-use Rattle.cq_theory.specs.declared.schema.Edge.{Edge}
 use Rattle.cq_theory.specs.declared.schema.PathEq.{PathEq}
 use Rattle.cq_theory.specs.declared.schema.ObsEq.{ObsEq}
 use Rattle.cq_theory.specs.SchemaData.{SchemaData as Schema}
 use Rattle.cq_theory.specs.declared.term.EntTerm.{EntTerm}
 use Rattle.cq_theory.specs.declared.term.TypeTerm.{TypeTerm}
-use Rattle.cq_theory.specs.declared.term.TypeTerm.TheVariants.{Const, Att, Fun}
-use Rattle.cq_theory.specs.declared.term.TypeTerm.TheOpen as layer
+use Rattle.cq_theory.specs.declared.term.TypeTerm.TheVariants.{Att, Fun}
 use Rattle.cq_theory.specs.declared.term.Term.{Term}
 use Rattle.cq_theory.specs.declared.term.Term.TheVariants.{Ent, Typ}
 use Rattle.cq_theory.specs.EntTerm.{extended}
 use Rattle.cq_theory.specs.TypeTerm.{substituted, substituted_step}
 use Rattle.cq_theory.specs.Schema.{one_of}
-use Rattle.cq_theory.specs.Sorts.{followed, target_of, entity_at, entity_of, type_at, is_type, have_types, applied_type, type_of, type_step, sort_of, IsGround}
+use Rattle.cq_theory.specs.Sorts.{followed, target_of, entity_at, entity_of, is_type, have_types, applied_type, type_of, type_step, IsGround}
 use Rattle.cq_theory.specs.Derivation.{Derivation, Derivations, reflexivity, symmetry, transitivity, key, attribute, function, given, path_equation, observation, none, more, Concludes, Conclude, Derives, EachDerives, left_of, right_of}
 use Rattle.cq_theory.proofs.TypeTerms.{fold-Gen, fold-Const, fold-Att, fold-Fun, Each, on_terms}
 use Rattle.cq_theory.proofs.Derivations.{Derives-reflexive, Derives-symmetric, Derives-transitive, Derives-function}
@@ -31,16 +28,16 @@ use Rattle.cq_theory.proofs.ResolvedSorts.{map_some}
 use Rattle.cq_blocks.specs.declared.block.Block.{Block}
 use Rattle.cq_query.specs.QueryData.{QueryData as Query}
 use Rattle.cq_query.specs.Puts.{put, put_type, put_type_step}
-use Rattle.cq_query.specs.Translation.{variables_at, tests_at, variable_terms, assigned, attribute_term, term_or_constant, along}
+use Rattle.cq_query.specs.Translation.{variables_at, tests_at, variable_terms, assigned, attribute_term, along}
 use Rattle.cq_query.specs.Translation as first
 use Rattle.cq_query.specs.Duties.{equal_terms, frozen, Sound}
 use Rattle.cq_query.specs.IsQuery.{IsQuery}
 use Rattle.cq_query.proofs.Answering.{IsIn}
 use Rattle.cq_query.proofs.Holding.{path_duty_in, observation_duty_in}
-use Rattle.cq_query.proofs.Standing.{Stand, generators_at, no_type_at, within_length, put_type_sorted, assigned_stand, along_stand, variables_stand}
-use Rattle.cq_compose.specs.Composite.{components, term_components, translated, translated_step, translated_test, composite}
+use Rattle.cq_query.proofs.Standing.{generators_at, no_type_at, within_length, put_type_sorted, assigned_stand, along_stand, variables_stand}
+use Rattle.cq_compose.specs.Composite.{components, term_components, translated, translated_step, composite}
 use Rattle.cq_compose.proofs.Typed.{no_variable, variable_is, on_typed, each_across}
-use Rattle.cq_compose.proofs.Putting.{put_term, put_type-put, Fits, Derives-put}
+use Rattle.cq_compose.proofs.Putting.{put_type-put, Fits, Derives-put}
 use Rattle.cq_compose.proofs.Equals.{AreEqual, Derives-moved, Derives-given, equal_reflexive, equal_symmetric, equal_transitive, equal_from, equal_mapped}
 use Rattle.cq_compose.proofs.Fitting.{along-append, put-along, put-variables, stand_sorted, put_equal_each, put_type_equal, attribute_typed}
 use Rattle.cq_compose.proofs.Components.{second_query, translated_test_in, term_fits}
@@ -191,7 +188,6 @@ module _ (Q : Query) (U : Schema) (blocks : List Block) (query : IsQuery Q) (sou
         (λ a t edge is led h.
         option_and_then_some (target_of Q.target.keys t.path) (entity_at (slice_get (one_of entity) t.generator)) edge.from led (λ start begins rest.
         let path : target_of Q.target.keys t.path entity ≡ Some edge.from = ap (target_of Q.target.keys t.path) (variable_is entity t.generator start begins) ∙ rest in
-        let terms = along Q (variable_terms Q entity) t.path in
         let stand = along_stand Q query (generators_at Q entity) t.path (variable_terms Q entity) entity edge.from path (variables_stand Q entity) in
         ap (put_type (comps at)) (fold-Att TypeTerm (first.translated_step Q (variable_terms Q entity)) a t)
         ∙ put_type-put Q (comps at) (along Q (variable_terms Q entity) t.path) edge.from stand.count (attribute_term Q a) edge.to (attribute_typed Q query a edge is)

@@ -1,5 +1,5 @@
 -- The blocks of a composite, and that the components of each term over a block of the second query fit.
-use Rattle.std.proofs.Common.{ℕ, zero, suc, List, [], ◌∷◌, ◌++◌, Option, Some, None, ◌≡◌, ◌<◌, ◌+◌, map, length, take, refl, sym, ap, subst, ◌∙◌, arith}
+use Rattle.std.proofs.Common.{ℕ, zero, suc, List, [], ◌∷◌, ◌++◌, Option, Some, None, ◌≡◌, ◌<◌, ◌+◌, map, length, refl, sym, ap, subst, ◌∙◌, arith}
 use Rattle.std.specs.Prelude.{slice_get, sum, codes, decimal, option_and_then}
 use Rattle.std.specs.List.{flat_map, enumerate_from, range_with_len}
 use Rattle.std.proofs.lemmas.List.{length-map}
@@ -7,7 +7,6 @@ use Rattle.std.proofs.lemmas.List.Folds.{flat_map-map}
 use Rattle.std.proofs.lemmas.List.FromFn.{length-range_with_len}
 use Rattle.std.proofs.lemmas.Option.{option_and_then_some}
 use Rattle.cq_base.specs.declared.name.Name.{Name}
-use Rattle.cq_theory.specs.declared.presentation.Presentation.{Presentation}
 use Rattle.cq_theory.specs.declared.presentation.Equation.{Equation}
 use Rattle.cq_theory.specs.declared.presentation.Sort.{Sort}
 use Rattle.cq_theory.specs.declared.presentation.Sort.TheVariants.{Entity}
@@ -20,7 +19,6 @@ use Rattle.cq_theory.specs.declared.constant.Con.TheVariants.{Named}
 use Rattle.cq_theory.specs.EntTerm.{alone}
 use Rattle.cq_theory.specs.Groups.{places, edge_sources}
 use Rattle.cq_theory.specs.Sorts.{target_of, entity_at, entity_of}
-use Rattle.cq_theory.specs.Derivation.{Derives, left_of, right_of}
 use Rattle.cq_theory.proofs.Every.{enumerated}
 use Rattle.cq_theory.proofs.OnValues.{All_at}
 use Rattle.cq_theory.specs.Presentation.{IsSort}
@@ -28,14 +26,14 @@ use Rattle.cq_theory.proofs.TypeTerms.{fold-Const}
 use Rattle.cq_blocks.specs.declared.block.Block.{Block}
 use Rattle.cq_query.specs.QueryData.{QueryData as Query}
 use Rattle.cq_query.specs.Puts.{generators_from, put_equation}
-use Rattle.cq_query.specs.Translation.{variables_at, tests_at, variables_in, tests_in, terms_or_none, term_or_constant, assigned, attribute_term, variable_terms, along}
+use Rattle.cq_query.specs.Translation.{variables_at, tests_at, variables_in, tests_in, terms_or_none, term_or_constant, assigned, attribute_term, variable_terms}
 use Rattle.cq_query.specs.Duties.{frozen, Sound}
 use Rattle.cq_query.specs.IsQuery.{IsQuery}
 use Rattle.cq_query.proofs.Answering.{IsIn, in_front, in_back}
 use Rattle.cq_query.proofs.Holding.{in_map, in_flat_map}
 use Rattle.cq_query.proofs.Standing.{Stand, generators_at, variable_at, alone_at, along_stand}
 use Rattle.cq_compose.specs.Composite.{numbered, width, first_of, components_of, components, term_components, translated, translated_step, translated_test, component_entities, composite_tests, composite_block, composite}
-use Rattle.cq_compose.proofs.Putting.{get_mapped, put-left, put-right, put_term, Fits}
+use Rattle.cq_compose.proofs.Putting.{get_mapped, put-left, put-right, Fits}
 use Rattle.cq_compose.proofs.Equals.{Derives-moved, Derives-given}
 use Rattle.cq_compose.proofs.Fitting.{along_fits}
 use Rattle.cq_compose.proofs.Concatenated.{no_mapped, no_enumerated, length-enumerated, flat_at, length-flat, all_rows}

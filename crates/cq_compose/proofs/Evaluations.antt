@@ -1,18 +1,16 @@
 -- A query has one evaluation at given tables.
-use Rattle.std.proofs.Common.{ℕ, zero, suc, List, [], ◌∷◌, Option, Some, ◌≡◌, ◌<◌, ◌+◌, map, length, refl, sym, ap, subst, ◌∙◌, arith}
+use Rattle.std.proofs.Common.{ℕ, zero, suc, List, [], ◌∷◌, Some, ◌≡◌, ◌<◌, ◌+◌, map, length, refl, sym, ap, subst, ◌∙◌, arith}
 use Rattle.std.specs.Prelude.{slice_get, slice_index, slice_index_or}
-use Rattle.std.proofs.lemmas.Option.{slice_get_within, slice_get-get_or, get_or_from_slice_get}
+use Rattle.std.proofs.lemmas.Option.{slice_get_within, get_or_from_slice_get}
 use Rattle.std.proofs.lemmas.List.FromFn.{get_or-map-range_with_len}
 use Rattle.cq_theory.specs.declared.schema.Edge.{Edge}
 use Rattle.cq_theory.specs.declared.constant.Con.TheVariants.{Named}
-use Rattle.cq_theory.specs.declared.value.Value.{Value}
 use Rattle.cq_theory.specs.declared.value.Value.TheVariants.{Const}
-use Rattle.cq_theory.specs.Canonical.{below}
 use Rattle.cq_theory.specs.Schema.{IsSchema}
-use Rattle.cq_theory.specs.Tables.{Tables, count_of, key_at, cell_at, row_of}
+use Rattle.cq_theory.specs.Tables.{Tables, count_of, key_at, row_of}
 use Rattle.cq_theory.proofs.OnValues.{All_at}
 use Rattle.cq_query.specs.QueryData.{QueryData as Query}
-use Rattle.cq_query.specs.Translation.{assigned, attribute_term}
+use Rattle.cq_query.specs.Translation.{assigned}
 use Rattle.cq_query.specs.Answers.{stands, IsEval}
 use Rattle.cq_query.proofs.Once.{one_answers, one_place, answers_once}
 use Rattle.cq_compose.proofs.Concatenated.{same_below}
@@ -58,7 +56,6 @@ module _ (Q : Query) (target : IsSchema Q.target) (M N X : Tables) (one : IsEval
       let ends = All_at (λ (x : Edge). (x.from < length Q.target.entities) × (x.to < length Q.target.entities)) Q.target.keys k edge target.keys is in
       let inside : row < count_of N edge.from = subst (λ n. row < n) (one.key_columns k edge is) (slice_get_within (slice_index_or N.sheet.keys k []) row r at) in
       let rows = answer_at edge.from row ends.0 inside in
-      let led : List ℕ = map (row_of M (stands Q M rows.0)) (assigned Q k) in
       let first : slice_get (there edge.to) (key_at N k row) ≡ Some (map (row_of M (stands Q M rows.0)) (assigned Q k)) = one.keys k row edge rows.0 is rows.1 in
       let second : slice_get (there edge.to) (key_at X k row) ≡ Some (map (row_of M (stands Q M rows.0)) (assigned Q k)) =
       ap (λ l. slice_get l (key_at X k row)) (answers_same edge.to ends.1)

@@ -1,21 +1,20 @@
 -- The query of an identity answers the tables that it is asked about.
-use Rattle.std.proofs.Common.{ℕ, zero, suc, List, [], ◌∷◌, Option, Some, ◌≡◌, ◌<◌, ◌+◌, map, length, refl, sym, ap, subst, ◌∙◌, arith}
-use Rattle.std.specs.Prelude.{slice_get, slice_index, slice_index_or}
+use Rattle.std.proofs.Common.{ℕ, suc, List, [], ◌∷◌, Some, ◌≡◌, ◌<◌, ◌+◌, map, length, refl, sym, ap, subst, ◌∙◌, arith}
+use Rattle.std.specs.Prelude.{slice_get, slice_index_or}
 use Rattle.std.specs.List.{enumerate_from, range_with_len}
 use Rattle.std.proofs.lemmas.List.{length-map}
-use Rattle.std.proofs.lemmas.List.FromFn.{length-map-range_with_len, get_or-map-range_with_len, get_or-range_with_len}
+use Rattle.std.proofs.lemmas.List.FromFn.{get_or-map-range_with_len, get_or-range_with_len}
 use Rattle.std.proofs.lemmas.Option.{slice_get_within, get_or_from_slice_get}
 use Rattle.cq_theory.specs.declared.schema.Edge.{Edge}
 use Rattle.cq_theory.specs.declared.constant.Con.TheVariants.{Named}
 use Rattle.cq_theory.specs.SchemaData.{SchemaData as Schema}
-use Rattle.cq_theory.specs.declared.term.TypeTerm.{TypeTerm}
 use Rattle.cq_theory.specs.declared.term.TypeTerm.TheVariants as term
 use Rattle.cq_theory.specs.declared.value.Value.{Value}
 use Rattle.cq_theory.specs.declared.value.Value.TheVariants.{Const}
 use Rattle.cq_theory.specs.Canonical.{below}
 use Rattle.cq_theory.specs.EntTerm.{alone}
 use Rattle.cq_theory.specs.Schema.{IsSchema}
-use Rattle.cq_theory.specs.Tables.{Tables, AtRow, count_of, key_at, cell_at, row_from, value_of, value_step, IsWellFormed, Satisfies}
+use Rattle.cq_theory.specs.Tables.{Tables, AtRow, count_of, key_at, row_from, value_of, value_step, IsWellFormed, Satisfies}
 use Rattle.cq_theory.proofs.Every.{from_enumerated}
 use Rattle.cq_theory.proofs.Faults.{made_of}
 use Rattle.cq_theory.proofs.OnValues.{All_at}

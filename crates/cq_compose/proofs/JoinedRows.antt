@@ -1,8 +1,8 @@
 -- What terms over a block of the second query mean at rows of the first query's tables, and their components at the answers of these rows.
-use Rattle.std.proofs.Common.{ℕ, zero, suc, List, [], ◌∷◌, ◌++◌, Option, Some, ◌≡◌, ◌<◌, ◌+◌, map, length, refl, sym, ap, subst, ◌∙◌}
+use Rattle.std.proofs.Common.{ℕ, suc, List, [], ◌∷◌, ◌++◌, Option, Some, ◌≡◌, ◌<◌, map, length, refl, sym, ap, subst, ◌∙◌}
 use Rattle.std.specs.Prelude.{slice_get, slice_index_or}
 use Rattle.std.specs.List.{flat_map}
-use Rattle.std.proofs.lemmas.List.{length-map, map-append}
+use Rattle.std.proofs.lemmas.List.{map-append}
 use Rattle.std.proofs.lemmas.Option.{option_and_then_some, get_or_from_slice_get}
 use Rattle.cq_base.specs.declared.name.Name.{Name}
 use Rattle.cq_theory.specs.declared.presentation.Equation.{Equation}
@@ -15,7 +15,7 @@ use Rattle.cq_theory.specs.declared.value.Value.{Value}
 use Rattle.cq_theory.specs.declared.value.Algebra.{Algebra}
 use Rattle.cq_theory.specs.Sorts.{target_of, entity_at, entity_of, type_of}
 use Rattle.cq_theory.specs.Derivation.{left_of, right_of}
-use Rattle.cq_theory.specs.Tables.{Tables, Meaning, AtRow, AtValue, Assignment, row_in, value_in, count_of, cell_at, row_from, row_of, value_of, value_step, meaning_of, applied}
+use Rattle.cq_theory.specs.Tables.{Tables, AtRow, AtValue, Assignment, row_in, value_in, count_of, row_from, row_of, value_of, value_step, meaning_of, applied}
 use Rattle.cq_theory.proofs.TypeTerms.{fold-Const, fold-Att, fold-Fun, Each}
 use Rattle.cq_theory.proofs.ResolvedSorts.{map_some}
 use Rattle.cq_blocks.specs.declared.block.Block.{Block}
@@ -29,7 +29,7 @@ use Rattle.cq_query.proofs.Meaning.{put_value}
 use Rattle.cq_query.proofs.Once.{one_place, answers_once}
 use Rattle.cq_query.proofs.SortedDuties.{All_in}
 use Rattle.cq_query.proofs.Standing.{generators_at, variable_at, no_type_at}
-use Rattle.cq_compose.specs.Composite.{width, first_of, components, term_components, translated, translated_step, translated_test, composite}
+use Rattle.cq_compose.specs.Composite.{width, first_of, components, term_components, translated, translated_step, translated_test}
 use Rattle.cq_compose.proofs.Typed.{on_typed}
 use Rattle.cq_compose.proofs.Putting.{get_mapped}
 use Rattle.cq_compose.proofs.Fitting.{attribute_typed}

@@ -1,5 +1,5 @@
 -- Terms put for the variables of a block: once more, and in derivations.
-use Rattle.std.proofs.Common.{ℕ, zero, suc, List, [], ◌∷◌, Option, Some, None, ◌≡◌, map, length, refl, sym, ap, subst, ◌∙◌}
+use Rattle.std.proofs.Common.{ℕ, zero, suc, List, [], ◌∷◌, Some, None, ◌≡◌, map, length, refl, sym, ap, subst, ◌∙◌}
 use Rattle.std.specs.Prelude.{slice_get, option_map}
 use Rattle.std.proofs.lemmas.Option.{option_and_then_some}
 use Rattle.cq_theory.specs.declared.presentation.Presentation.{Presentation}
@@ -9,7 +9,7 @@ use Rattle.cq_theory.specs.declared.presentation.Sort.{Sort}
 use Rattle.cq_theory.specs.declared.presentation.Sort.TheVariants.{Plain, Entity}
 use Rattle.cq_theory.specs.declared.term.EntTerm.{EntTerm}
 use Rattle.cq_theory.specs.declared.term.TypeTerm.{TypeTerm}
-use Rattle.cq_theory.specs.declared.term.TypeTerm.TheVariants.{Gen, Const, Att, Fun}
+use Rattle.cq_theory.specs.declared.term.TypeTerm.TheVariants.{Att, Fun}
 use Rattle.cq_theory.specs.declared.term.Term.{Term}
 use Rattle.cq_theory.specs.declared.term.Term.TheVariants.{Ent, Typ}
 use Rattle.cq_theory.specs.EntTerm.{extended}
@@ -17,7 +17,7 @@ use Rattle.cq_theory.specs.TypeTerm.{substituted, substituted_step}
 use Rattle.cq_theory.specs.Carried.{carried_term}
 use Rattle.cq_theory.specs.Sorts.{target_of, entity_at, entity_of, type_of, sort_of, IsGround}
 use Rattle.cq_theory.specs.Derivation.{Derivation, Derivations, reflexivity, symmetry, transitivity, key, attribute, function, given, path_equation, observation, none, more, Concludes, Conclude, Derives, EachDerives, left_of, right_of}
-use Rattle.cq_theory.proofs.TypeTerms.{fold-Gen, fold-Const, fold-Att, fold-Fun, Each, on_terms}
+use Rattle.cq_theory.proofs.TypeTerms.{fold-Gen, fold-Const, fold-Att, fold-Fun, on_terms}
 use Rattle.cq_theory.proofs.Derivations.{Derives-reflexive, Derives-symmetric, Derives-transitive, Derives-key, Derives-attribute, Derives-function}
 use Rattle.cq_theory.proofs.ResolvedSorts.{map_some}
 use Rattle.cq_mapping.proofs.Substituting.{extended-extended}
@@ -26,7 +26,7 @@ use Rattle.cq_query.specs.Puts.{term_or_first, put, put_type, put_type_step, put
 use Rattle.cq_query.specs.Translation.{variables_at, tests_at}
 use Rattle.cq_query.specs.Duties.{frozen}
 use Rattle.cq_query.proofs.Standing.{Stand, generators_at, variable_at, no_type_at, within_length, put_sorted, put_type_sorted}
-use Rattle.cq_compose.proofs.Typed.{on_typed, each_twice, each_across}
+use Rattle.cq_compose.proofs.Typed.{on_typed, each_twice}
 
 pub get_mapped : {X Y : Type 0} (f : X → Y) (xs : List X) (n : ℕ) (x : X) → slice_get xs n ≡ Some x → slice_get (map f xs) n ≡ Some (f x)
 get_mapped f [] n x h = cc

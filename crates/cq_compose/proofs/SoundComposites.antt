@@ -1,12 +1,10 @@
 -- The composite of sound queries is sound.
-use Rattle.std.proofs.Common.{ℕ, zero, suc, List, [], ◌∷◌, ◌++◌, Option, Some, ◌≡◌, ◌<◌, ◌+◌, map, length, refl, sym, ap, subst, ◌∙◌, arith}
+use Rattle.std.proofs.Common.{ℕ, zero, suc, List, [], ◌∷◌, Some, ◌≡◌, ◌<◌, ◌+◌, map, length, refl, sym, ap, subst, ◌∙◌, arith}
 use Rattle.std.specs.Prelude.{slice_get}
 use Rattle.std.specs.List.{flat_map, enumerate_from}
 use Rattle.cq_base.specs.declared.name.Name.{Name}
-use Rattle.cq_theory.specs.declared.presentation.Presentation.{Presentation}
 use Rattle.cq_theory.specs.declared.presentation.Equation.{Equation}
 use Rattle.cq_theory.specs.declared.presentation.Equation.TheVariants as equation
-use Rattle.cq_theory.specs.declared.presentation.Sort.{Sort}
 use Rattle.cq_theory.specs.declared.presentation.Sort.TheVariants.{Plain, Entity}
 use Rattle.cq_theory.specs.declared.schema.Edge.{Edge}
 use Rattle.cq_theory.specs.declared.schema.PathEq.{PathEq}
@@ -15,7 +13,6 @@ use Rattle.cq_theory.specs.SchemaData.{SchemaData as Schema}
 use Rattle.cq_theory.specs.declared.term.EntTerm.{EntTerm}
 use Rattle.cq_theory.specs.declared.term.TypeTerm.{TypeTerm}
 use Rattle.cq_theory.specs.declared.term.Term.TheVariants.{Ent, Typ}
-use Rattle.cq_theory.specs.Groups.{positions}
 use Rattle.cq_theory.specs.Schema.{one_of}
 use Rattle.cq_theory.specs.Sorts.{target_of, entity_of, type_of}
 use Rattle.cq_theory.specs.Derivation.{Derives, left_of, right_of}
@@ -25,21 +22,19 @@ use Rattle.cq_theory.proofs.ResolvedSorts.{map_some}
 use Rattle.cq_blocks.specs.declared.block.Block.{Block}
 use Rattle.cq_query.specs.QueryData.{QueryData as Query}
 use Rattle.cq_query.specs.Puts.{put, put_type, put_equation}
-use Rattle.cq_query.specs.Translation.{variables_at, tests_at, variable_terms, assigned, along, key_sources, path_sources, observation_sources}
+use Rattle.cq_query.specs.Translation.{variables_at, tests_at, variable_terms, assigned, along}
 use Rattle.cq_query.specs.Translation as first
-use Rattle.cq_query.specs.Duties.{equal_terms, frozen, key_duties, path_duties, observation_duties, duties, Sound}
+use Rattle.cq_query.specs.Duties.{equal_terms, frozen, key_duties, path_duties, observation_duties, Sound}
 use Rattle.cq_query.specs.IsQuery.{IsQuery}
-use Rattle.cq_query.proofs.Answering.{IsIn}
 use Rattle.cq_query.proofs.Holding.{in_map, key_duty_in, path_duty_in, observation_duty_in}
-use Rattle.cq_query.proofs.SortedDuties.{All_in, all_append, all_flat_map, from_position}
+use Rattle.cq_query.proofs.SortedDuties.{All_in, all_append, all_flat_map}
 use Rattle.cq_query.proofs.Standing.{Stand, generators_at, within_length, assigned_stand, along_stand, variables_stand}
 use Rattle.cq_compose.specs.Composite.{components, term_components, translated, translated_test, composite_tests, composite}
 use Rattle.cq_compose.proofs.Putting.{put_term, put-left, put-right, put_term-put, Fits}
 use Rattle.cq_compose.proofs.Equals.{AreEqual, Derives-moved, equal_from, equal_each, equal_flat}
-use Rattle.cq_compose.proofs.Fitting.{AreSorted}
 use Rattle.cq_compose.proofs.Concatenated.{all_mapped, one_member}
 use Rattle.cq_compose.proofs.Components.{tests_are, assigned_are, component_fits, variable_components, variable_within, second_query, term_fits}
-use Rattle.cq_compose.proofs.Carrying.{AreSame, Derives-carried}
+use Rattle.cq_compose.proofs.Carrying.{Derives-carried}
 use Rattle.cq_compose.proofs.AllDuties.{all_duties}
 use Rattle.cq_compose.proofs.Pieces.{piece_at, put_components, put_turned, along_pieces, turned_translated}
 

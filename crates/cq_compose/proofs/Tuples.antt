@@ -1,5 +1,5 @@
 -- Tuples of counts that stand one behind another, and answers that are numbered by tuples.
-use Rattle.std.proofs.Common.{ℕ, zero, suc, List, [], ◌∷◌, ◌++◌, Some, ◌≡◌, ◌<◌, ◌≤◌, ◌+◌, ◌↔◌, map, length, take, drop, get_or, refl, sym, ap, subst, ◌∙◌, arith}
+use Rattle.std.proofs.Common.{ℕ, zero, suc, List, [], ◌∷◌, ◌++◌, Some, ◌≡◌, ◌<◌, ◌≤◌, ◌+◌, ◌↔◌, map, length, take, drop, refl, sym, ap, subst, ◌∙◌, arith}
 use Rattle.std.specs.Prelude.{slice_get, slice_index_or, sum}
 use Rattle.std.specs.List.{flat_map, range_with_len}
 use Rattle.std.proofs.Math.Seq.{take-append_seam, drop-append_seam}
@@ -11,7 +11,7 @@ use Rattle.std.proofs.lemmas.Option.{slice_get_within, get_or_from_slice_get}
 use Rattle.cq_base.specs.declared.name.Name.{Name}
 use Rattle.cq_theory.specs.Canonical.{below}
 use Rattle.cq_theory.specs.Tables.{Tables}
-use Rattle.cq_theory.proofs.Every.{Every, Every-at, Every-from, Every-flat_map, Every-map, Every-weaker, at_range}
+use Rattle.cq_theory.proofs.Every.{Every, Every-at, Every-flat_map, Every-map, Every-weaker, at_range}
 use Rattle.cq_query.specs.QueryData.{QueryData as Query}
 use Rattle.cq_query.specs.Translation.{variables_at}
 use Rattle.cq_query.specs.Answers.{tuples, IsTuple, AreFiltered, none, kept, MeetsTests, AreAnswers, variable_counts}
