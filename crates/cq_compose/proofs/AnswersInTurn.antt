@@ -21,6 +21,7 @@ use Rattle.cq_query.specs.Answers.{tuples, IsTuple, AreFiltered, stands, variabl
 use Rattle.cq_query.proofs.Answering.{among_answers}
 use Rattle.cq_query.proofs.Holding.{variable_count}
 use Rattle.cq_query.proofs.Meaning.{put_holds}
+use Rattle.cq_query.proofs.Once.{one_answers}
 use Rattle.cq_query.proofs.SortedDuties.{All_in, all_append, all_flat_map}
 use Rattle.cq_query.proofs.Standing.{assigned_stand}
 use Rattle.cq_compose.specs.Composite.{width, first_of, components, translated_test, component_entities, composite}
@@ -218,6 +219,15 @@ composite_answers Q W query second same M N R eval next =
 pub composite_alone : (Q W : Query) → IsQuery Q → IsQuery W → Q.target ≡ W.source → (M N R X : Tables) → IsEval Q M N → IsEval W N R → IsEval (composite Q W) M X → X ≡ R
 composite_alone Q W query second same M N R X eval next given =
     one_evaluation (composite Q W) second.target M X R given (composite_answers Q W query second same M N R eval next)
+
+-- as many as the second has
+pub composite_count : (Q W : Query) → IsQuery Q → IsQuery W → Q.target ≡ W.source → (M N : Tables) → IsEval Q M N → (u : ℕ) → u < length W.target.entities
+    → (found others : List (List ℕ)) → AreAnswers (composite Q W) M u found → AreAnswers W N u others → length found ≡ length others
+composite_count Q W query second same M N eval u within found others are are' =
+    let there = subst (λ (T : Schema). IsQuery (record { source = T; target = W.target; blocks = W.blocks })) (sym same) second in
+    let all = joined_answers Q W.target W.blocks query there M N eval u within others are' in
+    ap length (one_answers (composite Q W) M u found (map (joined (answers_at Q query M N eval) (variables_at W u)) others) are all)
+    ∙ length-map others (joined (answers_at Q query M N eval) (variables_at W u))
 
 -- three queries in a row
 pub composite_thrice : (Q W V : Query) → IsQuery Q → IsQuery W → IsQuery V → IsQuery (composite Q W) → IsQuery (composite W V) → Q.target ≡ W.source → W.target ≡ V.source
