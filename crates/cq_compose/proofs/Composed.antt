@@ -44,7 +44,7 @@ use Rattle.cq_compose.specs.Composite.{numbered, width, first_of, components_of,
 use Rattle.cq_compose.proofs.Places.{flat_at}
 use Rattle.cq_compose.proofs.Pairwise.{none_passes, member_there, Pairwise, pair_from, pair_length, pair_at, pair_flat}
 use Rattle.cq_compose.proofs.Placing.{at_edge-in_block}
-use Rattle.cq_compose.proofs.Numbered.{numbered_distinct}
+use Rattle.cq_compose.proofs.Numbering.{numbered_distinct}
 
 get_mapped : {X Y : Type 0} (f : X → Y) (xs : List X) (n : ℕ) (x : X) → slice_get xs n ≡ Some x → slice_get (map f xs) n ≡ Some (f x)
 get_mapped f xs n x h = slice_get-map f xs n ∙ ap (option_map f) h

@@ -1,8 +1,10 @@
 pub mod Placing
 pub mod Variable
 pub mod Pulled
-pub mod Numbered
+pub mod Numbering
 pub mod MadeBlocks
 pub mod Places
 pub mod Pairwise
+pub mod Typed
+pub mod Respected
 pub mod Composed

@@ -29,3 +29,8 @@ pub fn sorted_composites()
     ensures { (Q W : Query) → IsQuery Q → IsQuery W → Q.target ≡ W.source → is_large (composite Q W) ≡ false
         → IsQuery (composite Q W) }
 {}
+
+/// The query of a mapping that preserves equality is sound.
+pub fn query_of_mapping_is_sound()
+    ensures { (F : Mapping) → IsMapping F → Preserves F → Sound (mapping_query F) }
+{}

@@ -1,5 +1,5 @@
 use Rattle.std.proofs.Common.{arith}
-use Rattle.cq_compose.proofs.Numbered.{numbered_more}
+use Rattle.cq_compose.proofs.Numbering.{numbered_more}
 use Rattle.cq_compose.proofs.numbered.number_entities.Goals as goal
 
 pub loop-entity-preserved : goal.loop-entity-preserved
