@@ -27,7 +27,7 @@ use Rattle.cq_query.proofs.Standing.{assigned_stand}
 use Rattle.cq_compose.specs.Composite.{width, first_of, components, translated_test, component_entities, composite}
 use Rattle.cq_compose.proofs.Putting.{get_mapped}
 use Rattle.cq_compose.proofs.Fitting.{attribute_typed}
-use Rattle.cq_compose.proofs.Concatenated.{all_mapped, same_below}
+use Rattle.cq_compose.proofs.Agreeing.{all_mapped, same_below}
 use Rattle.cq_compose.proofs.Components.{variables_are, tests_are, assigned_are, attribute_are, components_are, component_fits, component_test, translated_test_in, variable_count_is, second_query, variable_within}
 use Rattle.cq_compose.proofs.Filtered.{filtered_both, filtered_mapped, filtered_alike}
 use Rattle.cq_compose.proofs.Tuples.{tuples_are, joined, AreAllMet, all_met, met_at, met_from, part_fits}

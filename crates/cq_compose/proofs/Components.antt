@@ -36,7 +36,7 @@ use Rattle.cq_compose.specs.Composite.{numbered, width, first_of, components_of,
 use Rattle.cq_compose.proofs.Putting.{get_mapped, put-left, put-right, Fits}
 use Rattle.cq_compose.proofs.Equals.{Derives-moved, Derives-given}
 use Rattle.cq_compose.proofs.Fitting.{along_fits}
-use Rattle.cq_compose.proofs.Concatenated.{no_mapped, no_enumerated, length-enumerated, flat_at, length-flat, all_rows}
+use Rattle.cq_compose.proofs.Places.{no_mapped, no_enumerated, length-enumerated, flat_at, length-flat, all_rows}
 
 -- what stands at a place that may not be there
 mapped_terms : (f : List EntTerm → List EntTerm) → f [] ≡ [] → (xs : List (List EntTerm)) (n : ℕ) → terms_or_none (slice_get (map f xs) n) ≡ f (terms_or_none (slice_get xs n))

@@ -13,22 +13,12 @@ use Rattle.cq_query.specs.QueryData.{QueryData as Query}
 use Rattle.cq_query.specs.Translation.{assigned}
 use Rattle.cq_query.specs.Answers.{stands, IsEval}
 use Rattle.cq_query.proofs.Once.{one_answers, one_place, answers_once}
-use Rattle.cq_compose.proofs.Concatenated.{same_below}
+use Rattle.cq_compose.proofs.Agreeing.{same_below, same_lists}
 
 member_at : {X : Type 0} (xs : List X) (n : ℕ) → n < length xs → (x : X) × (slice_get xs n ≡ Some x)
 member_at [] n h = absurd (omega arith)
 member_at (x ∷ xs) zero h = (x, refl)
 member_at (x ∷ xs) (suc n) h = member_at xs n (omega arith)
-
--- lists with the same members at the same places
-pub same_lists : {X : Type 0} (xs ys : List X) → length xs ≡ length ys → ((n : ℕ) (x y : X) → slice_get xs n ≡ Some x → slice_get ys n ≡ Some y → x ≡ y) → xs ≡ ys
-same_lists [] [] same h = refl
-same_lists [] (y ∷ ys) same h = absurd (omega arith)
-same_lists (x ∷ xs) [] same h = absurd (omega arith)
-same_lists (x ∷ xs) (y ∷ ys) same h =
-    let first : x ≡ y = h 0 x y refl refl in
-    let rest : xs ≡ ys = same_lists xs ys (omega arith) (λ n a b is is'. h (suc n) a b is is') in
-    λ i. first i ∷ rest i
 
 module _ (Q : Query) (target : IsSchema Q.target) (M N X : Tables) (one : IsEval Q M N) (other : IsEval Q M X) where
   abbrev there : ℕ → List (List ℕ)

@@ -30,24 +30,11 @@ use Rattle.cq_query.specs.Answers.{IsEval}
 use Rattle.cq_query.proofs.Evaluated.{well_formed}
 use Rattle.cq_compose.specs.Composite.{composite}
 use Rattle.cq_compose.specs.MappingQuery.{mapping_query}
-use Rattle.cq_compose.proofs.Concatenated.{length-enumerated}
+use Rattle.cq_compose.proofs.Places.{length-enumerated}
 use Rattle.cq_compose.proofs.Variable.{mapping_query_is}
 use Rattle.cq_compose.proofs.Pulled.{pulled_back}
-use Rattle.cq_compose.proofs.Evaluations.{same_lists}
+use Rattle.cq_compose.proofs.Agreeing.{same_lists, all_by_place}
 use Rattle.cq_compose.proofs.AnswersInTurn.{composite_answers}
-
--- a list of which each member is given by its place
-by_place : {X : Type 0} (f : ℕ → X) (s : ℕ) (xs : List X) → ((n : ℕ) (x : X) → slice_get xs n ≡ Some x → f (s + n) ≡ x) → map f (range_with_len s (length xs)) ≡ xs
-by_place f s [] h = refl
-by_place f s (x ∷ xs) h =
-    let here : s ≡ s + 0 = omega arith in
-    let first : f s ≡ x = ap f here ∙ h 0 x refl in
-    let rest : map f (range_with_len (s + 1) (length xs)) ≡ xs = by_place f (s + 1) xs (λ n y at.
-    let there : s + 1 + n ≡ s + suc n = omega arith in ap f there ∙ h (suc n) y at) in
-    λ i. first i ∷ rest i
-
-all_by_place : {X : Type 0} (f : ℕ → X) (count : ℕ) (xs : List X) → length xs ≡ count → ((n : ℕ) (x : X) → slice_get xs n ≡ Some x → f n ≡ x) → map f (below count) ≡ xs
-all_by_place f count xs same h = ap (λ n. map f (below n)) (sym same) ∙ by_place f 0 xs (λ n x at. let here : 0 + n ≡ n = omega arith in ap f here ∙ h n x at)
 
 module _ (S : Schema) (schema : IsSchema S) (M : Tables) (well : IsWellFormed S M) where
   abbrev I : Mapping

@@ -33,7 +33,8 @@ use Rattle.cq_compose.specs.Composite.{width, first_of, components, term_compone
 use Rattle.cq_compose.proofs.Typed.{on_typed}
 use Rattle.cq_compose.proofs.Putting.{get_mapped}
 use Rattle.cq_compose.proofs.Fitting.{attribute_typed}
-use Rattle.cq_compose.proofs.Concatenated.{one_member, flat_at}
+use Rattle.cq_compose.proofs.Agreeing.{one_member}
+use Rattle.cq_compose.proofs.Places.{flat_at}
 use Rattle.cq_compose.proofs.Components.{components_are, component_fits, second_query, variable_within, term_stand}
 use Rattle.cq_compose.proofs.Tuples.{paired, paired_at, paired_length, answer_of, joined}
 use Rattle.cq_compose.proofs.Landing.{target_within, standing_rows, HoldsAt, rows_hold, rows_same, answers_at, answer_there, answer_length, lands}

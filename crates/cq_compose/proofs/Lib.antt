@@ -5,12 +5,13 @@ pub mod Numbering
 pub mod MadeBlocks
 pub mod Places
 pub mod Pairwise
-pub mod Composed
 pub mod Typed
+pub mod Respected
+pub mod Composed
 pub mod Putting
 pub mod Equals
 pub mod Fitting
-pub mod Concatenated
+pub mod Agreeing
 pub mod Components
 pub mod Carrying
 pub mod Pieces
@@ -22,5 +23,4 @@ pub mod Evaluations
 pub mod JoinedRows
 pub mod AnswersInTurn
 pub mod AllDuties
-pub mod SoundMappings
 pub mod IdentityQueries

@@ -1,5 +1,5 @@
 -- The blocks that are made are those of the query of a mapping.
-use Rattle.std.proofs.Common.{ℕ, List, [], ◌∷◌, ◌++◌, ◌≡◌, ◌<◌, map, length, sym, ap, subst, ◌∙◌, arith}
+use Rattle.std.proofs.Common.{ℕ, Result, Ok, Err, IfOk, List, [], ◌∷◌, ◌++◌, ◌≡◌, ◌<◌, map, length, sym, ap, subst, ◌∙◌, arith}
 use Rattle.std.specs.Prelude.{codes, decimal}
 use Rattle.std.proofs.lemmas.Fmt.{decimal_digit}
 use Rattle.std.proofs.lemmas.List.FromFn.{fill_by_all}
@@ -20,6 +20,11 @@ use Rattle.cq_query.specs.IsQuery.{IsQuery}
 use Rattle.cq_compose.specs.MappingQuery.{from_variable, mapping_block, mapping_query}
 use Rattle.cq_compose.proofs.Placing.{numbers_from}
 use Rattle.cq_compose.proofs.Variable.{block_there, mapping_query_is}
+
+-- what follows for a value from what is known of it
+pub if_ok : {T E : Type 0} (r : Result T E) (P R : T → Type 0) → ((x : T) → P x → R x) → IfOk r P → IfOk r R
+if_ok (Ok x) P R f h = f x h
+if_ok (Err e) P R f h = h
 
 one_name : (entity : ℕ) → numbered (entity ∷ []) ≡ (codes "x1", entity) ∷ []
 one_name entity = ap (λ digits. (codes "x" ++ digits, entity) ∷ []) (decimal_digit 1 (omega arith))

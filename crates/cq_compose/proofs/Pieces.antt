@@ -26,7 +26,7 @@ use Rattle.cq_compose.specs.Composite.{width, first_of, components, term_compone
 use Rattle.cq_compose.proofs.Typed.{no_variable, variable_is, on_typed, each_twice, each_across}
 use Rattle.cq_compose.proofs.Putting.{put_type-put}
 use Rattle.cq_compose.proofs.Fitting.{put-generators, AreSorted, along-append, put-along, stand_sorted, attribute_typed}
-use Rattle.cq_compose.proofs.Concatenated.{flat_at}
+use Rattle.cq_compose.proofs.Places.{flat_at}
 use Rattle.cq_compose.proofs.Components.{assigned_are, attribute_are, components_are, component_fits, second_query, term_fits}
 
 module _ (Q : Query) (U : Schema) (blocks : List Block) (query : IsQuery Q) (sound : Sound Q) (u : ℕ) where

@@ -32,7 +32,7 @@ use Rattle.cq_query.proofs.Standing.{Stand, generators_at, within_length, assign
 use Rattle.cq_compose.specs.Composite.{components, term_components, translated, translated_test, composite_tests, composite}
 use Rattle.cq_compose.proofs.Putting.{put_term, put-left, put-right, put_term-put, Fits}
 use Rattle.cq_compose.proofs.Equals.{AreEqual, Derives-moved, equal_from, equal_each, equal_flat}
-use Rattle.cq_compose.proofs.Concatenated.{all_mapped, one_member}
+use Rattle.cq_compose.proofs.Agreeing.{all_mapped, one_member}
 use Rattle.cq_compose.proofs.Components.{tests_are, assigned_are, component_fits, variable_components, variable_within, second_query, term_fits}
 use Rattle.cq_compose.proofs.Carrying.{Derives-carried}
 use Rattle.cq_compose.proofs.AllDuties.{all_duties}

@@ -32,6 +32,6 @@ pub fn sorted_composites()
 {}
 
 /// The query of a mapping that preserves equality is sound.
-pub fn sound_query_of_mapping()
+pub fn query_of_mapping_is_sound()
     ensures { (F : Mapping) → IsMapping F → Preserves F → Sound (mapping_query F) }
 {}

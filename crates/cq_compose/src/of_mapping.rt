@@ -3,15 +3,29 @@ ghost use Rattle.std.specs.Prelude.{◌≡◌, ◌<◌, [], ◌∷◌, IfOk, map
 ghost use Rattle.cq_theory.specs.Canonical.{below};
 ghost use Rattle.cq_theory.specs.Groups.{edge_sources, AreGroups};
 ghost use Rattle.cq_mapping.specs.Images.{entity_image, key_image, attribute_image};
+ghost use Rattle.cq_theory.specs.Tables.{Tables, IsWellFormed};
+ghost use Rattle.cq_mapping.specs.Duties.{Preserves};
+ghost use Rattle.cq_mapping.specs.Moved.{delta_tables};
+ghost use Rattle.cq_query.specs.Duties.{Sound};
+ghost use Rattle.cq_query.specs.Answers.{IsEval};
 ghost use Rattle.cq_compose.specs.MappingQuery.{mapping_query as query_of_mapping, mapping_block, from_variable};
 
 use crate::numbered::number_entities;
-use cq_base::{Seq, number_at};
+use cq_base::Seq;
 use cq_mapping::Mapping;
 use cq_query::{Block, Query};
 use cq_terms::copy_type_term;
 use cq_theory::{Con, EntTerm, Groups, TypeTerm, attributes_by_entity, keys_by_entity};
 use std::alloc::{AllocError, Global};
+
+fn image_of_entity(mapping: &Mapping, entity: u32) -> u32
+    ensures { result ≡ entity_image mapping.now entity }
+{
+    match mapping.entities.as_slice().get(entity as usize) {
+        Some(image) => *image,
+        None => 0,
+    }
+}
 
 /// The term of an attribute.
 fn image_of_attribute(alloc: Global, mapping: &Mapping, attribute: u32) -> Result<TypeTerm, AllocError>
@@ -102,7 +116,7 @@ fn build_block(
     requires entity { entity < length mapping.now.source.entities }
     ensures { IfOk result (λ made. made ≡ mapping_block mapping.now (entity, entity_image mapping.now entity)) }
 {
-    let image = number_at(mapping.entities.as_slice(), entity as usize);
+    let image = image_of_entity(mapping, entity);
     let vars = number_entities(alloc, &[image])?;
     let from_here = sources.attributes.of(entity);
     let attributes = images_of_attributes(alloc, mapping, from_here)?;
@@ -150,6 +164,11 @@ fn entity_count(mapping: &Mapping) -> u32
 /// uber-flower queries). Its only refusal is want of memory.
 pub fn mapping_query(alloc: Global, mapping: &Mapping) -> Result<Query, AllocError>
     ensures query { IfOk result (λ made. made ≡ query_of_mapping mapping.now) }
+    // If the mapping preserves equality, its query is sound.
+    ensures sound { IfOk result (λ made. Preserves mapping.now → Sound made) }
+    // On tables of the mapping's target the query answers what the mapping pulls back.
+    ensures evals { IfOk result (λ made. (M : Tables) → IsWellFormed mapping.now.target M
+        → IsEval made M (delta_tables mapping.now M)) }
 {
     mapping.is_well_sorted();
     let attributes = attributes_by_entity(alloc, &mapping.source)?;
