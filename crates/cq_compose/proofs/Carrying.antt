@@ -1,8 +1,7 @@
 -- What is derivable from the second query's frozen presentation is derivable of components from the composite's.
-use Rattle.std.proofs.Common.{ℕ, Bool, true, List, [], ◌∷◌, Option, Some, None, ◌≡◌, ◌<◌, ◌&&◌, if◌then◌else◌, map, length, refl, sym, ap, subst, ◌∙◌}
+use Rattle.std.proofs.Common.{ℕ, List, [], ◌∷◌, Option, Some, None, ◌≡◌, ◌<◌, map, length, refl, sym, ap, subst, ◌∙◌}
 use Rattle.std.specs.Prelude.{slice_get, option_map}
 use Rattle.std.proofs.lemmas.Option.{option_and_then_some}
-use Rattle.cq_theory.specs.Typeside.{constant_type}
 use Rattle.cq_theory.specs.declared.presentation.Presentation.{Presentation}
 use Rattle.cq_theory.specs.declared.presentation.Equation.{Equation}
 use Rattle.cq_theory.specs.declared.presentation.Equation.TheVariants as equation
@@ -18,11 +17,11 @@ use Rattle.cq_theory.specs.declared.term.Term.TheVariants.{Ent, Typ}
 use Rattle.cq_theory.specs.EntTerm.{extended}
 use Rattle.cq_theory.specs.TypeTerm.{substituted, substituted_step}
 use Rattle.cq_theory.specs.Schema.{one_of}
-use Rattle.cq_theory.specs.Sorts.{followed, target_of, entity_at, entity_of, is_type, have_types, applied_type, type_of, type_step, IsGround}
+use Rattle.cq_theory.specs.Sorts.{followed, target_of, entity_at, entity_of, type_of, type_step, IsGround}
 use Rattle.cq_theory.specs.Derivation.{Derivation, Derivations, reflexivity, symmetry, transitivity, key, attribute, function, given, path_equation, observation, none, more, Concludes, Conclude, Derives, EachDerives, left_of, right_of}
-use Rattle.cq_theory.proofs.TypeTerms.{fold-Gen, fold-Const, fold-Att, fold-Fun, Each, on_terms}
+use Rattle.cq_theory.proofs.TypeTerms.{fold-Const, fold-Att, fold-Fun}
 use Rattle.cq_theory.proofs.Derivations.{Derives-reflexive, Derives-symmetric, Derives-transitive, Derives-function}
-use Rattle.cq_theory.proofs.Sound.{followed_some, both, is_type_some, applied_type_some}
+use Rattle.cq_theory.proofs.Sound.{followed_some}
 use Rattle.cq_theory.proofs.Closings.{entity_before}
 use Rattle.cq_theory.proofs.ResolvedSorts.{map_some}
 use Rattle.cq_blocks.specs.declared.block.Block.{Block}
@@ -34,12 +33,13 @@ use Rattle.cq_query.specs.Duties.{equal_terms, frozen, Sound}
 use Rattle.cq_query.specs.IsQuery.{IsQuery}
 use Rattle.cq_query.proofs.Answering.{IsIn}
 use Rattle.cq_query.proofs.Holding.{path_duty_in, observation_duty_in}
-use Rattle.cq_query.proofs.Standing.{generators_at, no_type_at, within_length, put_type_sorted, assigned_stand, along_stand, variables_stand}
+use Rattle.cq_query.proofs.Standing.{generators_at, within_length, assigned_stand, along_stand, variables_stand}
 use Rattle.cq_compose.specs.Composite.{components, term_components, translated, translated_step, composite}
 use Rattle.cq_compose.proofs.Typed.{no_variable, variable_is, on_typed, each_across}
 use Rattle.cq_compose.proofs.Putting.{put_type-put, Fits, Derives-put}
 use Rattle.cq_compose.proofs.Equals.{AreEqual, Derives-moved, Derives-given, equal_reflexive, equal_symmetric, equal_transitive, equal_from, equal_mapped}
 use Rattle.cq_compose.proofs.Fitting.{along-append, put-along, put-variables, stand_sorted, put_equal_each, put_type_equal, attribute_typed}
+use Rattle.cq_compose.proofs.KeptTypes.{keeps}
 use Rattle.cq_compose.proofs.Components.{second_query, translated_test_in, term_fits}
 
 module _ (Q : Query) (U : Schema) (blocks : List Block) (query : IsQuery Q) (sound : Sound Q) (u : ℕ) where
@@ -64,44 +64,6 @@ module _ (Q : Query) (U : Schema) (blocks : List Block) (query : IsQuery Q) (sou
   -- components behind a path
   comps-extended : (t : EntTerm) (path : List ℕ) → comps (extended t path) ≡ along Q (comps t) path
   comps-extended t path = along-append Q (components Q W u t.generator) t.path path
-
-  -- types stay
-  abbrev Keeps : TypeTerm → Type 0
-  Keeps t = (type : ℕ) → type_of Q.target There.generators t ≡ Some type → type_of Q.source Here.generators (turned t) ≡ Some type
-
-  all_keep : (ts : List TypeTerm) (types : List ℕ) → have_types (map (type_of Q.target There.generators) ts) types ≡ true → Each Keeps ts
-      → have_types (map (type_of Q.source Here.generators) (map turned ts)) types ≡ true
-  all_keep [] [] h each = refl
-  all_keep [] (type ∷ types) h each = cc
-  all_keep (t ∷ ts) [] h each = cc
-  all_keep (t ∷ ts) (type ∷ types) h each =
-      let parts : (is_type (type_of Q.target There.generators t) type ≡ true) × (have_types (map (type_of Q.target There.generators) ts) types ≡ true) = both _ _ h in
-      let before : type_of Q.target There.generators t ≡ Some type = is_type_some (type_of Q.target There.generators t) type parts.0 in
-      let after : type_of Q.source Here.generators (turned t) ≡ Some type = each.0 type before in
-      let one : is_type (type_of Q.source Here.generators (turned t)) type ≡ true = ap (λ o. is_type o type) (after ∙ sym before) ∙ parts.0 in
-      ap (λ b. b && have_types (map (type_of Q.source Here.generators) (map turned ts)) types) one ∙ all_keep ts types parts.1 each.1
-
-  pub keeps : (t : TypeTerm) → Keeps t
-  keeps = on_terms Keeps
-      (λ n type h. absurd (no_type_at W u n type (sym (fold-Gen (Option ℕ) (type_step Q.target There.generators) n) ∙ h)))
-      (λ c type h.
-      ap (type_of Q.source Here.generators) (fold-Const TypeTerm (translated_step Q W u) c) ∙ fold-Const (Option ℕ) (type_step Q.source Here.generators) c
-      ∙ ap (λ T. constant_type T c) query.typeside
-      ∙ sym (fold-Const (Option ℕ) (type_step Q.target There.generators) c) ∙ h)
-      (λ a t type h.
-      option_and_then_some (followed (slice_get Q.target.attributes a)) (entity_of Q.target There.generators t) type (sym (fold-Att (Option ℕ) (type_step Q.target There.generators) a t) ∙ h) (λ e led last.
-      let edge = followed_some (slice_get Q.target.attributes a) e type last in
-      let fit : Fits Q Here (comps t) edge.0.from = fits t edge.0.from (led ∙ ap (λ n. Some n) (sym edge.2)) in
-      ap (type_of Q.source Here.generators) (fold-Att TypeTerm (translated_step Q W u) a t)
-      ∙ put_type_sorted Q Here.generators (comps t) edge.0.from fit.stand (attribute_term Q a) edge.0.to (attribute_typed Q query a edge.0 edge.1)
-      ∙ ap (λ n. Some n) edge.3))
-      (λ f ts each type h.
-      let f' = applied_type_some (slice_get Q.target.typeside.functions f) (map (type_of Q.target There.generators) ts) type (sym (fold-Fun (Option ℕ) (type_step Q.target There.generators) f ts) ∙ h) in
-      let kept : have_types (map (type_of Q.source Here.generators) (map turned ts)) f'.0.args ≡ true = all_keep ts f'.0.args f'.2 each in
-      ap (type_of Q.source Here.generators) (fold-Fun TypeTerm (translated_step Q W u) f ts) ∙ fold-Fun (Option ℕ) (type_step Q.source Here.generators) f (map turned ts)
-      ∙ ap (λ T. applied_type (slice_get T.functions f) (map (type_of Q.source Here.generators) (map turned ts))) query.typeside
-      ∙ ap (λ o. applied_type o (map (type_of Q.source Here.generators) (map turned ts))) f'.1
-      ∙ ap (λ (b : Bool). if b then Some f'.0.result else None) kept ∙ ap (λ n. Some n) f'.3)
 
   -- what is to hold of two terms that are derivably equal
   abbrev pub AreSame : Term → Term → Type 0
@@ -139,7 +101,7 @@ module _ (Q : Query) (U : Schema) (blocks : List Block) (query : IsQuery Q) (sou
       equal_reflexive Q.source Here (comps t) (comps_sorted t e.0 e.1)
   same_reflexive (Typ t) ground =
       let e = map_some Plain (type_of Q.target There.generators t) ground.0 ground.1 in
-      Derives-reflexive Q.source Here (Typ (turned t)) (Plain e.0, ap (option_map Plain) (keeps t e.0 e.1))
+      Derives-reflexive Q.source Here (Typ (turned t)) (Plain e.0, ap (option_map Plain) (keeps Q U blocks query u t e.0 e.1))
 
   -- components behind one foreign key
   key_same : (k : ℕ) (a b : EntTerm) → AreEqual Q.source Here (comps a) (comps b) → IsGround Q.target There (Ent (extended a (k ∷ [])))
@@ -169,7 +131,7 @@ module _ (Q : Query) (U : Schema) (blocks : List Block) (query : IsQuery Q) (sou
   function_same f ts us each ground =
       let type = map_some Plain (type_of Q.target There.generators (Fun f ts)) ground.0 ground.1 in
       let left = fold-Fun TypeTerm (translated_step Q W u) f ts in
-      let typed : type_of Q.source Here.generators (Fun f (map turned ts)) ≡ Some type.0 = ap (type_of Q.source Here.generators) (sym left) ∙ keeps (Fun f ts) type.0 type.1 in
+      let typed : type_of Q.source Here.generators (Fun f (map turned ts)) ≡ Some type.0 = ap (type_of Q.source Here.generators) (sym left) ∙ keeps Q U blocks query u (Fun f ts) type.0 type.1 in
       Derives-moved Q.source Here _ _ _ _ (ap Typ (sym left)) (ap Typ (sym (fold-Fun TypeTerm (translated_step Q W u) f us)))
       (Derives-function Q.source Here f (map turned ts) (map turned us) each (Plain type.0, ap (option_map Plain) typed))
 

@@ -58,7 +58,7 @@ abbrev term_in : Option ℕ → Option Block → TypeTerm
 term_in place b = term_or_constant (option_and_then (λ (block : Block). option_and_then (slice_get block.attributes) place) b)
 
 module _ (Q W : Query) where
-  block_at : (u : ℕ) (block : Block) → slice_get W.blocks u ≡ Some block → slice_get (composite Q W).blocks u ≡ Some (composite_block Q W (u, block))
+  pub block_at : (u : ℕ) (block : Block) → slice_get W.blocks u ≡ Some block → slice_get (composite Q W).blocks u ≡ Some (composite_block Q W (u, block))
   block_at u block is =
       let here : 0 + u ≡ u = omega arith in
       get_mapped (composite_block Q W) (enumerate_from 0 W.blocks) u (u, block) (enumerated 0 W.blocks u block is ∙ ap (λ m. Some (m, block)) here)

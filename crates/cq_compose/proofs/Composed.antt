@@ -1,53 +1,45 @@
 -- A composite that is not too large is a query.
-use Rattle.std.proofs.Common.{ℕ, zero, suc, Bool, true, false, List, [], ◌∷◌, ◌++◌, Option, Some, None, ◌≡◌, ◌<◌, ◌≤◌, ◌+◌, ◌^◌, ◌||◌, ◌&&◌, if◌then◌else◌, map, length, get_or, refl, sym, ap, subst, ◌∙◌, arith}
-use Rattle.std.specs.Prelude.{slice_get, option_and_then, option_map, codes, decimal, nat_lt, All}
-use Rattle.std.specs.List.{flat_map, enumerate_from, range_with_len, list_any}
+use Rattle.std.proofs.Common.{ℕ, zero, suc, false, List, [], ◌∷◌, ◌++◌, Option, Some, None, ◌≡◌, ◌<◌, ◌≤◌, ◌+◌, ◌^◌, ◌||◌, map, length, get_or, refl, sym, ap, subst, ◌∙◌, arith}
+use Rattle.std.specs.Prelude.{slice_get, option_map, codes, decimal, nat_lt}
+use Rattle.std.specs.List.{flat_map, enumerate_from, list_any}
 use Rattle.std.proofs.lemmas.List.{length-map}
 use Rattle.std.proofs.lemmas.List.Elements.{All-map}
-use Rattle.std.proofs.lemmas.List.FromFn.{length-enumerate_from, length-range_with_len}
-use Rattle.std.proofs.lemmas.Option.{slice_get-map, slice_get-get_or, slice_get_within, option_and_then_some}
+use Rattle.std.proofs.lemmas.List.FromFn.{length-enumerate_from}
+use Rattle.std.proofs.lemmas.Option.{slice_get-get_or, slice_get_within}
 use Rattle.cq_base.specs.declared.name.Name.{Name}
 use Rattle.cq_base.specs.Names.{AreDistinct}
-use Rattle.cq_theory.specs.declared.presentation.Presentation.{Presentation}
 use Rattle.cq_theory.specs.declared.presentation.Equation.{Equation}
 use Rattle.cq_theory.specs.declared.presentation.Equation.TheVariants as equation
 use Rattle.cq_theory.specs.declared.presentation.Sort.{Sort}
 use Rattle.cq_theory.specs.declared.presentation.Sort.TheVariants.{Plain, Entity}
 use Rattle.cq_theory.specs.declared.schema.Edge.{Edge}
 use Rattle.cq_theory.specs.declared.term.EntTerm.{EntTerm}
-use Rattle.cq_theory.specs.declared.term.TypeTerm.{TypeTerm}
-use Rattle.cq_theory.specs.declared.term.TypeTerm.TheOpen as layer
 use Rattle.cq_theory.specs.SchemaData.{SchemaData as Schema}
-use Rattle.cq_theory.specs.Typeside.{constant_type}
 use Rattle.cq_theory.specs.EntTerm as ent
-use Rattle.cq_theory.specs.EntTerm.{alone}
 use Rattle.cq_theory.specs.TypeTerm as typ
-use Rattle.cq_theory.specs.Sorts.{followed, target_of, entity_at, entity_of, is_type, have_types, applied_type, type_of, type_step, sort_of}
+use Rattle.cq_theory.specs.Sorts.{entity_of, type_of}
 use Rattle.cq_theory.specs.Derivation.{left_of, right_of}
-use Rattle.cq_theory.specs.Presentation.{term_symbols, is_long, has_long_side, IsSort, IsEquation, IsPresentation}
-use Rattle.cq_theory.specs.Groups.{positions, place_of, edge_sources}
-use Rattle.cq_theory.proofs.Every.{enumerated, from_enumerated}
+use Rattle.cq_theory.specs.Presentation.{term_symbols, is_long, has_long_side, IsSort, IsPresentation}
+use Rattle.cq_theory.specs.Groups.{place_of, edge_sources}
+use Rattle.cq_theory.proofs.Every.{from_enumerated}
 use Rattle.cq_theory.proofs.Faults.{neither, at_most, made_of}
 use Rattle.cq_theory.proofs.OnValues.{All_at}
 use Rattle.cq_theory.proofs.ResolvedSorts.{map_some}
-use Rattle.cq_theory.proofs.Sound.{followed_some, both, is_type_some, applied_type_some}
-use Rattle.cq_theory.proofs.TypeTerms.{fold-Gen, fold-Const, fold-Att, fold-Fun, Each, on_terms}
 use Rattle.cq_blocks.specs.declared.block.Block.{Block}
 use Rattle.cq_query.specs.QueryData.{QueryData as Query}
-use Rattle.cq_query.specs.Puts.{put_type, put_equation, generators_from}
-use Rattle.cq_query.specs.Translation.{variables_in, tests_in, variables_at, tests_at, term_or_constant, along, found_term, found_terms, attribute_term, key_sources, attribute_sources}
-use Rattle.cq_query.specs.Duties.{equal_terms, frozen}
+use Rattle.cq_query.specs.Puts.{put_equation}
+use Rattle.cq_query.specs.Translation.{variables_in, tests_in, variables_at, tests_at}
+use Rattle.cq_query.specs.Duties.{frozen}
 use Rattle.cq_query.specs.IsQuery.{IsQuery, HasBlockTerms, IsAttributeTerm, AreKeyTerms}
 use Rattle.cq_query.proofs.SortedDuties.{All_in, all_append, all_flat_map, all_equal}
-use Rattle.cq_query.proofs.Standing.{HasOneSort, Stand, generators_at, variable_at, no_type_at, alone_at, put_type_sorted, put_equation_sorted, along_stand}
-use Rattle.cq_compose.specs.Composite.{numbered, width, first_of, components_of, components, term_components, translated, translated_step, translated_test, component_entities, composite_tests, composite_block, composite, is_large_block, is_large}
-use Rattle.cq_compose.proofs.Places.{flat_at}
+use Rattle.cq_query.proofs.Standing.{HasOneSort, Stand, generators_at, put_equation_sorted}
+use Rattle.cq_compose.specs.Composite.{numbered, components, term_components, translated, translated_test, component_entities, composite_tests, composite_block, composite, is_large_block, is_large}
+use Rattle.cq_compose.proofs.Putting.{get_mapped}
+use Rattle.cq_compose.proofs.Components.{block_at, variables_are, component_fits, term_stand}
+use Rattle.cq_compose.proofs.KeptTypes.{keeps}
 use Rattle.cq_compose.proofs.Pairwise.{none_passes, member_there, Pairwise, pair_from, pair_length, pair_at, pair_flat}
 use Rattle.cq_compose.proofs.Placing.{at_edge-in_block}
 use Rattle.cq_compose.proofs.Numbering.{numbered_distinct}
-
-get_mapped : {X Y : Type 0} (f : X → Y) (xs : List X) (n : ℕ) (x : X) → slice_get xs n ≡ Some x → slice_get (map f xs) n ≡ Some (f x)
-get_mapped f xs n x h = slice_get-map f xs n ∙ ap (option_map f) h
 
 from_mapped : {X Y : Type 0} (f : X → Y) (o : Option X) (x : X) → o ≡ Some x → option_map f o ≡ Some (f x)
 from_mapped f o x h = ap (option_map f) h
@@ -85,11 +77,6 @@ module _ (Q : Query) (U : Schema) (blocks : List Block) (first : IsQuery Q) wher
   abbrev C : Query
   C = composite Q W
 
-  block_at : (u : ℕ) (block : Block) → slice_get blocks u ≡ Some block → slice_get C.blocks u ≡ Some (composite_block Q W (u, block))
-  block_at u block is =
-      let here : 0 + u ≡ u = omega arith in
-      get_mapped (composite_block Q W) (enumerate_from 0 blocks) u (u, block) (enumerated 0 blocks u block is ∙ ap (λ m. Some (m, block)) here)
-
   block_of : (u : ℕ) (block : Block) → slice_get C.blocks u ≡ Some block → (b : Block) × (slice_get blocks u ≡ Some b) × (block ≡ composite_block Q W (u, b))
   block_of u block is =
       let made = made_of (composite_block Q W) (enumerate_from 0 blocks) u block is in
@@ -98,87 +85,6 @@ module _ (Q : Query) (U : Schema) (blocks : List Block) (first : IsQuery Q) wher
       (made.0.1, from.0, made.2 ∙ ap (λ m. composite_block Q W (m, made.0.1)) number)
 
   module _ (u : ℕ) (b : Block) (there : slice_get blocks u ≡ Some b) where
-    variables_are : variables_at C u ≡ numbered (component_entities Q W u)
-    variables_are = ap variables_in (block_at u b there)
-
-    -- a component's variable is of the component's entity
-    component_sorted : (m e : ℕ) → slice_get (component_entities Q W u) m ≡ Some e → entity_of Q.source (generators_at C u) (alone m) ≡ Some e
-    component_sorted m e is =
-        let name : Name = codes "x" ++ decimal (1 + m) in
-        let named : slice_get (numbered (component_entities Q W u)) m ≡ Some (name, e) =
-        get_mapped (λ (p : ℕ × ℕ). let v : Name × ℕ = (codes "x" ++ decimal p.0, p.1) in v) (enumerate_from 1 (component_entities Q W u)) m (1 + m, e) (enumerated 1 (component_entities Q W u) m e is) in
-        let here : slice_get (variables_at C u) m ≡ Some (name, e) = ap (λ l. slice_get l m) variables_are ∙ named in
-        let generator = get_mapped (λ (v : Name × ℕ). let g : Name × Sort = (v.0, Entity v.1) in g) (variables_at C u) m (name, e) here in
-        ap (λ o. option_and_then (target_of Q.source.keys []) (entity_at o)) generator
-
-    same_width : (i : ℕ) (x y : Name × ℕ) → slice_get (variables_at W u) i ≡ Some x → slice_get (variables_at W u) i ≡ Some y
-        → length (map (λ (z : Name × ℕ). z.1) (variables_at Q x.1)) ≡ width Q W y
-    same_width i x y left right =
-        let one : Some x ≡ Some y = sym left ∙ right in
-        let same : x ≡ y = cc in
-        length-map (variables_at Q x.1) (λ (z : Name × ℕ). z.1) ∙ ap (width Q W) same
-
-    -- the components of a variable stand for a row of its entity
-    component_stand : (y : ℕ) (v : Name × ℕ) → slice_get (variables_at W u) y ≡ Some v → Stand Q (generators_at C u) (components Q W u y) v.1
-    component_stand y v is =
-        let made : Stand Q (generators_at C u) (generators_from (first_of Q W u y) (width Q W v)) v.1 = record {
-          count = length-map (range_with_len (first_of Q W u y) (width Q W v)) alone ∙ length-range_with_len (first_of Q W u y) (width Q W v);
-          each = λ n t x at at'.
-              let same : alone (first_of Q W u y + n) ≡ t = alone_at Q (first_of Q W u y) (width Q W v) n t at in
-              let here : slice_get (component_entities Q W u) (first_of Q W u y + n) ≡ Some x.1 =
-              flat_at (λ (w : Name × ℕ). map (λ (z : Name × ℕ). z.1) (variables_at Q w.1)) (width Q W) (variables_at W u) (variables_at W u) same_width refl y v n x.1 is
-              (get_mapped (λ (z : Name × ℕ). z.1) (variables_at Q v.1) n x at') in
-              ap (entity_of Q.source (generators_at C u)) (sym same) ∙ component_sorted (first_of Q W u y + n) x.1 here;
-        } in
-        subst (λ (ts : List EntTerm). Stand Q (generators_at C u) ts v.1) (sym (ap (components_of Q W u y) is)) made
-
-    -- the components of a term stand for a row of its entity
-    term_stand : (t : EntTerm) (e : ℕ) → entity_of Q.target (generators_at W u) t ≡ Some e → Stand Q (generators_at C u) (term_components Q W u t) e
-    term_stand t e h = option_and_then_some (target_of Q.target.keys t.path) (entity_at (slice_get (generators_at W u) t.generator)) e h (λ start begins rest.
-        let v = variable_at W u t.generator start begins in
-        along_stand Q first (generators_at C u) t.path (components Q W u t.generator) start e rest
-        (subst (Stand Q (generators_at C u) (components Q W u t.generator)) v.2 (component_stand t.generator v.0 v.1)))
-
-    abbrev Keeps : TypeTerm → Type 0
-    Keeps t = (type : ℕ) → type_of Q.target (generators_at W u) t ≡ Some type → type_of Q.source (generators_at C u) (translated Q W u t) ≡ Some type
-
-    all_keep : (ts : List TypeTerm) (types : List ℕ) → have_types (map (type_of Q.target (generators_at W u)) ts) types ≡ true → Each Keeps ts
-        → have_types (map (type_of Q.source (generators_at C u)) (map (translated Q W u) ts)) types ≡ true
-    all_keep [] [] h each = refl
-    all_keep [] (type ∷ types) h each = cc
-    all_keep (t ∷ ts) [] h each = cc
-    all_keep (t ∷ ts) (type ∷ types) h each =
-        let parts : (is_type (type_of Q.target (generators_at W u) t) type ≡ true) × (have_types (map (type_of Q.target (generators_at W u)) ts) types ≡ true) = both _ _ h in
-        let before : type_of Q.target (generators_at W u) t ≡ Some type = is_type_some (type_of Q.target (generators_at W u) t) type parts.0 in
-        let after : type_of Q.source (generators_at C u) (translated Q W u t) ≡ Some type = each.0 type before in
-        let one : is_type (type_of Q.source (generators_at C u) (translated Q W u t)) type ≡ true = ap (λ o. is_type o type) (after ∙ sym before) ∙ parts.0 in
-        ap (λ b. b && have_types (map (type_of Q.source (generators_at C u)) (map (translated Q W u) ts)) types) one ∙ all_keep ts types parts.1 each.1
-
-    -- a term's translation has its type
-    keeps : (t : TypeTerm) → Keeps t
-    keeps = on_terms Keeps
-        (λ n type h. absurd (no_type_at W u n type (sym (fold-Gen (Option ℕ) (type_step Q.target (generators_at W u)) n) ∙ h)))
-        (λ c type h.
-        ap (type_of Q.source (generators_at C u)) (fold-Const TypeTerm (translated_step Q W u) c) ∙ fold-Const (Option ℕ) (type_step Q.source (generators_at C u)) c
-        ∙ ap (λ T. constant_type T c) first.typeside
-        ∙ sym (fold-Const (Option ℕ) (type_step Q.target (generators_at W u)) c) ∙ h)
-        (λ a t type h.
-        option_and_then_some (followed (slice_get Q.target.attributes a)) (entity_of Q.target (generators_at W u) t) type (sym (fold-Att (Option ℕ) (type_step Q.target (generators_at W u)) a t) ∙ h) (λ e led last.
-        let edge = followed_some (slice_get Q.target.attributes a) e type last in
-        let is_term = first.attributes a edge.0 edge.1 in
-        let stand : Stand Q (generators_at C u) (term_components Q W u t) edge.0.from = term_stand t edge.0.from (led ∙ ap (λ n. Some n) (sym edge.2)) in
-        ap (type_of Q.source (generators_at C u)) (fold-Att TypeTerm (translated_step Q W u) a t)
-        ∙ ap (λ o. type_of Q.source (generators_at C u) (put_type (term_components Q W u t) (term_or_constant o))) is_term.found
-        ∙ put_type_sorted Q (generators_at C u) (term_components Q W u t) edge.0.from stand is_term.term edge.0.to is_term.typed
-        ∙ ap (λ n. Some n) edge.3))
-        (λ f ts each type h.
-        let f' = applied_type_some (slice_get Q.target.typeside.functions f) (map (type_of Q.target (generators_at W u)) ts) type (sym (fold-Fun (Option ℕ) (type_step Q.target (generators_at W u)) f ts) ∙ h) in
-        let kept : have_types (map (type_of Q.source (generators_at C u)) (map (translated Q W u) ts)) f'.0.args ≡ true = all_keep ts f'.0.args f'.2 each in
-        ap (type_of Q.source (generators_at C u)) (fold-Fun TypeTerm (translated_step Q W u) f ts) ∙ fold-Fun (Option ℕ) (type_step Q.source (generators_at C u)) f (map (translated Q W u) ts)
-        ∙ ap (λ T. applied_type (slice_get T.functions f) (map (type_of Q.source (generators_at C u)) (map (translated Q W u) ts))) first.typeside
-        ∙ ap (λ o. applied_type o (map (type_of Q.source (generators_at C u)) (map (translated Q W u) ts))) f'.1
-        ∙ ap (λ (b : Bool). if b then Some f'.0.result else None) kept ∙ ap (λ n. Some n) f'.3)
-
     -- an equation of the second query gives equations whose sides have one sort
     test_sorted : (e : Equation) → HasOneSort W (generators_at W u) e → All_in (HasOneSort Q (generators_at C u)) (translated_test Q W u e)
     test_sorted (equation.Ent t v) h =
@@ -186,15 +92,15 @@ module _ (Q : Query) (U : Schema) (blocks : List Block) (first : IsQuery Q) wher
         let right = map_some Entity (entity_of Q.target (generators_at W u) v) h.0 h.2 in
         let sorts : Entity right.0 ≡ Entity left.0 = right.2 ∙ sym left.2 in
         let same : right.0 ≡ left.0 = cc in
-        all_equal Q first (generators_at C u) left.0 (term_components Q W u t) (term_components Q W u v) (term_stand t left.0 left.1)
-        (subst (Stand Q (generators_at C u) (term_components Q W u v)) same (term_stand v right.0 right.1))
+        all_equal Q first (generators_at C u) left.0 (term_components Q W u t) (term_components Q W u v) (term_stand Q U blocks first u t left.0 left.1)
+        (subst (Stand Q (generators_at C u) (term_components Q W u v)) same (term_stand Q U blocks first u v right.0 right.1))
     test_sorted (equation.Typ t v) h = one
       where
         sides : HasOneSort Q (generators_at C u) (equation.Typ (translated Q W u t) (translated Q W u v))
         sides =
             let left = map_some Plain (type_of Q.target (generators_at W u) t) h.0 h.1 in
             let right = map_some Plain (type_of Q.target (generators_at W u) v) h.0 h.2 in
-            (h.0, ap (option_map Plain) (keeps t left.0 left.1) ∙ ap (λ (s : Sort). Some s) left.2, ap (option_map Plain) (keeps v right.0 right.1) ∙ ap (λ (s : Sort). Some s) right.2)
+            (h.0, ap (option_map Plain) (keeps Q U blocks first u t left.0 left.1) ∙ ap (λ (s : Sort). Some s) left.2, ap (option_map Plain) (keeps Q U blocks first u v right.0 right.1) ∙ ap (λ (s : Sort). Some s) right.2)
 
         one : All_in (HasOneSort Q (generators_at C u)) (equation.Typ (translated Q W u t) (translated Q W u v) ∷ [])
         one zero e here = let same : equation.Typ (translated Q W u t) (translated Q W u v) ≡ e = cc in subst (HasOneSort Q (generators_at C u)) same sides
@@ -203,7 +109,7 @@ module _ (Q : Query) (U : Schema) (blocks : List Block) (first : IsQuery Q) wher
   module _ (second : IsQuery W) (small : is_large C ≡ false) where
     module _ (u : ℕ) (b : Block) (there : slice_get blocks u ≡ Some b) where
       is_small : IsSmall (composite_block Q W (u, b))
-      is_small = small_block (composite_block Q W (u, b)) (none_passes is_large_block C.blocks small u (composite_block Q W (u, b)) (block_at u b there))
+      is_small = small_block (composite_block Q W (u, b)) (none_passes is_large_block C.blocks small u (composite_block Q W (u, b)) (block_at Q W u b there))
 
       within : u < length U.entities
       within = omega (arith, second.blocks, slice_get_within blocks u b there)
@@ -223,14 +129,14 @@ module _ (Q : Query) (U : Schema) (blocks : List Block) (first : IsQuery Q) wher
           let made = made_of (put_equation (components Q W u y.0)) (tests_at Q y.1.1) n e at' in
           let test = (first.each_frozen y.1.1 (entity_within y.0 y.1 variable)).equations n made.0 made.1 in
           subst (HasOneSort Q (generators_at C u)) (sym made.2)
-          (put_equation_sorted Q (generators_at C u) (components Q W u y.0) y.1.1 (component_stand u b there y.0 y.1 variable) made.0 (test.sort, test.left, test.right))))
+          (put_equation_sorted Q (generators_at C u) (components Q W u y.0) y.1.1 (component_fits Q W u y.0 y.1 variable).stand made.0 (test.sort, test.left, test.right))))
           (all_flat_map (HasOneSort Q (generators_at C u)) (translated_test Q W u) (tests_at W u) (λ n e at.
           let test = (second.each_frozen u within).equations n e at in
           test_sorted u b there e (test.sort, test.left, test.right)))
 
       variable_entity : (n : ℕ) (v : Name × ℕ) → slice_get (variables_at C u) n ≡ Some v → slice_get (component_entities Q W u) n ≡ Some v.1
       variable_entity n v at =
-          let made = made_of (λ (p : ℕ × ℕ). let w : Name × ℕ = (codes "x" ++ decimal p.0, p.1) in w) (enumerate_from 1 (component_entities Q W u)) n v (ap (λ l. slice_get l n) (sym (variables_are u b there)) ∙ at) in
+          let made = made_of (λ (p : ℕ × ℕ). let w : Name × ℕ = (codes "x" ++ decimal p.0, p.1) in w) (enumerate_from 1 (component_entities Q W u)) n v (ap (λ l. slice_get l n) (sym (variables_are Q W u)) ∙ at) in
           (from_enumerated 1 (component_entities Q W u) n made.0 made.1).0 ∙ ap (λ (w : Name × ℕ). Some w.1) (sym made.2)
 
       entities_sorted : All_in (λ e. e < length Q.source.entities) (component_entities Q W u)
@@ -243,9 +149,9 @@ module _ (Q : Query) (U : Schema) (blocks : List Block) (first : IsQuery Q) wher
       presented = record {
         generators = All-map (λ (g : Name × Sort). IsSort Q.source g.1) (λ (v : Name × ℕ). (v.0, Entity v.1)) (variables_at C u) (λ k d h.
             entities_sorted k (get_or (variables_at C u) k d).1 (variable_entity k (get_or (variables_at C u) k d) (slice_get-get_or (variables_at C u) k d h)));
-        count = omega (arith, is_small.vars, ap length (ap variables_in (block_at u b there)), length-map (variables_at C u) (λ (v : Name × ℕ). let g : Name × Sort = (v.0, Entity v.1) in g));
+        count = omega (arith, is_small.vars, ap length (ap variables_in (block_at Q W u b there)), length-map (variables_at C u) (λ (v : Name × ℕ). let g : Name × Sort = (v.0, Entity v.1) in g));
         equations = λ n e at.
-            let here : slice_get (composite_tests Q W u) n ≡ Some e = ap (λ l. slice_get l n) (sym (ap tests_in (block_at u b there))) ∙ at in
+            let here : slice_get (composite_tests Q W u) n ≡ Some e = ap (λ l. slice_get l n) (sym (ap tests_in (block_at Q W u b there))) ∙ at in
             let sides = tests_sorted n e here in
             let short = short_sides e (none_passes has_long_side (composite_tests Q W u) is_small.tests n e here) in
             record { sort = sides.0; left = sides.1; right = sides.2; left_fits = short.0; right_fits = short.1 };
@@ -296,8 +202,8 @@ module _ (Q : Query) (U : Schema) (blocks : List Block) (first : IsQuery Q) wher
           get_mapped (translated Q W edge.from) b.0.attributes place term.term old in
           record {
             term = translated Q W edge.from term.term;
-            found = at_edge-in_block C U.attributes (λ (c : Block). c.attributes) a edge at (composite_block Q W (edge.from, b.0)) (block_at edge.from b.0 b.1) ∙ new;
-            typed = keeps edge.from b.0 b.1 term.term edge.to term.typed;
+            found = at_edge-in_block C U.attributes (λ (c : Block). c.attributes) a edge at (composite_block Q W (edge.from, b.0)) (block_at Q W edge.from b.0 b.1) ∙ new;
+            typed = keeps Q U blocks first edge.from term.term edge.to term.typed;
             fits = at_most 1024 (typ.symbols_of (translated Q W edge.from term.term))
                 (none_passes (λ t. nat_lt 1024 (typ.symbols_of t)) (map (translated Q W edge.from) b.0.attributes) (is_small edge.from b.0 b.1).attributes place (translated Q W edge.from term.term) new);
           }
@@ -320,11 +226,11 @@ module _ (Q : Query) (U : Schema) (blocks : List Block) (first : IsQuery Q) wher
           let pairs : Pairwise (λ (t : EntTerm) (e : ℕ). entity_of Q.source (generators_at C edge.from) t ≡ Some e) (flat_map (term_components Q W edge.from) terms.terms) (component_entities Q W edge.to) =
           pair_flat (λ (t : EntTerm) (e : ℕ). entity_of Q.source (generators_at C edge.from) t ≡ Some e) (term_components Q W edge.from) (λ (y : Name × ℕ). map (λ (v : Name × ℕ). v.1) (variables_at Q y.1))
           terms.terms (variables_at W edge.to) terms.each (λ n t v at_term at_variable.
-          pairs_of edge.from t v.1 (term_stand edge.from b.0 b.1 t v.1 (terms.sorted n t v at_term at_variable).0)) in
-          let vars : variables_at C edge.to ≡ numbered (component_entities Q W edge.to) = variables_are edge.to d.0 d.1 in
+          pairs_of edge.from t v.1 (term_stand Q U blocks first edge.from t v.1 (terms.sorted n t v at_term at_variable).0)) in
+          let vars : variables_at C edge.to ≡ numbered (component_entities Q W edge.to) = variables_are Q W edge.to in
           record {
             terms = flat_map (term_components Q W edge.from) terms.terms;
-            found = at_edge-in_block C U.keys (λ (c : Block). c.keys) k edge at (composite_block Q W (edge.from, b.0)) (block_at edge.from b.0 b.1) ∙ new;
+            found = at_edge-in_block C U.keys (λ (c : Block). c.keys) k edge at (composite_block Q W (edge.from, b.0)) (block_at Q W edge.from b.0 b.1) ∙ new;
             each = pair_length (λ (t : EntTerm) (e : ℕ). entity_of Q.source (generators_at C edge.from) t ≡ Some e) _ _ pairs
                 ∙ sym (ap length vars ∙ length-map (enumerate_from 1 (component_entities Q W edge.to)) (λ (p : ℕ × ℕ). let w : Name × ℕ = (codes "x" ++ decimal p.0, p.1) in w)
                 ∙ length-enumerate_from 1 (component_entities Q W edge.to));

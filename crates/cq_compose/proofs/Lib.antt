@@ -7,12 +7,13 @@ pub mod Places
 pub mod Pairwise
 pub mod Typed
 pub mod Respected
-pub mod Composed
 pub mod Putting
 pub mod Equals
 pub mod Fitting
 pub mod Agreeing
 pub mod Components
+pub mod KeptTypes
+pub mod Composed
 pub mod Carrying
 pub mod Pieces
 pub mod SoundComposites
