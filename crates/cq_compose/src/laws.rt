@@ -17,7 +17,6 @@ pub fn sorted_query_of_mapping()
     ensures { (F : Mapping) → IsMapping F → IsQuery (mapping_query F) }
 {}
 
-
 /// The query of a mapping answers on tables of the mapping's target those that the mapping pulls back.
 pub fn query_of_mapping_pulls_back()
     ensures { (F : Mapping) → IsMapping F → (M : Tables) → IsWellFormed F.target M
