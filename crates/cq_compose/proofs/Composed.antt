@@ -235,12 +235,12 @@ module _ (Q : Query) (U : Schema) (blocks : List Block) (first : IsQuery Q) wher
                 ∙ sym (ap length vars ∙ length-map (enumerate_from 1 (component_entities Q W edge.to)) (λ (p : ℕ × ℕ). let w : Name × ℕ = (codes "x" ++ decimal p.0, p.1) in w)
                 ∙ length-enumerate_from 1 (component_entities Q W edge.to));
             sorted = λ n t v at_term at_variable. (
-                pair_at (λ (s : EntTerm) (e : ℕ). entity_of Q.source (generators_at C edge.from) s ≡ Some e) _ _ pairs n t v.1 at_term (variable_entity edge.to d.0 d.1 n v at_variable),
-                at_most 1024 (ent.symbols_of t)
-                (none_passes (λ s. nat_lt 1024 (ent.symbols_of s)) (flat_map (term_components Q W edge.from) terms.terms)
-                (none_passes (list_any (λ s. nat_lt 1024 (ent.symbols_of s))) (map (flat_map (term_components Q W edge.from)) b.0.keys) (is_small edge.from b.0 b.1).keys place (flat_map (term_components Q W edge.from) terms.terms) new)
-                n t at_term),
-              );
+              pair_at (λ (s : EntTerm) (e : ℕ). entity_of Q.source (generators_at C edge.from) s ≡ Some e) _ _ pairs n t v.1 at_term (variable_entity edge.to d.0 d.1 n v at_variable),
+              at_most 1024 (ent.symbols_of t)
+                  (none_passes (λ s. nat_lt 1024 (ent.symbols_of s)) (flat_map (term_components Q W edge.from) terms.terms)
+                  (none_passes (list_any (λ s. nat_lt 1024 (ent.symbols_of s))) (map (flat_map (term_components Q W edge.from)) b.0.keys) (is_small edge.from b.0 b.1).keys place (flat_map (term_components Q W edge.from) terms.terms) new)
+                  n t at_term),
+            );
           }
         where
           pairs_of : (u : ℕ) (t : EntTerm) (e : ℕ) → Stand Q (generators_at C u) (term_components Q W u t) e

@@ -161,8 +161,8 @@ module _ (F : Mapping) (mapping : IsMapping F) where
         let one : (codes "x1", entity_image F edge.to) ≡ v = cc in
         let image = mapping.key_images k edge at in (
           ap (entity_of F.target (frozen Q edge.from).generators) (sym term)
-          ∙ ap (λ (P : Presentation). entity_of F.target P.generators (from_variable F (key_image F k))) (frozen_there edge.from key_within.0)
-          ∙ image.leads ∙ ap (λ (w : Name × ℕ). Some w.1) one,
+              ∙ ap (λ (P : Presentation). entity_of F.target P.generators (from_variable F (key_image F k))) (frozen_there edge.from key_within.0)
+              ∙ image.leads ∙ ap (λ (w : Name × ℕ). Some w.1) one,
           subst (λ (u : EntTerm). ent.symbols_of u ≤ 1024) term (let fits : length (key_image F k) + 1 ≤ 1024 = omega (arith, image.fits) in fits),
         )
     one_term (suc n) t v at_term at_variable = cc

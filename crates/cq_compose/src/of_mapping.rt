@@ -28,7 +28,11 @@ fn image_of_entity(mapping: &Mapping, entity: u32) -> u32
 }
 
 /// The term of an attribute.
-fn image_of_attribute(alloc: Global, mapping: &Mapping, attribute: u32) -> Result<TypeTerm, AllocError>
+fn image_of_attribute(
+    alloc: Global,
+    mapping: &Mapping,
+    attribute: u32,
+) -> Result<TypeTerm, AllocError>
     ensures { IfOk result (λ made. made ≡ attribute_image mapping.now attribute) }
 {
     match mapping.attributes.as_slice().get(attribute as usize) {
@@ -76,7 +80,11 @@ fn assignment(alloc: Global, mapping: &Mapping, key: u32) -> Result<Seq<EntTerm>
 }
 
 /// What each of these keys assigns.
-fn assignments(alloc: Global, mapping: &Mapping, keys: &[u32]) -> Result<Vec<Seq<EntTerm>>, AllocError>
+fn assignments(
+    alloc: Global,
+    mapping: &Mapping,
+    keys: &[u32],
+) -> Result<Vec<Seq<EntTerm>>, AllocError>
     ensures { IfOk result (λ made. made.items
         ≡ map (λ key. from_variable mapping.now (key_image mapping.now key) ∷ []) keys.now) }
 {
@@ -133,7 +141,11 @@ fn build_block(
 
 /// The blocks of all entities.
 #[tactic(auto, using(cq_mapping::proofs::Ranges::map_below_more))]
-fn build_blocks(alloc: Global, mapping: &Mapping, sources: &Sources) -> Result<Vec<Block>, AllocError>
+fn build_blocks(
+    alloc: Global,
+    mapping: &Mapping,
+    sources: &Sources,
+) -> Result<Vec<Block>, AllocError>
     requires attributes { AreGroups (edge_sources mapping.now.source.attributes)
         (length mapping.now.source.entities) sources.now.attributes }
     requires keys { AreGroups (edge_sources mapping.now.source.keys) (length mapping.now.source.entities)
