@@ -1,9 +1,8 @@
 -- The query of a mapping that preserves the equations of its source is sound.
-use Rattle.std.proofs.Common.{ℕ, zero, suc, List, [], ◌∷◌, ◌++◌, Option, Some, ◌≡◌, ◌<◌, ◌+◌, map, length, refl, sym, ap, subst, ◌∙◌, append_assoc}
-use Rattle.std.specs.Prelude.{slice_get, option_map}
-use Rattle.std.specs.List.{flat_map}
+use Rattle.std.proofs.Common.{ℕ, zero, suc, List, [], ◌∷◌, Some, ◌≡◌, ◌<◌, ◌+◌, map, length, refl, sym, ap, subst, ◌∙◌, append_assoc}
+use Rattle.std.specs.Prelude.{slice_get}
 use Rattle.std.proofs.lemmas.List.{append-nil}
-use Rattle.std.proofs.lemmas.Option.{slice_get-map, option_and_then_some}
+use Rattle.std.proofs.lemmas.Option.{option_and_then_some}
 use Rattle.cq_base.specs.declared.name.Name.{Name}
 use Rattle.cq_theory.specs.declared.presentation.Presentation.{Presentation}
 use Rattle.cq_theory.specs.declared.presentation.Equation.{Equation}
@@ -14,53 +13,39 @@ use Rattle.cq_theory.specs.declared.schema.ObsEq.{ObsEq}
 use Rattle.cq_theory.specs.declared.term.EntTerm.{EntTerm}
 use Rattle.cq_theory.specs.declared.term.TypeTerm.{TypeTerm}
 use Rattle.cq_theory.specs.declared.term.TypeTerm.TheVariants.{Att, Fun}
-use Rattle.cq_theory.specs.declared.term.Term.{Term}
 use Rattle.cq_theory.specs.declared.term.Term.TheVariants.{Ent, Typ}
 use Rattle.cq_theory.specs.SchemaData.{SchemaData as Schema}
 use Rattle.cq_theory.specs.EntTerm.{alone, extended}
 use Rattle.cq_theory.specs.TypeTerm.{substituted, substituted_step}
 use Rattle.cq_theory.specs.Schema.{one_of}
 use Rattle.cq_theory.specs.Sorts.{followed, target_of, entity_at, entity_of, type_of}
-use Rattle.cq_theory.specs.Groups.{positions}
 use Rattle.cq_theory.specs.Derivation.{Derives, left_of, right_of}
 use Rattle.cq_theory.proofs.Sound.{followed_some}
-use Rattle.cq_theory.proofs.TypeTerms.{fold-Const, fold-Att, fold-Fun, Each}
-use Rattle.cq_blocks.specs.declared.block.Block.{Block}
+use Rattle.cq_theory.proofs.TypeTerms.{fold-Const, fold-Att, fold-Fun}
 use Rattle.cq_mapping.specs.MappingData.{MappingData as Mapping}
 use Rattle.cq_mapping.specs.Mapping.{IsMapping}
 use Rattle.cq_mapping.specs.Images.{entity_image, key_image, attribute_image, path_image, ent_image, type_image, type_image_step}
-use Rattle.cq_mapping.specs.Duties.{path_duty, observation_duty, duties_of, Preserves}
+use Rattle.cq_mapping.specs.Duties.{path_duty, observation_duty, Preserves}
 use Rattle.cq_mapping.proofs.Substituting.{substituted-substituted, Derives-replaced}
 use Rattle.cq_query.specs.QueryData.{QueryData as Query}
 use Rattle.cq_query.specs.Puts.{generators_from, term_or_first, put, put_type, put_type_step, put_equation}
-use Rattle.cq_query.specs.Translation.{key_sources, path_sources, observation_sources, tests_in, variables_at, variable_terms, terms_or_none, term_or_constant, assigned, attribute_term, along, translated, translated_step}
+use Rattle.cq_query.specs.Translation.{tests_in, variable_terms, terms_or_none, term_or_constant, assigned, attribute_term, along, translated, translated_step}
 use Rattle.cq_query.specs.Duties.{equal_terms, frozen, key_duties, path_duties, observation_duties, Sound}
-use Rattle.cq_query.proofs.SortedDuties.{All_in, all_append, all_flat_map, from_position}
-use Rattle.cq_compose.specs.MappingQuery.{from_variable, mapping_block, mapping_query}
+use Rattle.cq_query.proofs.SortedDuties.{All_in}
+use Rattle.cq_compose.specs.MappingQuery.{from_variable, mapping_query}
 use Rattle.cq_compose.proofs.Places.{get_front, get_back}
-use Rattle.cq_compose.proofs.Typed.{no_variable, on_typed, each_same}
+use Rattle.cq_compose.proofs.Typed.{no_variable, on_typed, each_same, each_apart}
+use Rattle.cq_compose.proofs.Putting.{get_mapped}
+use Rattle.cq_compose.proofs.Agreeing.{one_member}
+use Rattle.cq_compose.proofs.AllDuties.{all_duties}
 use Rattle.cq_compose.proofs.Variable.{block_there, variables_there, frozen_there, attribute_found, key_within, key_found}
-
-get_mapped : {X Y : Type 0} (f : X → Y) (xs : List X) (n : ℕ) (x : X) → slice_get xs n ≡ Some x → slice_get (map f xs) n ≡ Some (f x)
-get_mapped f xs n x h = slice_get-map f xs n ∙ ap (option_map f) h
 
 first_variable : (e n start : ℕ) → entity_at (slice_get (one_of e) n) ≡ Some start → 0 ≡ n
 first_variable e zero start h = refl
 first_variable e (suc n) start h = cc
 
-one : {X : Type 0} (P : X → Type 0) (x : X) → P x → All_in P (x ∷ [])
-one P x h zero y at = let same : x ≡ y = cc in subst P same h
-one P x h (suc n) y at = cc
-
 nothing : {X : Type 0} (P : X → Type 0) → All_in P []
 nothing P n y at = cc
-
-each_through : (f g h : TypeTerm → TypeTerm) (ts : List TypeTerm) → Each (λ t. f t ≡ g (h t)) ts → map f ts ≡ map g (map h ts)
-each_through f g h [] each = refl
-each_through f g h (t ∷ ts) each =
-    let first : f t ≡ g (h t) = each.0 in
-    let rest = each_through f g h ts each.1 in
-    λ i. first i ∷ rest i
 
 -- one term in the place of the one variable
 put_one : (s : EntTerm) (T : Schema) (e : ℕ) (u : TypeTerm) (type : ℕ) → type_of T (one_of e) u ≡ Some type → put_type (s ∷ []) u ≡ substituted s u
@@ -98,7 +83,7 @@ module _ (F : Mapping) (mapping : IsMapping F) where
       ∙ put_one (extended (alone 0) (path_image F t.path)) F.target (entity_image F edge.from) (attribute_image F a) edge.to (mapping.attribute_images a edge at).typed
       ∙ sym (substituted-substituted (alone 0) (ent_image F t) (attribute_image F a))
       ∙ sym (ap (substituted (alone 0)) (fold-Att TypeTerm (type_image_step F) a t))))
-      (λ f ts type h each. fold-Fun TypeTerm (translated_step Q (alone 0 ∷ [])) f ts ∙ ap (Fun f) (each_through (translated Q (alone 0 ∷ [])) (substituted (alone 0)) (type_image F) ts each)
+      (λ f ts type h each. fold-Fun TypeTerm (translated_step Q (alone 0 ∷ [])) f ts ∙ ap (Fun f) (each_apart (translated Q (alone 0 ∷ [])) (substituted (alone 0)) (type_image F) ts each)
       ∙ sym (ap (substituted (alone 0)) (fold-Fun TypeTerm (type_image_step F) f ts) ∙ fold-Fun TypeTerm (substituted_step (alone 0)) f (map (type_image F) ts)))
 
   abbrev IsDerived : ℕ → Equation → Type 0
@@ -109,6 +94,12 @@ module _ (F : Mapping) (mapping : IsMapping F) where
 
   one_term : (e : ℕ) → e < length F.source.entities → variable_terms Q e ≡ alone 0 ∷ []
   one_term e within = ap (λ (vs : List (Name × ℕ)). generators_from 0 (length vs)) (variables_there F mapping e within)
+
+  -- there are no where equations
+  no_key_duties : (k : ℕ) (edge : Edge) → slice_get F.source.keys k ≡ Some edge → All_in (IsDerived edge.from) (key_duties Q k (Some edge))
+  no_key_duties k edge is =
+      let no_duties : key_duties Q k (Some edge) ≡ [] = ap (λ o. map (put_equation (assigned Q k)) (tests_in o)) (block_there F mapping edge.to (key_within F mapping k edge is).1) in
+      subst (All_in (IsDerived edge.from)) (sym no_duties) (nothing (IsDerived edge.from))
 
   module _ (preserves : Preserves F) where
     path_derived : (n : ℕ) (e : PathEq) → slice_get F.source.path_eqs n ≡ Some e → All_in (IsDerived e.entity) (path_duties Q e.entity (Some e))
@@ -121,7 +112,7 @@ module _ (F : Mapping) (mapping : IsMapping F) where
         let all : path_duties Q e.entity (Some e) ≡ EntEquation (extended (alone 0) (path_image F e.left)) (extended (alone 0) (path_image F e.right)) ∷ [] =
         λ i. equal_terms (left i) (right i) in
         subst (All_in (IsDerived e.entity)) (sym all)
-        (one (IsDerived e.entity) (EntEquation (extended (alone 0) (path_image F e.left)) (extended (alone 0) (path_image F e.right)))
+        (one_member (IsDerived e.entity) (EntEquation (extended (alone 0) (path_image F e.left)) (extended (alone 0) (path_image F e.right)))
         (Derives-replaced F.target (frozen Q e.entity) (entity_image F e.entity) (alone 0) (variable_sorted e.entity sides.entity)
         (Ent (record { generator = 0; path = path_image F e.left })) (Ent (record { generator = 0; path = path_image F e.right }))
         (preserves n (path_duty F e) (get_front (map (path_duty F) F.source.path_eqs) (map (observation_duty F) F.source.obs_eqs) n (path_duty F e) (get_mapped (path_duty F) F.source.path_eqs n e at)))))
@@ -136,39 +127,10 @@ module _ (F : Mapping) (mapping : IsMapping F) where
         let all : observation_duties Q e.entity (Some e) ≡ TypEquation (substituted (alone 0) (type_image F e.left)) (substituted (alone 0) (type_image F e.right)) ∷ [] =
         λ i. TypEquation (left i) (right i) ∷ [] in
         subst (All_in (IsDerived e.entity)) (sym all)
-        (one (IsDerived e.entity) (TypEquation (substituted (alone 0) (type_image F e.left)) (substituted (alone 0) (type_image F e.right)))
+        (one_member (IsDerived e.entity) (TypEquation (substituted (alone 0) (type_image F e.left)) (substituted (alone 0) (type_image F e.right)))
         (Derives-replaced F.target (frozen Q e.entity) (entity_image F e.entity) (alone 0) (variable_sorted e.entity sides.entity) (Typ (type_image F e.left)) (Typ (type_image F e.right))
         (preserves (length (map (path_duty F) F.source.path_eqs) + n) (observation_duty F e)
         (get_back (map (path_duty F) F.source.path_eqs) (map (observation_duty F) F.source.obs_eqs) n (observation_duty F e) (get_mapped (observation_duty F) F.source.obs_eqs n e at)))))
 
-    module _ (entity : ℕ) where
-      all_key : All_in (λ k. All_in (IsDerived entity) (key_duties Q k (slice_get F.source.keys k))) (positions (key_sources Q) entity)
-      all_key r k is =
-          let edge = from_position (λ (e : Edge). e.from) F.source.keys entity r k is in
-          let no_duties : key_duties Q k (slice_get F.source.keys k) ≡ [] =
-          ap (key_duties Q k) edge.1 ∙ ap (λ o. map (put_equation (assigned Q k)) (tests_in o)) (block_there F mapping edge.0.to (key_within F mapping k edge.0 edge.1).1) in
-          subst (All_in (IsDerived entity)) (sym no_duties) (nothing (IsDerived entity))
-
-      all_path : All_in (λ n. All_in (IsDerived entity) (path_duties Q entity (slice_get F.source.path_eqs n))) (positions (path_sources Q) entity)
-      all_path r n is =
-          let e = from_position (λ (e : PathEq). e.entity) F.source.path_eqs entity r n is in
-          subst (λ (o : Option PathEq). All_in (IsDerived entity) (path_duties Q entity o)) (sym e.1)
-          (subst (λ m. All_in (IsDerived m) (path_duties Q m (Some e.0))) e.2 (path_derived n e.0 e.1))
-
-      all_observation : All_in (λ n. All_in (IsDerived entity) (observation_duties Q entity (slice_get F.source.obs_eqs n))) (positions (observation_sources Q) entity)
-      all_observation r n is =
-          let e = from_position (λ (e : ObsEq). e.entity) F.source.obs_eqs entity r n is in
-          subst (λ (o : Option ObsEq). All_in (IsDerived entity) (observation_duties Q entity o)) (sym e.1)
-          (subst (λ m. All_in (IsDerived m) (observation_duties Q m (Some e.0))) e.2 (observation_derived n e.0 e.1))
-
     pub respected : Sound Q
-    respected entity n e within at =
-        all_append (IsDerived entity)
-        (flat_map (λ k. key_duties Q k (slice_get F.source.keys k)) (positions (key_sources Q) entity) ++ flat_map (λ m. path_duties Q entity (slice_get F.source.path_eqs m)) (positions (path_sources Q) entity))
-        (flat_map (λ m. observation_duties Q entity (slice_get F.source.obs_eqs m)) (positions (observation_sources Q) entity))
-        (all_append (IsDerived entity)
-        (flat_map (λ k. key_duties Q k (slice_get F.source.keys k)) (positions (key_sources Q) entity)) (flat_map (λ m. path_duties Q entity (slice_get F.source.path_eqs m)) (positions (path_sources Q) entity))
-        (all_flat_map (IsDerived entity) (λ k. key_duties Q k (slice_get F.source.keys k)) (positions (key_sources Q) entity) (all_key entity))
-        (all_flat_map (IsDerived entity) (λ m. path_duties Q entity (slice_get F.source.path_eqs m)) (positions (path_sources Q) entity) (all_path entity)))
-        (all_flat_map (IsDerived entity) (λ m. observation_duties Q entity (slice_get F.source.obs_eqs m)) (positions (observation_sources Q) entity) (all_observation entity))
-        n e at
+    respected entity n e within at = all_duties Q IsDerived no_key_duties path_derived observation_derived entity n e at

@@ -67,6 +67,13 @@ each_twice f g h (t ∷ ts) each =
     let rest = each_twice f g h ts each.1 in
     λ i. first i ∷ rest i
 
+pub each_apart : (f g h : TypeTerm → TypeTerm) (ts : List TypeTerm) → Each (λ t. f t ≡ g (h t)) ts → map f ts ≡ map g (map h ts)
+each_apart f g h [] each = refl
+each_apart f g h (t ∷ ts) each =
+    let first : f t ≡ g (h t) = each.0 in
+    let rest = each_apart f g h ts each.1 in
+    λ i. first i ∷ rest i
+
 pub each_across : (f g h k : TypeTerm → TypeTerm) (ts : List TypeTerm) → Each (λ t. f (g t) ≡ h (k t)) ts → map f (map g ts) ≡ map h (map k ts)
 each_across f g h k [] each = refl
 each_across f g h k (t ∷ ts) each =
