@@ -236,3 +236,7 @@ composite_thrice Q W V first second third front back same same' M N R X a b c = 
   composite_answers (composite Q W) V front third same' M R X (composite_answers Q W first second same M N R a b) c,
   composite_answers Q (composite W V) first back same M N X a (composite_answers W V second third same' N R X b c),
 )
+
+-- what a query that is the composite answers
+pub made_answers : (Q W made : Query) → IsQuery Q → IsQuery W → W.source ≡ Q.target → made ≡ composite Q W → (M N R : Tables) → IsEval Q M N → IsEval W N R → IsEval made M R
+made_answers Q W made query second same is M N R eval next = subst (λ (X : Query). IsEval X M R) (sym is) (composite_answers Q W query second (sym same) M N R eval next)

@@ -165,3 +165,7 @@ composite_sound Q W query second same sound second_sound =
     sound_composite Q W.target W.blocks query sound
     (subst (λ (T : Schema). IsQuery (record { source = T; target = W.target; blocks = W.blocks })) (sym same) second)
     (subst (λ (T : Schema). Sound (record { source = T; target = W.target; blocks = W.blocks })) (sym same) second_sound)
+
+-- the same of a query that is the composite
+pub made_sound : (Q W made : Query) → IsQuery Q → IsQuery W → W.source ≡ Q.target → made ≡ composite Q W → Sound Q → Sound W → Sound made
+made_sound Q W made query second same is sound second_sound = subst Sound (sym is) (composite_sound Q W query second (sym same) sound second_sound)
