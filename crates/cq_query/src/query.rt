@@ -11,7 +11,7 @@ use cq_base::Seq;
 pub use cq_blocks::Block;
 use cq_blocks::{BlockParts, QueryParts, make_blocks, make_entities};
 use cq_theory::{ArrowRefusal, Beginnings, Edge, ObsEq, PathEq, Schema};
-use std::alloc::Global;
+use std::alloc::{AllocError, Global};
 use std::marker::Model;
 use std::rc::Rc;
 
@@ -106,6 +106,29 @@ impl Query {
             }),
             Err(refusal) => Err(refusal),
         }
+    }
+
+    /// The query of these blocks, one for each entity of the target, between these schemas.
+    pub fn of_blocks(
+        alloc: Global,
+        source: Rc<Schema>,
+        target: Rc<Schema>,
+        blocks: Seq<Block>,
+    ) -> Result<Query, AllocError>
+        requires { IsQuery (record { source = source.value; target = target.value; blocks = blocks }) }
+        ensures { IfOk result (λ made. made ≡ record {
+            source = source.value;
+            target = target.value;
+            blocks = blocks;
+        }) }
+    {
+        let beginnings = Beginnings::of(alloc, &target)?;
+        Ok(Query {
+            source,
+            target,
+            blocks,
+            beginnings,
+        })
     }
 
     /// Every query is well sorted. The call does nothing.
