@@ -13,7 +13,7 @@ ghost use Rattle.cq_stating.specs.Checks.{a_mapping, an_identity, a_presentation
 use crate::duties::unmet;
 use crate::gluing::{glued, summed};
 use crate::moves::{pulled, pushed};
-use crate::queries::{answered, checked_query, read_backwards};
+use crate::queries::{answered, checked_query, composed, mapped, read_backwards};
 use cq_base::{Name, Place, Seq};
 use cq_check::check_mapping;
 use cq_mapping::Mapping;
@@ -25,6 +25,7 @@ use std::alloc::{AllocError, Global};
 use std::rc::Rc;
 
 /// What the declaration at a place stands for: a theory itself, a mapping or a query whose duties are derivable itself,
+/// two queries by their composite, within its limits, and a mapping by its query,
 /// a presentation, given or made of others, by its listed model, tables that are pulled back or that are answers with
 /// their canonical presentation, and a transform itself. Images that don't keep an equation stand for nothing.
 pub fn meaning_of(
@@ -52,6 +53,12 @@ pub fn meaning_of(
         Statement::Identity(name, schema) => Ok(identity(alloc, name, schema)?),
         Statement::Query(source, target, query) => {
             checked_query(alloc, place, source, target, query, depth)
+        }
+        Statement::Composite(source, target, first, second) => {
+            composed(alloc, place, source, target, &first, &second)
+        }
+        Statement::MappingQuery(source, target, mapping) => {
+            mapped(alloc, source, target, &mapping)
         }
         Statement::Presentation(name, schema, presentation) => {
             model_of(alloc, place, name, schema, presentation, depth)
