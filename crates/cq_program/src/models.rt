@@ -13,7 +13,7 @@ ghost use Rattle.cq_stating.specs.Checks.{a_mapping, an_identity, a_presentation
 use crate::duties::unmet;
 use crate::gluing::{glued, summed};
 use crate::moves::{pulled, pushed};
-use crate::queries::{answered, checked_query, composed, mapped, read_backwards};
+use crate::queries::{answered, checked_query, composed, of_mapping, read_backwards};
 use cq_base::{Name, Place, Seq};
 use cq_check::check_mapping;
 use cq_mapping::Mapping;
@@ -54,12 +54,6 @@ pub fn meaning_of(
         Statement::Query(source, target, query) => {
             checked_query(alloc, place, source, target, query, depth)
         }
-        Statement::Composite(source, target, first, second) => {
-            composed(alloc, place, source, target, &first, &second)
-        }
-        Statement::MappingQuery(source, target, mapping) => {
-            mapped(alloc, source, target, &mapping)
-        }
         Statement::Presentation(name, schema, presentation) => {
             model_of(alloc, place, name, schema, presentation, depth)
         }
@@ -72,6 +66,12 @@ pub fn meaning_of(
         Statement::Eval(name, query, instance) => answered(alloc, place, name, &query, &instance),
         Statement::Coeval(name, query, instance) => {
             read_backwards(alloc, place, name, &query, &instance, depth)
+        }
+        Statement::Composite(source, target, first, second) => {
+            composed(alloc, place, source, target, &first, &second)
+        }
+        Statement::MappingQuery(source, target, mapping) => {
+            of_mapping(alloc, source, target, &mapping)
         }
         Statement::Coproduct(name, schema, parts) => {
             summed(alloc, place, name, schema, parts.as_slice(), depth)

@@ -89,7 +89,7 @@ pub fn composed(
 }
 
 /// The query of a mapping.
-pub fn mapped(
+pub fn of_mapping(
     alloc: Global,
     source: Name,
     target: Name,

@@ -3,7 +3,7 @@ use Rattle.std.proofs.Common.{◌≡◌, ℕ, zero, suc, List, [], ◌∷◌, Bo
 use Rattle.std.specs.Prelude.{nat_eq}
 use Rattle.std.specs.Cmp.{unsigned_Decides}
 use Rattle.cq_rules.specs.declared.class.Class.{Class}
-use Rattle.cq_rules.specs.declared.class.Class.TheVariants.{Typeside, Schema, Instance, Mapping, Transform, Query, SchemaColimit, Types, Literals, Constants, Functions, Entities, ForeignKeys, PathEquations, Attributes, ObservationEquations, Generators, Equations, EntityEquations, Entity, From, Where, Options, Forall, Lambda, ExternalTypes, ExternalParsers, ExternalFunctions, Imports, Literal, Delta, Sigma, Eval, Coeval, Coproduct, Pushout, ImportCsv, ImportCsv2, Identity, GetSchema, GetMapping, Quotient, Compose, OfMapping, Unit, Counit, UnitQuery, CounitQuery, Constraints, Command, Graph, Html, Md, Chase, Pi, Except, Distinct, Anonymize, Pivot, Coequalize, Colimit, Simple, Sql, Name, Text, LeftBrace, RightBrace, LeftParen, RightParen, LeftBracket, RightBracket, Colon, Semicolon, Comma, Dot, Equals, Plus, Arrow, End}
+use Rattle.cq_rules.specs.declared.class.Class.TheVariants.{Typeside, Schema, Instance, Mapping, Transform, Query, SchemaColimit, Types, Literals, Constants, Functions, Entities, ForeignKeys, PathEquations, Attributes, ObservationEquations, Generators, Equations, EntityEquations, Entity, From, Where, Options, Forall, Lambda, ExternalTypes, ExternalParsers, ExternalFunctions, Imports, Literal, Delta, Sigma, Eval, Coeval, Coproduct, Pushout, ImportCsv, ImportCsv2, Identity, GetSchema, GetMapping, Quotient, Compose, OfMapping, Unit as UnitWord, Counit, UnitQuery, CounitQuery, Constraints, Command, Graph, Html, Md, Chase, Pi, Except, Distinct, Anonymize, Pivot, Coequalize, Colimit, Simple, Sql, Name, Text, LeftBrace, RightBrace, LeftParen, RightParen, LeftBracket, RightBracket, Colon, Semicolon, Comma, Dot, Equals, Plus, Arrow, End}
 use Rattle.cq_rules.specs.Class.{Set, both, of_each, all_classes, every}
 use Rattle.cq_rules.specs.Rule.{nand, not, Left, none_out}
 
@@ -75,7 +75,7 @@ every_holds p e GetMapping = each_at p all_classes e 40 tt
 every_holds p e Quotient = each_at p all_classes e 41 tt
 every_holds p e Compose = each_at p all_classes e 42 tt
 every_holds p e OfMapping = each_at p all_classes e 43 tt
-every_holds p e Unit = each_at p all_classes e 44 tt
+every_holds p e UnitWord = each_at p all_classes e 44 tt
 every_holds p e Counit = each_at p all_classes e 45 tt
 every_holds p e UnitQuery = each_at p all_classes e 46 tt
 every_holds p e CounitQuery = each_at p all_classes e 47 tt
