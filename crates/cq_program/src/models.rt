@@ -25,9 +25,9 @@ use std::alloc::{AllocError, Global};
 use std::rc::Rc;
 
 /// What the declaration at a place stands for: a theory itself, a mapping or a query whose duties are derivable itself,
-/// two queries by their composite, within its limits, and a mapping by its query,
-/// a presentation, given or made of others, by its listed model, tables that are pulled back or that are answers with
-/// their canonical presentation, and a transform itself. Images that don't keep an equation stand for nothing.
+/// two queries by their composite, within its limits, and a mapping by its query, a presentation, given or made of
+/// others, by its listed model, tables that are pulled back or that are answers with their canonical presentation, and
+/// a transform itself. Images that don't keep an equation stand for nothing.
 pub fn meaning_of(
     alloc: Global,
     place: Place,
