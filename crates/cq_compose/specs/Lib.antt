@@ -1,2 +1,3 @@
 pub mod Composite
 pub mod MappingQuery
+pub mod Sizes

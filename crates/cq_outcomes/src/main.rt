@@ -28,7 +28,7 @@ use std::io;
 use std::process::ExitCode;
 
 /// The tables, by the names of their files.
-const TABLES: [&str; 19] = [
+const TABLES: [&str; 20] = [
     "syntax",
     "statuses",
     "models",
@@ -43,6 +43,7 @@ const TABLES: [&str; 19] = [
     "moves",
     "images",
     "answers",
+    "composed",
     "glued",
     "joined",
     "questions",

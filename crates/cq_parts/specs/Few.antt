@@ -5,6 +5,7 @@ use Rattle.cq_syntax.specs.declared.program.Body.TheVariants.{Typeside, Schema, 
 use Rattle.cq_syntax.specs.declared.program.SchemaExp.TheVariants as schema_exp
 use Rattle.cq_syntax.specs.declared.program.InstanceExp.TheVariants as instance_exp
 use Rattle.cq_syntax.specs.declared.program.MappingExp.TheVariants as mapping_exp
+use Rattle.cq_syntax.specs.declared.program.QueryExp.TheVariants as query_exp
 use Rattle.cq_syntax.specs.declared.program.TransformExp.TheVariants as transform_exp
 use Rattle.cq_syntax.specs.declared.program.Program.{Program}
 use Rattle.cq_parts.specs.Parts.{colimit_count, typeside_count, schema_count, mapping_count, query_count, instance_count, transform_count}
@@ -15,7 +16,7 @@ part_count (Typeside lit) = typeside_count lit
 part_count (Schema (schema_exp.Literal lit)) = schema_count lit
 part_count (Colimit lit) = colimit_count lit
 part_count (Mapping (mapping_exp.Literal lit)) = mapping_count lit
-part_count (Query lit) = query_count lit
+part_count (Query (query_exp.Literal lit)) = query_count lit
 part_count (Instance (instance_exp.Literal lit)) = instance_count lit
 part_count (Transform (transform_exp.Literal lit)) = transform_count lit
 part_count _ = 0

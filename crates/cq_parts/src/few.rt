@@ -1,7 +1,7 @@
 //! Whether declarations and parts can be counted by numbers of 32 bits.
 ghost use Rattle.std.specs.Prelude.{◌≡◌, ◌+◌, ◌-◌, ◌<◌, ◌≤◌, ◌^◌, ◌↔◌, All, IsTrue, length, sum_by};
 ghost use Rattle.std.specs.Option.{SomeIff};
-ghost use Rattle.cq_syntax.specs.declared.program.Body.TheVariants.{Mapping, Instance, Transform};
+ghost use Rattle.cq_syntax.specs.declared.program.Body.TheVariants.{Mapping, Query, Instance, Transform};
 ghost use Rattle.cq_parts.specs.Few.{HasFewParts, part_count};
 ghost use Rattle.cq_theory.specs.TypesideParts.{literals_count};
 ghost use Rattle.cq_parts.specs.Parts.{name_of, clause_count, instance_count, key_count, mapping_count, query_count};
@@ -9,8 +9,8 @@ ghost use Rattle.cq_parts.specs.Parts.{colimit_count, schema_count, typeside_cou
 
 use cq_syntax::{
     Body, ColimitLit, Decl, EdgeSyn, FunSyn, GroupSyn, InstanceExp, InstanceLit, MapBlock,
-    MappingExp, MappingLit, Program, QueryBlock, QueryKey, QueryLit, SchemaExp, SchemaLit, Spot,
-    TransformExp, TypesideLit,
+    MappingExp, MappingLit, Program, QueryBlock, QueryExp, QueryKey, QueryLit, SchemaExp, SchemaLit,
+    Spot, TransformExp, TypesideLit,
 };
 
 /// Whether a program has fewer than 2^32 - 1 declarations, and each of them fewer than 2^32 parts, as every program in
@@ -37,7 +37,7 @@ fn has_few(body: &Body) -> bool
         Body::Instance(expression) => has_few_in_instance(expression),
         Body::Colimit(literal) => has_few_in_colimit(literal),
         Body::Mapping(expression) => has_few_in_mapping(expression),
-        Body::Query(literal) => has_few_in_query(literal),
+        Body::Query(expression) => has_few_in_query(expression),
         Body::Transform(expression) => has_few_in_transform(expression),
     }
 }
@@ -119,7 +119,17 @@ fn has_few_in_blocks(literal: &MappingLit) -> bool
     room_after_blocks(room, literal.blocks.as_slice()).is_some()
 }
 
-fn has_few_in_query(literal: &QueryLit) -> bool
+fn has_few_in_query(expression: &QueryExp) -> bool
+    ensures { IsTrue result ↔ (part_count (Query expression.now) < 2 ^ 32) }
+{
+    match expression {
+        QueryExp::Literal(literal) => has_few_in_query_literal(literal),
+        QueryExp::Compose(_, _) => true,
+        QueryExp::OfMapping(_) => true,
+    }
+}
+
+fn has_few_in_query_literal(literal: &QueryLit) -> bool
     ensures { IsTrue result ↔ (query_count literal.now < 2 ^ 32) }
 {
     let Some(room) = room_after(u32::MAX, literal.blocks.len()) else {

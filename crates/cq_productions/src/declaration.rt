@@ -27,7 +27,7 @@ use crate::words::OperationWords;
 use cq_base::Place;
 use cq_rules::Class;
 use cq_syntax::{
-    Body, ColimitLit, Decl, InstanceExp, MappingExp, QueryLit, SchemaExp, Spot, TransformExp,
+    Body, ColimitLit, Decl, InstanceExp, MappingExp, QueryExp, SchemaExp, Spot, TransformExp,
     TypesideLit,
 };
 use std::alloc::Global;
@@ -117,7 +117,7 @@ impl Declarable for MappingRule {
 impl Declarable for QueryRule {
     ghost body_of = { bodies.Query };
 
-    fn body(tree: QueryLit) -> Body {
+    fn body(tree: QueryExp) -> Body {
         Body::Query(tree)
     }
 }

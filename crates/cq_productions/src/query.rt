@@ -10,12 +10,12 @@ use crate::cursor::Cursor;
 use crate::equation::{BindRule, EquationRule};
 use crate::halt::Halt;
 use crate::item::{Item, Production, many, section};
-use crate::names::{GroupRule, NameRule};
-use crate::sequence::{BracesRule, around, between, many_and_options, section_and};
-use crate::step::{place_of, skip};
+use crate::names::{GroupRule, NameRule, SpotRule, of_two};
+use crate::sequence::{BracesRule, around, behind, between, many_and_options, section_and};
+use crate::step::{is_next, place_of, skip};
 use cq_base::{Name, Seq};
 use cq_rules::Class;
-use cq_syntax::{Bind, EqSyn, GroupSyn, Opt, QueryBlock, QueryKey, QueryLit};
+use cq_syntax::{Bind, EqSyn, GroupSyn, Opt, QueryBlock, QueryExp, QueryKey, QueryLit};
 use std::alloc::Global;
 
 /// A name, an arrow, and a production in braces.
@@ -172,26 +172,41 @@ impl Production for QueryBlocksRule {
     }
 }
 
+/// A query that is written out.
+#[tactic(auto, unfolding(cq_syntax::specs::Grammar::query_literal))]
+fn query_literal<'a>(alloc: Global, at: Cursor<'a>) -> Result<(QueryLit, Cursor<'a>), Halt<'a>>
+    ensures { Gives result (read grammar.query_literal at.entry.tokens.now) }
+{
+    let rest = skip(at, Class::Literal)?;
+    let ((source, (target, (blocks, options))), rest) = between::<QueryBlocksRule>(alloc, rest)?;
+    let query = QueryLit {
+        source,
+        target,
+        blocks,
+        options,
+    };
+    Ok((query, rest))
+}
+
 /// A query.
 pub struct QueryRule;
 
 impl Production for QueryRule {
-    type Tree = QueryLit;
+    type Tree = QueryExp;
 
     ghost rule = { grammar.query };
 
-    #[tactic(auto, unfolding(cq_syntax::specs::Grammar::query))]
-    fn read<'a>(alloc: Global, at: Cursor<'a>) -> Result<(QueryLit, Cursor<'a>), Halt<'a>> {
-        let rest = skip(at, Class::Literal)?;
-        let ((source, (target, (blocks, options))), rest) = between::<QueryBlocksRule>(
-            alloc, rest,
-        )?;
-        let query = QueryLit {
-            source,
-            target,
-            blocks,
-            options,
-        };
-        Ok((query, rest))
+    #[tactic(auto, unfolding(cq_syntax::specs::Grammar::query, cq_syntax::specs::Grammar::query_literal))]
+    fn read<'a>(alloc: Global, at: Cursor<'a>) -> Result<(QueryExp, Cursor<'a>), Halt<'a>> {
+        if is_next(at, Class::Literal) {
+            let (literal, rest) = query_literal(alloc, at)?;
+            return Ok((QueryExp::Literal(literal), rest));
+        }
+        if is_next(at, Class::Compose) {
+            let ((first, second), rest) = of_two(alloc, Class::Compose, at)?;
+            return Ok((QueryExp::Compose(first, second), rest));
+        }
+        let (mapping, rest) = behind::<SpotRule>(alloc, Class::OfMapping, at)?;
+        Ok((QueryExp::OfMapping(mapping), rest))
     }
 }

@@ -13,9 +13,10 @@ use Rattle.cq_theory.specs.SchemaData.{SchemaData}
 use Rattle.cq_instance.specs.InstanceData.{InstanceData}
 use Rattle.cq_instance.specs.Given.{is_oversized}
 use Rattle.cq_mapping.specs.Moved.{delta_tables}
+use Rattle.cq_compose.specs.Composite.{composite, is_large}
 use Rattle.cq_stating.specs.declared.reason.Reason.{Reason}
 use Rattle.cq_stating.specs.Meanings.{Meant, Environment, Checked}
-use Rattle.cq_stating.specs.Checks.{Posed, a_typeside, a_schema, a_mapping, an_identity, a_colimit, an_inclusion, a_query, a_presentation, a_made, a_delta, an_eval, a_transform, Stated, stated_by}
+use Rattle.cq_stating.specs.Checks.{Posed, a_typeside, a_schema, a_mapping, an_identity, a_colimit, an_inclusion, a_query, a_composite, a_mapping_query, a_presentation, a_made, a_delta, an_eval, a_transform, Stated, stated_by}
 use Rattle.cq_stating.specs.declared.reason.ReadCause.{ReadCause}
 use Rattle.cq_stating.specs.declared.reason.ReadCause.TheVariants.{Failed}
 use Rattle.cq_stating.specs.Folders.{Reads, TellsFault, LacksFile}
@@ -68,6 +69,8 @@ exceeds_limit depth (an_identity n S) reason exceeds = absurd exceeds
 exceeds_limit depth (a_colimit c) reason exceeds = absurd exceeds
 exceeds_limit depth (an_inclusion source target F) reason exceeds = absurd exceeds
 exceeds_limit depth (a_query n t Q) reason exceeds = exceeds_at_query_duty depth Q reason exceeds.0 exceeds.1
+exceeds_limit depth (a_composite n t Q W) reason exceeds = absurd exceeds
+exceeds_limit depth (a_mapping_query n t F) reason exceeds = absurd exceeds
 exceeds_limit depth (a_presentation n S P) reason exceeds = exceeds_at_model depth S P reason exceeds
 exceeds_limit depth (a_made n S P) reason exceeds = exceeds_at_model depth S P reason exceeds.1
 exceeds_limit depth (a_delta n F M) reason exceeds = absurd exceeds
@@ -105,6 +108,8 @@ no_failure (an_identity n S) m reason stands fails = fails
 no_failure (a_colimit c) m reason stands fails = fails
 no_failure (an_inclusion source target F) m reason stands fails = fails
 no_failure (a_query n t Q) m reason stands fails = kept_query Q reason stands.1 fails
+no_failure (a_composite n t Q W) m reason stands fails = not_passed (is_large (composite Q W)) stands.1 fails.1
+no_failure (a_mapping_query n t F) m reason stands fails = fails
 no_failure (a_presentation n S P) m reason stands fails = stands.2.consistent (fails.least, fails.greater, fails.equal)
 no_failure (a_made n S P) m reason stands fails = none_made S P reason stands.0 stands.3 stands.2 fails
 no_failure (a_delta n F M) m reason stands fails = not_passed (is_oversized (delta_tables F M)) stands.1 fails.1
@@ -119,6 +124,8 @@ one_failure (an_identity n S) reason other fails fails' = absurd fails
 one_failure (a_colimit c) reason other fails fails' = absurd fails
 one_failure (an_inclusion source target F) reason other fails fails' = absurd fails
 one_failure (a_query n t Q) reason other fails fails' = one_unsound Q reason other fails fails'
+one_failure (a_composite n t Q W) reason other fails fails' = fails.0 ∙ sym fails'.0
+one_failure (a_mapping_query n t F) reason other fails fails' = absurd fails
 one_failure (a_presentation n S P) reason other fails fails' = one_clash S P reason other fails fails'
 one_failure (a_made n S P) reason other fails fails' = one_made S P reason other fails fails'
 one_failure (a_delta n F M) reason other fails fails' = fails.0 ∙ sym fails'.0

@@ -15,7 +15,7 @@ use Rattle.cq_query.specs.QueryData.{QueryData}
 use Rattle.cq_query.specs.Duties.{all_duties}
 use Rattle.cq_check.specs.Answers.{IsTooDeep, IsTooWide, IsFirstTooDeep, IsFirstTooWide, over, equation_of, frozen_over, duty_equation}
 use Rattle.cq_stating.specs.declared.reason.Reason.{Reason}
-use Rattle.cq_stating.specs.Checks.{Posed, a_typeside, a_schema, a_mapping, an_identity, a_colimit, an_inclusion, a_query, a_presentation, a_made, a_delta, an_eval, a_transform}
+use Rattle.cq_stating.specs.Checks.{Posed, a_typeside, a_schema, a_mapping, an_identity, a_colimit, an_inclusion, a_query, a_composite, a_mapping_query, a_presentation, a_made, a_delta, an_eval, a_transform}
 use Rattle.cq_program.specs.Program.{IsDecided, IsDecidedOver, IsQueryDutyDecided, ClosesWithin, KeepsLimits, Exceeds, ExceedsAtDuty, ExceedsAtQueryDuty, ExceedsAtModel}
 
 not_deep : (depth : ℕ) (S : SchemaData) (P : Presentation) (e : Equation) → IsDecidedOver depth S P e → IsTooDeep S P e depth → ⊥
@@ -64,6 +64,8 @@ none_exceeded depth (an_identity n S) reason keeps exceeds = exceeds
 none_exceeded depth (a_colimit c) reason keeps exceeds = exceeds
 none_exceeded depth (an_inclusion source target F) reason keeps exceeds = exceeds
 none_exceeded depth (a_query n t Q) reason keeps exceeds = none_at_query_duty depth Q reason exceeds.0 keeps exceeds.1
+none_exceeded depth (a_composite n t Q W) reason keeps exceeds = exceeds
+none_exceeded depth (a_mapping_query n t F) reason keeps exceeds = exceeds
 none_exceeded depth (a_presentation n S P) reason keeps exceeds = none_at_model depth S P reason keeps exceeds
 none_exceeded depth (a_made n S P) reason keeps exceeds = none_at_model depth S P reason keeps exceeds.1
 none_exceeded depth (a_delta n F M) reason keeps exceeds = exceeds

@@ -12,7 +12,7 @@ use Rattle.cq_theory.proofs.OneModel.{same_models, same_assignments, same_lists_
 use Rattle.cq_instance.specs.InstanceData.{InstanceData}
 use Rattle.cq_instance.specs.Given.{given}
 use Rattle.cq_stating.specs.Meanings.{Meant, instance, transform, Environment}
-use Rattle.cq_stating.specs.Checks.{Posed, a_typeside, a_schema, a_mapping, an_identity, a_colimit, an_inclusion, a_query, a_presentation, a_made, a_delta, an_eval, a_transform, Stated}
+use Rattle.cq_stating.specs.Checks.{Posed, a_typeside, a_schema, a_mapping, an_identity, a_colimit, an_inclusion, a_query, a_composite, a_mapping_query, a_presentation, a_made, a_delta, an_eval, a_transform, Stated}
 use Rattle.cq_stating.specs.Folders.{Reads}
 use Rattle.cq_program.proofs.OneEval.{one_eval}
 use Rattle.cq_program.proofs.OneReading.{reads_one}
@@ -48,6 +48,8 @@ stands_one (an_identity name S) m n h g = h ∙ sym g
 stands_one (a_colimit c) m n h g = h ∙ sym g
 stands_one (an_inclusion source target F) m n h g = h ∙ sym g
 stands_one (a_query source target Q) m n h g = h.0 ∙ sym g.0
+stands_one (a_composite source target Q W) m n h g = h.0 ∙ sym g.0
+stands_one (a_mapping_query source target F) m n h g = h ∙ sym g
 stands_one (a_presentation name S P) m n h g = h.1 ∙ ap (instance name) (one_model_of S P h.0 g.0 h.2 g.2) ∙ sym g.1
 stands_one (a_made name S P) m n h g = h.1 ∙ ap (instance name) (one_model_of S P h.0 g.0 h.2 g.2) ∙ sym g.1
 stands_one (a_delta name F M) m n h g = h.0 ∙ sym g.0

@@ -3,7 +3,7 @@ use Rattle.std.proofs.Common.{sym, subst}
 use Rattle.std.specs.Prelude.{Result, Ok, Err, IfOk}
 use Rattle.cq_base.specs.declared.name.Name.{Name}
 use Rattle.cq_stating.specs.Meanings.{Meant, Environment}
-use Rattle.cq_stating.specs.Checks.{Posed, a_typeside, a_schema, a_mapping, an_identity, a_colimit, an_inclusion, a_query, a_presentation, a_made, a_delta, an_eval, a_transform}
+use Rattle.cq_stating.specs.Checks.{Posed, a_typeside, a_schema, a_mapping, an_identity, a_colimit, an_inclusion, a_query, a_composite, a_mapping_query, a_presentation, a_made, a_delta, an_eval, a_transform}
 use Rattle.cq_stating.specs.Environment.{IsModelled, IsPrinted, WillSettle}
 use Rattle.cq_program.specs.Program.{Stands}
 use Rattle.cq_stating.specs.Posing.{IsGrounded}
@@ -17,6 +17,10 @@ stands_settled env name (an_identity n S) m grounded stands modelled = subst (Wi
 stands_settled env name (a_colimit c) m grounded stands modelled = subst (WillSettle env name) (sym stands) grounded
 stands_settled env name (an_inclusion n t F) m grounded stands modelled = subst (WillSettle env name) (sym stands) grounded
 stands_settled env name (a_query n t Q) m grounded stands modelled = subst (WillSettle env name) (sym stands.0) (stands.1, grounded.0, grounded.1)
+stands_settled env name (a_composite n t Q W) m grounded stands modelled =
+    subst (WillSettle env name) (sym stands.0) (subst IsModelled stands.0 modelled, grounded.0, grounded.1)
+stands_settled env name (a_mapping_query n t F) m grounded stands modelled =
+    subst (WillSettle env name) (sym stands) (subst IsModelled stands modelled, grounded.0, grounded.1)
 stands_settled env name (a_presentation n S P) m grounded stands modelled =
     subst (WillSettle env name) (sym stands.1) (subst (IsPrinted env n) (sym stands.2.over) grounded, subst IsModelled stands.1 modelled)
 stands_settled env name (a_made n S P) m grounded stands modelled =

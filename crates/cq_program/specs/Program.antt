@@ -32,13 +32,15 @@ use Rattle.cq_instance.specs.Given.{given, is_oversized}
 use Rattle.cq_query.specs.QueryData.{QueryData}
 use Rattle.cq_query.specs.Duties.{Sound, all_duties, frozen}
 use Rattle.cq_query.specs.Answers.{IsEval}
+use Rattle.cq_compose.specs.Composite.{composite, is_large}
+use Rattle.cq_compose.specs.MappingQuery.{mapping_query}
 use Rattle.cq_eval.specs.Refused.{NoneHasMany, IsFirstMany, IsTooLarge}
 use Rattle.cq_transform.specs.Refusals.{IsBrokenAt}
 use Rattle.cq_check.specs.Answers.{IsDerivedWithin, IsNotPreserved, IsTooDeepDuty, IsTooWideDuty, IsUnsoundAt, IsTooDeepAt, IsTooWideAt}
 use Rattle.cq_stating.specs.Meanings.{Meant, typeside, schema, colimit, mapping, query, instance, transform, Ends, Environment}
 use Rattle.cq_stating.specs.Checks.{Posed, a_typeside}
 use Rattle.cq_stating.specs.Checks.{a_schema, a_mapping, an_identity, a_colimit, an_inclusion, a_query, a_presentation}
-use Rattle.cq_stating.specs.Checks.{a_made, a_delta, an_eval, a_transform}
+use Rattle.cq_stating.specs.Checks.{a_composite, a_mapping_query, a_made, a_delta, an_eval, a_transform}
 use Rattle.cq_stating.specs.Checks.{Stated, stated_by}
 use Rattle.cq_stating.specs.Posing.{IsTransformOf}
 use Rattle.cq_stating.specs.declared.reason.ReadCause.{ReadCause}
@@ -61,7 +63,8 @@ pub record IsEvalWithin (Q : QueryData) (M N : Tables) : Type 0 where
   pub fits : is_oversized N ≡ false
 
 -- What is posed is this: a theory itself, a mapping or a query where each of its duties is derivable, a presentation by its listed model.
--- The duties of an identity and of an inclusion are equations of the target, and so derivable. Tables that are pulled back or that are
+-- The duties of an identity and of an inclusion are equations of the target, and so derivable; those of a composite and of a mapping's query
+-- follow from the duties of what they are made of. A composite keeps the limits on queries. Tables that are pulled back or that are
 -- answers stand with their canonical presentation, within the limits on tables; a presentation that is made of others stands by its listed
 -- model, within the limit on presentations. Images stand by the one homomorphism that agrees with them.
 abbrev pub Stands : Posed → Meant → Type 0
@@ -72,6 +75,8 @@ Stands (an_identity n S) m = m ≡ mapping n n (identity_of S)
 Stands (a_colimit c) m = m ≡ colimit c
 Stands (an_inclusion n t F) m = m ≡ mapping n t F
 Stands (a_query n t Q) m = (m ≡ query n t Q) × Sound Q
+Stands (a_composite n t Q W) m = (m ≡ query n t (composite Q W)) × (is_large (composite Q W) ≡ false)
+Stands (a_mapping_query n t F) m = m ≡ query n t (mapping_query F)
 Stands (a_presentation n S P) m = (i : InstanceData) × (m ≡ instance n i) × IsModelOf S P i
 Stands (a_made n S P) m = (i : InstanceData) × (m ≡ instance n i) × IsModelOf S P i × (is_too_large P ≡ false)
 Stands (a_delta n F M) m = (m ≡ instance n (given F.source (delta_tables F M))) × (is_oversized (delta_tables F M) ≡ false)
@@ -114,8 +119,8 @@ TellsAnswers Q M reason = TellsMany Q M reason ⊎ ((reason ≡ Oversized) × Is
 abbrev pub TellsBroken : Ends → List Image → Reason → Type 0
 TellsBroken e images reason = (n : ℕ) × (reason ≡ Broken n) × IsBrokenAt e.start.instance e.finish.instance images n
 
--- what is posed breaks the rule that each duty is derivable, that no two constants are equal, that tables and presentations keep their
--- limits, or that equations hold
+-- what is posed breaks the rule that each duty is derivable, that no two constants are equal, that tables, presentations and composites
+-- keep their limits, or that equations hold
 abbrev pub Fails : Posed → Reason → Type 0
 Fails (a_typeside T) reason = ⊥
 Fails (a_schema S) reason = ⊥
@@ -124,6 +129,8 @@ Fails (an_identity n S) reason = ⊥
 Fails (a_colimit c) reason = ⊥
 Fails (an_inclusion n t F) reason = ⊥
 Fails (a_query n t Q) reason = TellsUnsound Q reason
+Fails (a_composite n t Q W) reason = (reason ≡ Oversized) × (is_large (composite Q W) ≡ true)
+Fails (a_mapping_query n t F) reason = ⊥
 Fails (a_presentation n S P) reason = TellsClash S P reason
 Fails (a_made n S P) reason = TellsMade S P reason
 Fails (a_delta n F M) reason = (reason ≡ Oversized) × (is_oversized (delta_tables F M) ≡ true)
@@ -164,6 +171,8 @@ Exceeds depth (an_identity n S) reason = ⊥
 Exceeds depth (a_colimit c) reason = ⊥
 Exceeds depth (an_inclusion n t F) reason = ⊥
 Exceeds depth (a_query n t Q) reason = (duty : ℕ) × ExceedsAtQueryDuty depth Q reason duty
+Exceeds depth (a_composite n t Q W) reason = ⊥
+Exceeds depth (a_mapping_query n t F) reason = ⊥
 Exceeds depth (a_presentation n S P) reason = ExceedsAtModel depth S P reason
 Exceeds depth (a_made n S P) reason = (is_too_large P ≡ false) × ExceedsAtModel depth S P reason
 Exceeds depth (a_delta n F M) reason = ⊥
@@ -267,6 +276,8 @@ KeepsLimits depth (an_identity n S) = Unit {0}
 KeepsLimits depth (a_colimit c) = Unit {0}
 KeepsLimits depth (an_inclusion n t F) = Unit {0}
 KeepsLimits depth (a_query n t Q) = All (IsQueryDutyDecided depth Q) (all_duties Q)
+KeepsLimits depth (a_composite n t Q W) = Unit {0}
+KeepsLimits depth (a_mapping_query n t F) = Unit {0}
 KeepsLimits depth (a_presentation n S P) = ClosesWithin depth S P
 KeepsLimits depth (a_made n S P) = ClosesWithin depth S P
 KeepsLimits depth (a_delta n F M) = Unit {0}

@@ -13,7 +13,7 @@ ghost use Rattle.cq_stating.specs.Checks.{a_mapping, an_identity, a_presentation
 use crate::duties::unmet;
 use crate::gluing::{glued, summed};
 use crate::moves::{pulled, pushed};
-use crate::queries::{answered, checked_query, read_backwards};
+use crate::queries::{answered, checked_query, composed, of_mapping, read_backwards};
 use cq_base::{Name, Place, Seq};
 use cq_check::check_mapping;
 use cq_mapping::Mapping;
@@ -25,8 +25,9 @@ use std::alloc::{AllocError, Global};
 use std::rc::Rc;
 
 /// What the declaration at a place stands for: a theory itself, a mapping or a query whose duties are derivable itself,
-/// a presentation, given or made of others, by its listed model, tables that are pulled back or that are answers with
-/// their canonical presentation, and a transform itself. Images that don't keep an equation stand for nothing.
+/// two queries by their composite, within its limits, and a mapping by its query, a presentation, given or made of
+/// others, by its listed model, tables that are pulled back or that are answers with their canonical presentation, and
+/// a transform itself. Images that don't keep an equation stand for nothing.
 pub fn meaning_of(
     alloc: Global,
     place: Place,
@@ -65,6 +66,12 @@ pub fn meaning_of(
         Statement::Eval(name, query, instance) => answered(alloc, place, name, &query, &instance),
         Statement::Coeval(name, query, instance) => {
             read_backwards(alloc, place, name, &query, &instance, depth)
+        }
+        Statement::Composite(source, target, first, second) => {
+            composed(alloc, place, source, target, &first, &second)
+        }
+        Statement::MappingQuery(source, target, mapping) => {
+            of_mapping(alloc, source, target, &mapping)
         }
         Statement::Coproduct(name, schema, parts) => {
             summed(alloc, place, name, schema, parts.as_slice(), depth)

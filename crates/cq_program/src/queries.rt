@@ -1,9 +1,11 @@
 //! Queries, and instances that are moved along them: what they stand for.
 ghost use Rattle.std.specs.Prelude.{ℕ, ◌≡◌, ◌<◌, ◌≤◌, IfOk, IfErr, Some, None, length, option_map, slice_get};
+ghost use Rattle.cq_mapping.specs.Duties.{Preserves};
 ghost use Rattle.cq_query.specs.Coeval.{coeval_of};
 ghost use Rattle.cq_query.specs.Duties.{Sound};
+ghost use Rattle.cq_base.specs.declared.place.Place.{Place as ThePlace};
 ghost use Rattle.cq_stating.specs.Meanings.{query as meant_query};
-ghost use Rattle.cq_stating.specs.Checks.{a_made, a_query, an_eval};
+ghost use Rattle.cq_stating.specs.Checks.{a_composite, a_made, a_mapping_query, a_query, an_eval};
 ghost use Rattle.cq_stating.specs.Environment.{IsModelled, Tells, meant};
 ghost use Rattle.cq_eval.specs.declared.refusal.EvalRefusal.TheVariants.{TooManyAnswers as HasMany, TooLarge, Memory};
 ghost use Rattle.cq_stating.specs.declared.reason.Reason.TheVariants.{TooManyAnswers, Oversized};
@@ -16,10 +18,13 @@ use crate::models::shared_instance;
 use cq_base::{Name, Place};
 use cq_check::check_query;
 use cq_coeval::coeval;
+use cq_compose::{compose_query, mapping_query};
 use cq_eval::{EvalRefusal, eval};
+use cq_mapping::Mapping;
 use cq_model::Instance;
 use cq_query::Query;
 use cq_stating::{Meaning, ProgramRefusal, Reason};
+use cq_theory::SizeRefusal;
 use std::alloc::{AllocError, Global};
 use std::rc::Rc;
 
@@ -43,16 +48,61 @@ pub fn checked_query(
     }
 }
 
+/// A sound query stands for itself.
 fn shared_query(
     alloc: Global,
     source: Name,
     target: Name,
     query: Query,
 ) -> Result<Meaning, AllocError>
-    ensures { IfOk result (λ meaning. meant meaning ≡ meant_query source target query) }
+    requires { Sound query }
+    ensures stands { IfOk result (λ meaning. meant meaning ≡ meant_query source target query) }
+    ensures modelled { IfOk result (λ meaning. IsModelled (meant meaning)) }
 {
     let shared = Rc::new(alloc, query)?;
     Ok(Meaning::Query(source, target, shared))
+}
+
+/// The composite of two queries.
+pub fn composed(
+    alloc: Global,
+    place: Place,
+    source: Name,
+    target: Name,
+    first: &Query,
+    second: &Query,
+) -> Result<Meaning, ProgramRefusal>
+    requires first { Sound first.now }
+    requires second { Sound second.now }
+    requires over { second.now.source ≡ first.now.target }
+    ensures stands { IfOk result (λ meaning. Stands
+        (a_composite source target first.now second.now) (meant meaning)) }
+    ensures modelled { IfOk result (λ meaning. IsModelled (meant meaning)) }
+    ensures withholds { (depth : ℕ) → IfErr result (Withholds depth place
+        (a_composite source target first.now second.now)) }
+{
+    match compose_query(alloc, first, second) {
+        Ok(query) => Ok(shared_query(alloc, source, target, query)?),
+        Err(SizeRefusal::TooLarge) => Err(ProgramRefusal::Broken(place, Reason::Oversized)),
+        Err(SizeRefusal::Memory) => Err(ProgramRefusal::Memory),
+    }
+}
+
+/// The query of a mapping.
+pub fn of_mapping(
+    alloc: Global,
+    source: Name,
+    target: Name,
+    mapping: &Mapping,
+) -> Result<Meaning, ProgramRefusal>
+    requires preserves { Preserves mapping.now }
+    ensures stands { IfOk result (λ meaning. Stands (a_mapping_query source target mapping.now) (meant meaning)) }
+    ensures modelled { IfOk result (λ meaning. IsModelled (meant meaning)) }
+    ensures withholds { (depth : ℕ) (place : ThePlace) → IfErr result (Withholds depth place
+        (a_mapping_query source target mapping.now)) }
+{
+    let query = mapping_query(alloc, mapping)?;
+    Ok(shared_query(alloc, source, target, query)?)
 }
 
 /// The answers of a query to an instance.

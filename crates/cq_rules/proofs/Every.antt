@@ -3,7 +3,7 @@ use Rattle.std.proofs.Common.{◌≡◌, ℕ, zero, suc, List, [], ◌∷◌, Bo
 use Rattle.std.specs.Prelude.{nat_eq}
 use Rattle.std.specs.Cmp.{unsigned_Decides}
 use Rattle.cq_rules.specs.declared.class.Class.{Class}
-use Rattle.cq_rules.specs.declared.class.Class.TheVariants.{Typeside, Schema, Instance, Mapping, Transform, Query, SchemaColimit, Types, Literals, Constants, Functions, Entities, ForeignKeys, PathEquations, Attributes, ObservationEquations, Generators, Equations, EntityEquations, Entity, From, Where, Options, Forall, Lambda, ExternalTypes, ExternalParsers, ExternalFunctions, Imports, Literal, Delta, Sigma, Eval, Coeval, Coproduct, Pushout, ImportCsv, ImportCsv2, Identity, GetSchema, GetMapping, Quotient, Constraints, Command, Graph, Html, Md, Chase, Pi, Except, Distinct, Anonymize, Pivot, Coequalize, Colimit, Simple, Sql, Name, Text, LeftBrace, RightBrace, LeftParen, RightParen, LeftBracket, RightBracket, Colon, Semicolon, Comma, Dot, Equals, Plus, Arrow, End}
+use Rattle.cq_rules.specs.declared.class.Class.TheVariants.{Typeside, Schema, Instance, Mapping, Transform, Query, SchemaColimit, Types, Literals, Constants, Functions, Entities, ForeignKeys, PathEquations, Attributes, ObservationEquations, Generators, Equations, EntityEquations, Entity, From, Where, Options, Forall, Lambda, ExternalTypes, ExternalParsers, ExternalFunctions, Imports, Literal, Delta, Sigma, Eval, Coeval, Coproduct, Pushout, ImportCsv, ImportCsv2, Identity, GetSchema, GetMapping, Quotient, Compose, OfMapping, Unit as UnitWord, Counit, UnitQuery, CounitQuery, Constraints, Command, Graph, Html, Md, Chase, Pi, Except, Distinct, Anonymize, Pivot, Coequalize, Colimit, Simple, Sql, Name, Text, LeftBrace, RightBrace, LeftParen, RightParen, LeftBracket, RightBracket, Colon, Semicolon, Comma, Dot, Equals, Plus, Arrow, End}
 use Rattle.cq_rules.specs.Class.{Set, both, of_each, all_classes, every}
 use Rattle.cq_rules.specs.Rule.{nand, not, Left, none_out}
 
@@ -73,37 +73,43 @@ every_holds p e Identity = each_at p all_classes e 38 tt
 every_holds p e GetSchema = each_at p all_classes e 39 tt
 every_holds p e GetMapping = each_at p all_classes e 40 tt
 every_holds p e Quotient = each_at p all_classes e 41 tt
-every_holds p e Constraints = each_at p all_classes e 42 tt
-every_holds p e Command = each_at p all_classes e 43 tt
-every_holds p e Graph = each_at p all_classes e 44 tt
-every_holds p e Html = each_at p all_classes e 45 tt
-every_holds p e Md = each_at p all_classes e 46 tt
-every_holds p e Chase = each_at p all_classes e 47 tt
-every_holds p e Pi = each_at p all_classes e 48 tt
-every_holds p e Except = each_at p all_classes e 49 tt
-every_holds p e Distinct = each_at p all_classes e 50 tt
-every_holds p e Anonymize = each_at p all_classes e 51 tt
-every_holds p e Pivot = each_at p all_classes e 52 tt
-every_holds p e Coequalize = each_at p all_classes e 53 tt
-every_holds p e Colimit = each_at p all_classes e 54 tt
-every_holds p e Simple = each_at p all_classes e 55 tt
-every_holds p e Sql = each_at p all_classes e 56 tt
-every_holds p e Name = each_at p all_classes e 57 tt
-every_holds p e Text = each_at p all_classes e 58 tt
-every_holds p e LeftBrace = each_at p all_classes e 59 tt
-every_holds p e RightBrace = each_at p all_classes e 60 tt
-every_holds p e LeftParen = each_at p all_classes e 61 tt
-every_holds p e RightParen = each_at p all_classes e 62 tt
-every_holds p e LeftBracket = each_at p all_classes e 63 tt
-every_holds p e RightBracket = each_at p all_classes e 64 tt
-every_holds p e Colon = each_at p all_classes e 65 tt
-every_holds p e Semicolon = each_at p all_classes e 66 tt
-every_holds p e Comma = each_at p all_classes e 67 tt
-every_holds p e Dot = each_at p all_classes e 68 tt
-every_holds p e Equals = each_at p all_classes e 69 tt
-every_holds p e Plus = each_at p all_classes e 70 tt
-every_holds p e Arrow = each_at p all_classes e 71 tt
-every_holds p e End = each_at p all_classes e 72 tt
+every_holds p e Compose = each_at p all_classes e 42 tt
+every_holds p e OfMapping = each_at p all_classes e 43 tt
+every_holds p e UnitWord = each_at p all_classes e 44 tt
+every_holds p e Counit = each_at p all_classes e 45 tt
+every_holds p e UnitQuery = each_at p all_classes e 46 tt
+every_holds p e CounitQuery = each_at p all_classes e 47 tt
+every_holds p e Constraints = each_at p all_classes e 48 tt
+every_holds p e Command = each_at p all_classes e 49 tt
+every_holds p e Graph = each_at p all_classes e 50 tt
+every_holds p e Html = each_at p all_classes e 51 tt
+every_holds p e Md = each_at p all_classes e 52 tt
+every_holds p e Chase = each_at p all_classes e 53 tt
+every_holds p e Pi = each_at p all_classes e 54 tt
+every_holds p e Except = each_at p all_classes e 55 tt
+every_holds p e Distinct = each_at p all_classes e 56 tt
+every_holds p e Anonymize = each_at p all_classes e 57 tt
+every_holds p e Pivot = each_at p all_classes e 58 tt
+every_holds p e Coequalize = each_at p all_classes e 59 tt
+every_holds p e Colimit = each_at p all_classes e 60 tt
+every_holds p e Simple = each_at p all_classes e 61 tt
+every_holds p e Sql = each_at p all_classes e 62 tt
+every_holds p e Name = each_at p all_classes e 63 tt
+every_holds p e Text = each_at p all_classes e 64 tt
+every_holds p e LeftBrace = each_at p all_classes e 65 tt
+every_holds p e RightBrace = each_at p all_classes e 66 tt
+every_holds p e LeftParen = each_at p all_classes e 67 tt
+every_holds p e RightParen = each_at p all_classes e 68 tt
+every_holds p e LeftBracket = each_at p all_classes e 69 tt
+every_holds p e RightBracket = each_at p all_classes e 70 tt
+every_holds p e Colon = each_at p all_classes e 71 tt
+every_holds p e Semicolon = each_at p all_classes e 72 tt
+every_holds p e Comma = each_at p all_classes e 73 tt
+every_holds p e Dot = each_at p all_classes e 74 tt
+every_holds p e Equals = each_at p all_classes e 75 tt
+every_holds p e Plus = each_at p all_classes e 76 tt
+every_holds p e Arrow = each_at p all_classes e 77 tt
+every_holds p e End = each_at p all_classes e 78 tt
 
 nand_false : (a b : Bool) → nand a b ≡ true → a ≡ true → b ≡ false
 nand_false true true e h = absurd (cc e)

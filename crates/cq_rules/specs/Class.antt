@@ -62,6 +62,12 @@ words =
     entry (codes "getSchema") classes.GetSchema ∷
     entry (codes "getMapping") classes.GetMapping ∷
     entry (codes "quotient") classes.Quotient ∷
+    entry (codes "compose") classes.Compose ∷
+    entry (codes "of_mapping") classes.OfMapping ∷
+    entry (codes "unit") classes.Unit ∷
+    entry (codes "counit") classes.Counit ∷
+    entry (codes "unit_query") classes.UnitQuery ∷
+    entry (codes "counit_query") classes.CounitQuery ∷
     entry (codes "constraints") classes.Constraints ∷
     entry (codes "command") classes.Command ∷
     entry (codes "graph") classes.Graph ∷
@@ -159,6 +165,12 @@ is_name classes.Identity = true
 is_name classes.GetSchema = true
 is_name classes.GetMapping = true
 is_name classes.Quotient = true
+is_name classes.Compose = true
+is_name classes.OfMapping = true
+is_name classes.Unit = true
+is_name classes.Counit = true
+is_name classes.UnitQuery = true
+is_name classes.CounitQuery = true
 is_name classes.Constraints = true
 is_name classes.Command = true
 is_name classes.Graph = true
@@ -235,37 +247,43 @@ code classes.Identity = 38
 code classes.GetSchema = 39
 code classes.GetMapping = 40
 code classes.Quotient = 41
-code classes.Constraints = 42
-code classes.Command = 43
-code classes.Graph = 44
-code classes.Html = 45
-code classes.Md = 46
-code classes.Chase = 47
-code classes.Pi = 48
-code classes.Except = 49
-code classes.Distinct = 50
-code classes.Anonymize = 51
-code classes.Pivot = 52
-code classes.Coequalize = 53
-code classes.Colimit = 54
-code classes.Simple = 55
-code classes.Sql = 56
-code classes.Name = 57
-code classes.Text = 58
-code classes.LeftBrace = 59
-code classes.RightBrace = 60
-code classes.LeftParen = 61
-code classes.RightParen = 62
-code classes.LeftBracket = 63
-code classes.RightBracket = 64
-code classes.Colon = 65
-code classes.Semicolon = 66
-code classes.Comma = 67
-code classes.Dot = 68
-code classes.Equals = 69
-code classes.Plus = 70
-code classes.Arrow = 71
-code classes.End = 72
+code classes.Compose = 42
+code classes.OfMapping = 43
+code classes.Unit = 44
+code classes.Counit = 45
+code classes.UnitQuery = 46
+code classes.CounitQuery = 47
+code classes.Constraints = 48
+code classes.Command = 49
+code classes.Graph = 50
+code classes.Html = 51
+code classes.Md = 52
+code classes.Chase = 53
+code classes.Pi = 54
+code classes.Except = 55
+code classes.Distinct = 56
+code classes.Anonymize = 57
+code classes.Pivot = 58
+code classes.Coequalize = 59
+code classes.Colimit = 60
+code classes.Simple = 61
+code classes.Sql = 62
+code classes.Name = 63
+code classes.Text = 64
+code classes.LeftBrace = 65
+code classes.RightBrace = 66
+code classes.LeftParen = 67
+code classes.RightParen = 68
+code classes.LeftBracket = 69
+code classes.RightBracket = 70
+code classes.Colon = 71
+code classes.Semicolon = 72
+code classes.Comma = 73
+code classes.Dot = 74
+code classes.Equals = 75
+code classes.Plus = 76
+code classes.Arrow = 77
+code classes.End = 78
 
 abbrev pub same : Class → Class → Bool
 same a b = nat_eq (code a) (code b)
@@ -322,6 +340,12 @@ all_classes =
     classes.GetSchema ∷
     classes.GetMapping ∷
     classes.Quotient ∷
+    classes.Compose ∷
+    classes.OfMapping ∷
+    classes.Unit ∷
+    classes.Counit ∷
+    classes.UnitQuery ∷
+    classes.CounitQuery ∷
     classes.Constraints ∷
     classes.Command ∷
     classes.Graph ∷

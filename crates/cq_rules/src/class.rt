@@ -51,6 +51,12 @@ pub enum Class {
     GetSchema,
     GetMapping,
     Quotient,
+    Compose,
+    OfMapping,
+    Unit,
+    Counit,
+    UnitQuery,
+    CounitQuery,
     Constraints,
     Command,
     Graph,
@@ -110,6 +116,12 @@ impl Class {
             | Class::GetSchema
             | Class::GetMapping
             | Class::Quotient
+            | Class::Compose
+            | Class::OfMapping
+            | Class::Unit
+            | Class::Counit
+            | Class::UnitQuery
+            | Class::CounitQuery
             | Class::Constraints
             | Class::Command
             | Class::Graph

@@ -58,6 +58,8 @@ fn of_four(word: &str) -> Class
         Class::From
     } else if word == "eval" {
         Class::Eval
+    } else if word == "unit" {
+        Class::Unit
     } else if word == "html" {
         Class::Html
     } else {
@@ -102,6 +104,8 @@ fn of_six(word: &str) -> Class
         Class::Lambda
     } else if word == "coeval" {
         Class::Coeval
+    } else if word == "counit" {
+        Class::Counit
     } else if word == "except" {
         Class::Except
     } else if word == "simple" {
@@ -124,6 +128,8 @@ fn of_seven(word: &str) -> Class
         Class::Literal
     } else if word == "pushout" {
         Class::Pushout
+    } else if word == "compose" {
+        Class::Compose
     } else if word == "command" {
         Class::Command
     } else if word == "colimit" {
@@ -188,6 +194,10 @@ fn of_ten(word: &str) -> Class
         Class::ImportCsv
     } else if word == "getMapping" {
         Class::GetMapping
+    } else if word == "of_mapping" {
+        Class::OfMapping
+    } else if word == "unit_query" {
+        Class::UnitQuery
     } else if word == "coequalize" {
         Class::Coequalize
     } else {
@@ -212,6 +222,8 @@ fn of_twelve(word: &str) -> Class
 {
     if word == "foreign_keys" {
         Class::ForeignKeys
+    } else if word == "counit_query" {
+        Class::CounitQuery
     } else {
         Class::Name
     }

@@ -13,7 +13,7 @@ use Rattle.cq_theory.specs.declared.presentation.Presentation.{Presentation}
 use Rattle.cq_instance.proofs.CanonicalDerived as canonical
 use Rattle.cq_instance.specs.Given.{given}
 use Rattle.cq_instance.specs.InstanceData.{InstanceData, IsInstance}
-use Rattle.cq_stating.specs.Checks.{Posed, a_typeside, a_schema, a_mapping, an_identity, a_colimit, an_inclusion, a_query, a_presentation, a_made, a_delta, an_eval, a_transform}
+use Rattle.cq_stating.specs.Checks.{Posed, a_typeside, a_schema, a_mapping, an_identity, a_colimit, an_inclusion, a_query, a_composite, a_mapping_query, a_presentation, a_made, a_delta, an_eval, a_transform}
 use Rattle.cq_stating.specs.Folders.{Told}
 use Rattle.cq_stating.specs.Meanings.{Environment, Meant, typeside, schema, colimit, mapping, query, instance, transform}
 use Rattle.cq_program.specs.Program.{Follow, IsModelOf, Listing, Stands, listing_named, listing_of}
@@ -106,6 +106,8 @@ made_initial found (an_identity n S, stands) well sorted = absurd (cc stands)
 made_initial found (a_colimit c, stands) well sorted = absurd (cc stands)
 made_initial found (an_inclusion n t F, stands) well sorted = absurd (cc stands)
 made_initial found (a_query n t Q, stands) well sorted = let is = stands.0 in absurd (cc is)
+made_initial found (a_composite n t Q W, stands) well sorted = let is = stands.0 in absurd (cc is)
+made_initial found (a_mapping_query n t F, stands) well sorted = absurd (cc stands)
 made_initial found (a_presentation n S P, stands) well sorted =
     subst IsInitial (sym (same_instance found.schema n found.instance stands.0 stands.1)) (model_initial S P stands.0 stands.2)
 made_initial found (a_made n S P, stands) well sorted =

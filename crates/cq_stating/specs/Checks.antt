@@ -15,6 +15,7 @@ use Rattle.cq_syntax.specs.declared.literal.TransformLit.{TransformLit}
 use Rattle.cq_syntax.specs.declared.program.SchemaExp.TheVariants as schema_exp
 use Rattle.cq_syntax.specs.declared.program.InstanceExp.TheVariants as instance_exp
 use Rattle.cq_syntax.specs.declared.program.MappingExp.TheVariants as mapping_exp
+use Rattle.cq_syntax.specs.declared.program.QueryExp.TheVariants as query_exp
 use Rattle.cq_syntax.specs.declared.program.TransformExp.TheVariants as transform_exp
 use Rattle.cq_syntax.specs.declared.program.Body.{Body}
 use Rattle.cq_syntax.specs.declared.program.Body.TheVariants.{Typeside, Schema, Colimit, Instance, Mapping, Query, Transform as Transformed}
@@ -147,10 +148,11 @@ presentation_given place S lit = of_parts (part_breach place (instance_places li
     (made_over S (instance_parts lit))
 
 -- What a declaration poses whose names and parts break no rule: a theory; a mapping or a query between schemas of printed names, whose
--- duties are to be derived; the identity of a schema; a presentation over a schema, whose model is to be made; a presentation that is made
--- of others, to which a limit applies; a colimit of schemas, and the inclusion of one of its parts; tables that are to be pulled back
--- along a mapping, whose source has the printed name; tables to which a query is to be answered, whose target has it; or the images of a
--- transform between two instances, which are to keep the equations of the first.
+-- duties are to be derived; the composite of two queries, and the query of a mapping; the identity of a schema; a presentation over a
+-- schema, whose model is to be made; a presentation that is made of others, to which a limit applies; a colimit of schemas, and the
+-- inclusion of one of its parts; tables that are to be pulled back along a mapping, whose source has the printed name; tables to which a
+-- query is to be answered, whose target has it; or the images of a transform between two instances, which are to keep the equations of the
+-- first.
 pub data Posed : Type 0 where
   a_typeside : TypesideData → Posed
   a_schema : SchemaMeant → Posed
@@ -159,6 +161,8 @@ pub data Posed : Type 0 where
   a_colimit : ColimitMeant → Posed
   an_inclusion : Name → Name → MappingData → Posed
   a_query : Name → Name → QueryData → Posed
+  a_composite : Name → Name → QueryData → QueryData → Posed
+  a_mapping_query : Name → Name → MappingData → Posed
   a_presentation : Name → SchemaData → Presentation → Posed
   a_made : Name → SchemaData → Presentation → Posed
   a_delta : Name → MappingData → Tables → Posed
@@ -198,6 +202,19 @@ query_posed env place lit =
     and_then (schema_used env lit.source) (λ source.
     and_then (schema_used env lit.target) (λ target.
     query_between place lit source target))
+
+-- The second query starts where the first ends.
+abbrev pub composite_between : Spot → QueryMeant → QueryMeant → Checked Posed
+composite_between spot Q W = if same_name Q.target W.source then Ok (a_composite Q.source W.target Q.query W.query)
+    else Err (spot.place, WrongSchema)
+
+abbrev pub composite_posed : Environment → Spot → Spot → Checked Posed
+composite_posed env first second = and_then (query_used env first)
+    (λ Q. and_then (query_used env second) (λ W. composite_between second Q W))
+
+-- The query of a mapping goes from the mapping's target to its source.
+abbrev pub mapping_query_posed : Environment → Spot → Checked Posed
+mapping_query_posed env spot = and_then (mapping_used env spot) (λ F. Ok (a_mapping_query F.target F.source F.mapping))
 
 abbrev pub identity_posed : Environment → Spot → Checked Posed
 identity_posed env spot = and_then (schema_used env spot) (λ over. Ok (an_identity over.name over.schema))
@@ -376,7 +393,9 @@ body_posed env place name (Colimit lit) = colimit_posed env place name lit
 body_posed env place name (Mapping (mapping_exp.GetMapping along spot)) = get_mapping_posed env along spot
 body_posed env place name (Mapping (mapping_exp.Literal lit)) = mapping_posed env place lit
 body_posed env place name (Mapping (mapping_exp.Identity spot)) = identity_posed env spot
-body_posed env place name (Query lit) = query_posed env place lit
+body_posed env place name (Query (query_exp.Literal lit)) = query_posed env place lit
+body_posed env place name (Query (query_exp.Compose first second)) = composite_posed env first second
+body_posed env place name (Query (query_exp.OfMapping spot)) = mapping_query_posed env spot
 body_posed env place name (Instance (instance_exp.Literal lit)) = instance_posed env place lit
 body_posed env place name (Instance (instance_exp.Delta along spot)) = delta_posed env along spot
 body_posed env place name (Instance (instance_exp.Sigma along spot)) = sigma_posed env along spot

@@ -95,8 +95,9 @@ IsPrinted env n S = (T : Name) × (schema_named env n ≡ Some (record { name = 
 abbrev pub IsTermModel : InstanceData → Type 0
 IsTermModel i = Initial i.schema i.presentation i.tables i.assignment × HasLeastNames i
 
--- the same of an instance for which a name stands
+-- the same of an instance for which a name stands; and each duty of a query for which one stands is derivable
 abbrev pub IsModelled : Meant → Type 0
+IsModelled (query n t Q) = Sound Q
 IsModelled (instance n i) = IsTermModel i
 IsModelled _ = Unit {0}
 

@@ -28,7 +28,7 @@ use Rattle.cq_stating.specs.Folders.{TellsFault, LacksFile, Raised, rule_of, unr
 use Rattle.cq_stating.specs.Meanings.{Environment, TransformMeant, typeside, colimit, schema_named}
 use Rattle.cq_stating.specs.Checks.{Stated, at_once, a_folder, Posed, a_typeside}
 use Rattle.cq_stating.specs.Checks.{a_schema, a_mapping, an_identity, a_colimit, an_inclusion, a_query, a_presentation}
-use Rattle.cq_stating.specs.Checks.{a_made, a_delta, an_eval, a_transform}
+use Rattle.cq_stating.specs.Checks.{a_composite, a_mapping_query, a_made, a_delta, an_eval, a_transform}
 use Rattle.cq_stating.specs.Meanings.{meant_by}
 use Rattle.cq_stating.specs.Checks.{pushed_out}
 use Rattle.cq_stating.specs.Environment.{AreEnds, IsPrinted, WillSettle, colimit_meant, ends_meant, schema_meant, transform_meant}
@@ -63,6 +63,8 @@ posed_as (statement.Identity n s) = an_identity n s.value
 posed_as (statement.Colimit c) = a_colimit (colimit_meant c)
 posed_as (statement.Inclusion n t F) = an_inclusion n t F.value
 posed_as (statement.Query n t Q) = a_query n t Q
+posed_as (statement.Composite n t Q W) = a_composite n t Q.value W.value
+posed_as (statement.MappingQuery n t F) = a_mapping_query n t F.value
 posed_as (statement.Presentation n s P) = a_presentation n s.value P
 posed_as (statement.Delta n F i) = a_delta n F.value i.value.tables
 posed_as (statement.Sigma n F i) = a_made n F.value.target (sigma F.value i.value.presentation)
@@ -74,9 +76,10 @@ posed_as (statement.Transform e t) = a_transform (ends_meant e) t.images
 posed_as (statement.Broken b) = a_transform (ends_meant b.ends) (broken_images b)
 
 -- A presentation is one over its schema; an instance that is pulled back or read backwards is over the target, and one that is moved or
--- queried over the source; a mapping along which tables are pulled back preserves equality, and a query that is answered is sound. The
--- operands of a coproduct are over its schema, the transforms of a pushout go from one instance, and a transform goes from the one end to
--- the other; images that are broken don't keep an equation.
+-- queried over the source; a mapping along which tables are pulled back, or whose query is made, preserves equality, and a query that is
+-- answered or composed is sound. The second of two queries starts where the first ends. The operands of a coproduct are over its schema,
+-- the transforms of a pushout go from one instance, and a transform goes from the one end to the other; images that are broken don't keep
+-- an equation.
 abbrev pub IsPosed : Statement → Type 0
 IsPosed (statement.Typeside t) = Unit {0}
 IsPosed (statement.Schema s) = Unit {0}
@@ -85,6 +88,8 @@ IsPosed (statement.Identity n s) = Unit {0}
 IsPosed (statement.Colimit c) = Unit {0}
 IsPosed (statement.Inclusion n t F) = Unit {0}
 IsPosed (statement.Query n t Q) = Unit {0}
+IsPosed (statement.Composite n t Q W) = Sound Q.value × Sound W.value × (W.value.source ≡ Q.value.target)
+IsPosed (statement.MappingQuery n t F) = Preserves F.value
 IsPosed (statement.Presentation n s P) = IsPresentation s.value P
 IsPosed (statement.Delta n F i) = Preserves F.value × (i.value.schema ≡ F.value.target)
 IsPosed (statement.Sigma n F i) = i.value.schema ≡ F.value.source
@@ -107,6 +112,8 @@ IsGrounded env name (an_identity n S) = Preserves (identity_of S) × IsPrinted e
 IsGrounded env name (a_colimit c) = WillSettle env name (colimit c)
 IsGrounded env name (an_inclusion n t F) = Preserves F × IsPrinted env n F.source × IsPrinted env t F.target
 IsGrounded env name (a_query n t Q) = IsPrinted env n Q.source × IsPrinted env t Q.target
+IsGrounded env name (a_composite n t Q W) = IsPrinted env n Q.source × IsPrinted env t W.target
+IsGrounded env name (a_mapping_query n t F) = IsPrinted env n F.target × IsPrinted env t F.source
 IsGrounded env name (a_presentation n S P) = IsPrinted env n S
 IsGrounded env name (a_made n S P) = IsPrinted env n S
 IsGrounded env name (a_delta n F M) = IsPrinted env n F.source

@@ -15,7 +15,7 @@ use crate::colimits::{pose_colimit, pose_inclusion, pose_joined_schema};
 use crate::environment::{Environment, NamedColimit, NamedEnds, NamedSchema, NamedTransform};
 use crate::gluing::{pose_coproduct, pose_pushout};
 use crate::moves::{pose_delta, pose_sigma};
-use crate::queries::{pose_coeval, pose_eval, pose_query};
+use crate::queries::{pose_coeval, pose_composite, pose_eval, pose_mapping_query, pose_query};
 use crate::reason::{ProgramRefusal, Reason};
 use crate::transforms::{BrokenImages, pose_identical, pose_transform};
 use cq_base::{Name, Place, Seq};
@@ -27,16 +27,17 @@ use cq_parts::{
 };
 use cq_query::Query;
 use cq_syntax::{
-    Body, Decl, InstanceExp, InstanceLit, MappingExp, MappingLit, SchemaExp, SchemaLit, Spot,
-    TransformExp, TypesideLit,
+    Body, Decl, InstanceExp, InstanceLit, MappingExp, MappingLit, QueryExp, SchemaExp, SchemaLit,
+    Spot, TransformExp, TypesideLit,
 };
 use cq_theory::{ArrowRefusal, Presentation, Schema, TheoryRefusal, Typeside};
 use std::alloc::{AllocError, Global};
 use std::rc::Rc;
 
 /// What a declaration poses: a theory; a mapping or a query between schemas of printed names, whose duties are to be
-/// derived; the identity of the schema of a printed name; a presentation over such a schema, whose model is to be made;
-/// an instance that is to be pulled back along a mapping from such a schema, or moved along one to such a schema; an
+/// derived; two queries that are to be composed, and a mapping whose query is wanted, between such schemas; the
+/// identity of the schema of a printed name; a presentation over such a schema, whose model is to be made; an
+/// instance that is to be pulled back along a mapping from such a schema, or moved along one to such a schema; an
 /// instance to which a query is to be answered, or that is to be read backwards through one; instances of which a
 /// coproduct or a pushout is to be made; a transform; or images that don't keep an equation.
 #[derive(Drop)]
@@ -48,6 +49,8 @@ pub enum Statement {
     Colimit(NamedColimit),
     Inclusion(Name, Name, Rc<Mapping>),
     Query(Name, Name, Query),
+    Composite(Name, Name, Rc<Query>, Rc<Query>),
+    MappingQuery(Name, Name, Rc<Mapping>),
     Presentation(Name, Rc<Schema>, Presentation),
     Delta(Name, Rc<Mapping>, Rc<Instance>),
     Sigma(Name, Rc<Mapping>, Rc<Instance>),
@@ -81,7 +84,9 @@ pub fn pose_body(
         Body::Schema(SchemaExp::Literal(literal)) => pose_schema(alloc, env, place, name, literal),
         Body::Mapping(MappingExp::Literal(literal)) => pose_mapping(alloc, env, place, literal),
         Body::Mapping(MappingExp::Identity(used)) => pose_identity(env, used),
-        Body::Query(literal) => pose_query(alloc, env, place, literal),
+        Body::Query(QueryExp::Literal(literal)) => pose_query(alloc, env, place, literal),
+        Body::Query(QueryExp::Compose(first, second)) => pose_composite(env, first, second),
+        Body::Query(QueryExp::OfMapping(used)) => pose_mapping_query(env, used),
         Body::Instance(expression) => pose_instance(alloc, env, place, expression),
         Body::Transform(TransformExp::Literal(literal)) => {
             pose_transform(alloc, env, place, literal)

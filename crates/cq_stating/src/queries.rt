@@ -1,7 +1,8 @@
 //! Queries, and instances that are moved along them: what is posed of them.
 ghost use Rattle.std.specs.Prelude.{◌≡◌, ◌<◌, ◌^◌, IfOk};
 ghost use Rattle.cq_base.specs.declared.name.Name.{Name as TheName};
-ghost use Rattle.cq_stating.specs.Checks.{coeval_posed, eval_posed, query_given, query_posed};
+ghost use Rattle.cq_stating.specs.Checks.{coeval_posed, composite_posed, eval_posed, mapping_query_posed};
+ghost use Rattle.cq_stating.specs.Checks.{query_given, query_posed};
 ghost use Rattle.cq_stating.specs.Environment.{Answers, AreSettled, environment_of};
 ghost use Rattle.cq_parts.specs.Parts.{query_count};
 ghost use Rattle.cq_stating.specs.Posing.{IsGrounded, IsPosed, posed_as};
@@ -9,7 +10,7 @@ ghost use Rattle.cq_stating.specs.Posing.{IsGrounded, IsPosed, posed_as};
 use crate::environment::Environment;
 use crate::posing::{Statement, arrow_refusal};
 use crate::reason::{ProgramRefusal, Reason};
-use crate::used::{instance_of, query_of};
+use crate::used::{instance_of, mapping_of, query_of};
 use cq_base::Place;
 use cq_parts::{query_parts, query_places};
 use cq_query::Query;
@@ -64,6 +65,40 @@ fn query_in(
             Err(arrow_refusal(place, places.as_slice(), refusal))
         }
     }
+}
+
+/// Two queries that are to be composed, of which the second starts where the first ends.
+pub fn pose_composite(
+    env: &Environment,
+    first: &Spot,
+    second: &Spot,
+) -> Result<Statement, ProgramRefusal>
+    requires settled { AreSettled (environment_of env.now.names.entries) }
+    ensures posed { Answers posed_as result
+        (composite_posed (environment_of env.now.names.entries) first.now second.now) }
+    ensures well_sorted { IfOk result IsPosed }
+    ensures grounded { (name : TheName) → IfOk result
+        (λ statement. IsGrounded (environment_of env.now.names.entries) name (posed_as statement)) }
+{
+    let before = query_of(env, first)?;
+    let after = query_of(env, second)?;
+    if before.target != after.source {
+        return Err(ProgramRefusal::Broken(second.place, Reason::WrongSchema));
+    }
+    Ok(Statement::Composite(before.source, after.target, before.query, after.query))
+}
+
+/// A mapping whose query is wanted, from the mapping's target to its source.
+pub fn pose_mapping_query(env: &Environment, used: &Spot) -> Result<Statement, ProgramRefusal>
+    requires settled { AreSettled (environment_of env.now.names.entries) }
+    ensures posed { Answers posed_as result
+        (mapping_query_posed (environment_of env.now.names.entries) used.now) }
+    ensures well_sorted { IfOk result IsPosed }
+    ensures grounded { (name : TheName) → IfOk result
+        (λ statement. IsGrounded (environment_of env.now.names.entries) name (posed_as statement)) }
+{
+    let named = mapping_of(env, used)?;
+    Ok(Statement::MappingQuery(named.target, named.source, named.mapping))
 }
 
 /// An instance over the source of a query that is to be answered.

@@ -14,6 +14,7 @@ use Rattle.cq_syntax.specs.declared.literal.MappingLit.{MappingLit}
 use Rattle.cq_syntax.specs.declared.part.Opt.{Opt}
 use Rattle.cq_syntax.specs.declared.part.PathSyn.{PathSyn}
 use Rattle.cq_syntax.specs.declared.program.Program.{Program}
+use Rattle.cq_syntax.specs.declared.program.QueryExp.{QueryExp}
 use Rattle.cq_syntax.specs.declared.literal.QueryLit.{QueryLit}
 use Rattle.cq_syntax.specs.declared.program.SchemaExp.{SchemaExp}
 use Rattle.cq_syntax.specs.declared.literal.SchemaLit.{SchemaLit}
@@ -25,6 +26,7 @@ use Rattle.cq_syntax.specs.declared.literal.TypesideLit.{TypesideLit}
 use Rattle.cq_syntax.specs.declared.literal.AttSyn.TheVariants as atts
 use Rattle.cq_syntax.specs.declared.program.SchemaExp.TheVariants as schemas
 use Rattle.cq_syntax.specs.declared.program.MappingExp.TheVariants as mappings
+use Rattle.cq_syntax.specs.declared.program.QueryExp.TheVariants as queries
 use Rattle.cq_syntax.specs.declared.program.InstanceExp.TheVariants as instances
 use Rattle.cq_syntax.specs.declared.program.TransformExp.TheVariants as transforms
 use Rattle.cq_syntax.specs.declared.program.Body.TheVariants as bodies
@@ -79,6 +81,21 @@ pub mapping_exp_back : (x : MappingLit ⊎ (Spot ⊎ (Spot × Spot))) → mappin
 mapping_exp_back (inl x) = refl
 mapping_exp_back (inr (inl x)) = refl
 mapping_exp_back (inr (inr x)) = refl
+
+abbrev pub query_exp_of : QueryLit ⊎ ((Spot × Spot) ⊎ Spot) → QueryExp
+query_exp_of (inl x) = queries.Literal x
+query_exp_of (inr (inl x)) = queries.Compose x.0 x.1
+query_exp_of (inr (inr x)) = queries.OfMapping x
+
+abbrev pub query_exp_parts : QueryExp → QueryLit ⊎ ((Spot × Spot) ⊎ Spot)
+query_exp_parts (queries.Literal a) = inl a
+query_exp_parts (queries.Compose a b) = inr (inl (a, b))
+query_exp_parts (queries.OfMapping a) = inr (inr a)
+
+pub query_exp_back : (x : QueryLit ⊎ ((Spot × Spot) ⊎ Spot)) → query_exp_parts (query_exp_of x) ≡ x
+query_exp_back (inl x) = refl
+query_exp_back (inr (inl x)) = refl
+query_exp_back (inr (inr x)) = refl
 
 -- the folder of an import, its schema and its options
 abbrev pub Imported : Type 0
@@ -136,7 +153,7 @@ transform_exp_back (inr x) = refl
 -- a declaration's name, and what it declares
 abbrev pub Declared : Type 0
 Declared = (Spot × TypesideLit) ⊎ ((Spot × SchemaExp) ⊎ ((Spot × ColimitLit)
-    ⊎ ((Spot × MappingExp) ⊎ ((Spot × QueryLit) ⊎ ((Spot × InstanceExp) ⊎ (Spot × TransformExp))))))
+    ⊎ ((Spot × MappingExp) ⊎ ((Spot × QueryExp) ⊎ ((Spot × InstanceExp) ⊎ (Spot × TransformExp))))))
 
 abbrev pub declared : Place → Name → Place → Body → Decl
 declared place name name_place body = record { place = place; name = name; name_place = name_place; body = body }

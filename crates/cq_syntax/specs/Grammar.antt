@@ -38,6 +38,7 @@ use Rattle.cq_syntax.specs.declared.part.PathSyn.{PathSyn}
 use Rattle.cq_syntax.specs.declared.program.Program.{Program}
 use Rattle.cq_syntax.specs.declared.literal.QueryBlock.{QueryBlock}
 use Rattle.cq_syntax.specs.declared.literal.QueryKey.{QueryKey}
+use Rattle.cq_syntax.specs.declared.program.QueryExp.{QueryExp}
 use Rattle.cq_syntax.specs.declared.literal.QueryLit.{QueryLit}
 use Rattle.cq_syntax.specs.declared.program.SchemaExp.{SchemaExp}
 use Rattle.cq_syntax.specs.declared.literal.SchemaLit.{SchemaLit}
@@ -230,10 +231,20 @@ query_block =
     (section (is classes.ForeignKeys) query_key)))))))))
 
 -- "literal" ":" NAME "->" NAME "{" {query_block} options "}"
-unfoldable pub query : Rule QueryLit
-query =
+unfoldable pub query_literal : Rule QueryLit
+query_literal =
     made parts.query_of parts.query_parts (λ p. refl) (skip (is classes.Literal)
     (skip (is classes.Colon) (seq spot (skip (is classes.Arrow) (seq spot (in_braces (seq (many query_block) options)))))))
+
+-- a word, and two names
+abbrev pub of_two : Class → Rule (Spot × Spot)
+of_two c = skip (is c) (seq spot spot)
+
+-- query_literal | "compose" NAME NAME | "of_mapping" NAME
+unfoldable pub query : Rule QueryExp
+query =
+    made exps.query_exp_of exps.query_exp_parts exps.query_exp_back
+    (alt query_literal (alt (of_two classes.Compose) (skip (is classes.OfMapping) spot)))
 
 -- "literal" ":" NAME "{" ["generators" {group}] ["equations" {equation}] options "}"
 unfoldable pub instance_literal : Rule InstanceLit
@@ -241,10 +252,6 @@ instance_literal =
     made parts.instance_of parts.instance_parts (λ p. refl) (skip (is classes.Literal) (skip (is classes.Colon) (seq spot (in_braces
     (seq (section (is classes.Generators) group)
     (seq (section (is classes.Equations) equation) options))))))
-
--- a word, and two names
-abbrev pub of_two : Class → Rule (Spot × Spot)
-of_two c = skip (is c) (seq spot spot)
 
 -- "coproduct" NAME {"+" NAME} ":" NAME
 unfoldable pub coproduct : Rule (List Spot × Spot)

@@ -13,4 +13,6 @@ pub use literal::{
 pub use part::{
     Bind, EdgeSyn, EqSyn, FunSyn, GroupSyn, ObsSyn, Opt, PairSyn, PathEqSyn, PathSyn, Spot, TermSyn,
 };
-pub use program::{Body, Decl, InstanceExp, MappingExp, Program, SchemaExp, TransformExp};
+pub use program::{
+    Body, Decl, InstanceExp, MappingExp, Program, QueryExp, SchemaExp, TransformExp,
+};

@@ -20,6 +20,14 @@ pub enum MappingExp {
     GetMapping(Spot, Spot),
 }
 
+/// What stands behind the `=` of a query.
+#[derive(Drop)]
+pub enum QueryExp {
+    Literal(QueryLit),
+    Compose(Spot, Spot),
+    OfMapping(Spot),
+}
+
 /// What stands behind the `=` of an instance.
 #[derive(Drop)]
 pub enum InstanceExp {
@@ -48,7 +56,7 @@ pub enum Body {
     Schema(SchemaExp),
     Colimit(ColimitLit),
     Mapping(MappingExp),
-    Query(QueryLit),
+    Query(QueryExp),
     Instance(InstanceExp),
     Transform(TransformExp),
 }

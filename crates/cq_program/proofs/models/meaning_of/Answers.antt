@@ -10,7 +10,7 @@ use Rattle.cq_mapping.specs.Images.{sigma}
 use Rattle.cq_stating.specs.declared.posing.Statement.{Statement}
 use Rattle.cq_stating.specs.declared.reason.ProgramRefusal.TheVariants as program_refusal
 use Rattle.cq_stating.specs.declared.reason.Reason.TheVariants as reason
-use Rattle.cq_stating.specs.Checks.{Posed, a_delta, a_made, an_eval}
+use Rattle.cq_stating.specs.Checks.{Posed, a_composite, a_delta, a_made, a_mapping_query, an_eval}
 use Rattle.cq_stating.specs.Environment.{meant}
 use Rattle.cq_stating.specs.Posing.{IsPosed, posed_as}
 use Rattle.cq_program.specs.Judging.{Withholds}
@@ -68,6 +68,50 @@ returns-in-Coeval-clause-withholds c =
     let posed : a_made c.in-Coeval.name c.deref-in-Coeval.result.now.source (coeval_of c.deref-in-Coeval.result.now c.deref-in-Coeval-2.result.now.tables) ≡ posed_as c.args.statement =
     (λ j. a_made c.in-Coeval.name ((c.deref-in-Coeval.ensures j).source) (coeval_of (c.deref-in-Coeval.ensures j) ((c.deref-in-Coeval-2.ensures j).tables))) ∙ sym (ap posed_as c.in-Coeval.is) in
     subst (λ (p : Posed). IfErr c.read_backwards.result (Withholds c.args.depth c.args.place p)) posed c.read_backwards.ensures.withholds
+
+pub composed-requires-clause-first : goal.composed-requires-clause-first
+composed-requires-clause-first c =
+    let posed = subst IsPosed c.in-Composite.is c.requires.posed in
+    subst (λ (Q : QueryData). Sound Q) (sym c.deref-in-Composite.ensures) posed.0
+
+pub composed-requires-clause-second : goal.composed-requires-clause-second
+composed-requires-clause-second c =
+    let posed = subst IsPosed c.in-Composite.is c.requires.posed in
+    subst (λ (Q : QueryData). Sound Q) (sym c.deref-in-Composite-2.ensures) posed.1
+
+pub composed-requires-clause-over : goal.composed-requires-clause-over
+composed-requires-clause-over c =
+    let posed = subst IsPosed c.in-Composite.is c.requires.posed in
+    ap (λ (Q : QueryData). Q.source) c.deref-in-Composite-2.ensures ∙ posed.2 ∙ sym (ap (λ (Q : QueryData). Q.target) c.deref-in-Composite.ensures)
+
+pub returns-in-Composite-clause-stands : goal.returns-in-Composite-clause-stands
+returns-in-Composite-clause-stands c =
+    let posed : a_composite c.in-Composite.source c.in-Composite.target c.deref-in-Composite.result.now c.deref-in-Composite-2.result.now ≡ posed_as c.args.statement =
+    (λ j. a_composite c.in-Composite.source c.in-Composite.target (c.deref-in-Composite.ensures j) (c.deref-in-Composite-2.ensures j)) ∙ sym (ap posed_as c.in-Composite.is) in
+    subst (λ (p : Posed). IfOk c.composed.result (λ meaning. Stands p (meant meaning))) posed c.composed.ensures.stands
+
+pub returns-in-Composite-clause-withholds : goal.returns-in-Composite-clause-withholds
+returns-in-Composite-clause-withholds c =
+    let posed : a_composite c.in-Composite.source c.in-Composite.target c.deref-in-Composite.result.now c.deref-in-Composite-2.result.now ≡ posed_as c.args.statement =
+    (λ j. a_composite c.in-Composite.source c.in-Composite.target (c.deref-in-Composite.ensures j) (c.deref-in-Composite-2.ensures j)) ∙ sym (ap posed_as c.in-Composite.is) in
+    subst (λ (p : Posed). IfErr c.composed.result (Withholds c.args.depth c.args.place p)) posed (c.composed.ensures.withholds c.args.depth)
+
+pub of_mapping-requires-clause-preserves : goal.of_mapping-requires-clause-preserves
+of_mapping-requires-clause-preserves c =
+    let posed = subst IsPosed c.in-MappingQuery.is c.requires.posed in
+    subst (λ (F : MappingData). Preserves F) (sym c.deref-in-MappingQuery.ensures) posed
+
+pub returns-in-MappingQuery-clause-stands : goal.returns-in-MappingQuery-clause-stands
+returns-in-MappingQuery-clause-stands c =
+    let posed : a_mapping_query c.in-MappingQuery.source c.in-MappingQuery.target c.deref-in-MappingQuery.result.now ≡ posed_as c.args.statement =
+    (λ j. a_mapping_query c.in-MappingQuery.source c.in-MappingQuery.target (c.deref-in-MappingQuery.ensures j)) ∙ sym (ap posed_as c.in-MappingQuery.is) in
+    subst (λ (p : Posed). IfOk c.of_mapping.result (λ meaning. Stands p (meant meaning))) posed c.of_mapping.ensures.stands
+
+pub returns-in-MappingQuery-clause-withholds : goal.returns-in-MappingQuery-clause-withholds
+returns-in-MappingQuery-clause-withholds c =
+    let posed : a_mapping_query c.in-MappingQuery.source c.in-MappingQuery.target c.deref-in-MappingQuery.result.now ≡ posed_as c.args.statement =
+    (λ j. a_mapping_query c.in-MappingQuery.source c.in-MappingQuery.target (c.deref-in-MappingQuery.ensures j)) ∙ sym (ap posed_as c.in-MappingQuery.is) in
+    subst (λ (p : Posed). IfErr c.of_mapping.result (Withholds c.args.depth c.args.place p)) posed (c.of_mapping.ensures.withholds c.args.depth c.args.place)
 
 pub returns-in-Coproduct-clause-stands : goal.returns-in-Coproduct-clause-stands
 returns-in-Coproduct-clause-stands c =

@@ -8,8 +8,14 @@ use Rattle.cq_stating.proofs.posing.pose_body.Goals as goal
 pub returns-in-Mapping-Literal-clause-grounded : goal.returns-in-Mapping-Literal-clause-grounded
 returns-in-Mapping-Literal-clause-grounded c = c.pose_mapping.ensures.grounded c.args.name.now
 
-pub returns-in-Query-clause-grounded : goal.returns-in-Query-clause-grounded
-returns-in-Query-clause-grounded c = c.pose_query.ensures.grounded c.args.name.now
+pub returns-in-Query-Literal-clause-grounded : goal.returns-in-Query-Literal-clause-grounded
+returns-in-Query-Literal-clause-grounded c = c.pose_query.ensures.grounded c.args.name.now
+
+pub returns-in-Query-Compose-clause-grounded : goal.returns-in-Query-Compose-clause-grounded
+returns-in-Query-Compose-clause-grounded c = c.pose_composite.ensures.grounded c.args.name.now
+
+pub returns-in-Query-OfMapping-clause-grounded : goal.returns-in-Query-OfMapping-clause-grounded
+returns-in-Query-OfMapping-clause-grounded c = c.pose_mapping_query.ensures.grounded c.args.name.now
 
 pub returns-in-Instance-clause-posed : goal.returns-in-Instance-clause-posed
 returns-in-Instance-clause-posed c =
