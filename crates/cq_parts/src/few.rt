@@ -9,8 +9,8 @@ ghost use Rattle.cq_parts.specs.Parts.{colimit_count, schema_count, typeside_cou
 
 use cq_syntax::{
     Body, ColimitLit, Decl, EdgeSyn, FunSyn, GroupSyn, InstanceExp, InstanceLit, MapBlock,
-    MappingExp, MappingLit, Program, QueryBlock, QueryExp, QueryKey, QueryLit, SchemaExp, SchemaLit,
-    Spot, TransformExp, TypesideLit,
+    MappingExp, MappingLit, Program, QueryBlock, QueryExp, QueryKey, QueryLit, SchemaExp,
+    SchemaLit, Spot, TransformExp, TypesideLit,
 };
 
 /// Whether a program has fewer than 2^32 - 1 declarations, and each of them fewer than 2^32 parts, as every program in

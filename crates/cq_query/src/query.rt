@@ -117,9 +117,9 @@ impl Query {
     ) -> Result<Query, AllocError>
         requires { IsQuery (record { source = source.value; target = target.value; blocks = blocks }) }
         ensures { IfOk result (λ made. made ≡ record {
-            source = source.value;
-            target = target.value;
-            blocks = blocks;
+          source = source.value;
+          target = target.value;
+          blocks = blocks;
         }) }
     {
         let beginnings = Beginnings::of(alloc, &target)?;

@@ -1,0 +1,118 @@
+#!/usr/bin/env python3
+"""Times composed queries in the built program.
+
+    bench/compose.py [PROGRAM]
+
+PROGRAM is by default crates/cqlrun/out/cqlrun, which `./cqlrun` builds. At 2,000, 20,000 and 200,000 rows: a first query joins two
+entities along a foreign key, a second one joins the answers of the first by a cell, and their composite is answered at once. For
+each size it prints the seconds of a whole run (the best of three) with the composite and with the two evals in turn, each without
+the run that answers nothing, the ratio of the composite's to that at a tenth and to that of the two evals, and, where Python has
+sqlite3, its ratio to the view that is spelled out, over the same rows in memory with indexes.
+
+Then it prints the seconds of programs that only compose: ten queries of two variables each in a chain, whose composite has 1,024
+variables, and forty, whose composite is refused.
+"""
+import pathlib
+import subprocess
+import sys
+import tempfile
+import time
+
+from whole_run import run
+
+try:
+    import sqlite3
+except ImportError:
+    sqlite3 = None
+
+ROOT = pathlib.Path(__file__).resolve().parent.parent
+T = "typeside T = literal { types s literals s }\n"
+SCHEMAS = (
+    "schema S = literal : T { entities E D foreign_keys k : E -> D attributes x : E -> s y : D -> s }\n"
+    "schema R = literal : T { entities P attributes u v : P -> s }\n"
+    "schema U = literal : T { entities V attributes w : V -> s }\n"
+)
+QUERIES = (
+    "query Q = literal : S -> R { entity P -> { from d : D e : E where k(e) = d attributes u -> x(e) v -> y(d) } }\n"
+    "query W = literal : R -> U { entity V -> { from p q : P where v(p) = u(q) attributes w -> u(p) } }\n"
+)
+SELECT = "select e.x from E e join D d on e.k = d.id join E f on f.x = d.y join D g on f.k = g.id"
+
+
+def instance(rows):
+    half = rows // 2
+    keys = " ".join(f"k(e{n})=d{n}" for n in range(half))
+    values = " ".join(f'x(e{n})="{n}" y(d{n})="{(n + 1) % half}"' for n in range(half))
+    es, ds = " ".join(f"e{n}" for n in range(half)), " ".join(f"d{n}" for n in range(half))
+    return f"instance I = literal : S {{ generators {es} : E {ds} : D equations {keys} {values} }}\n"
+
+
+def by_sqlite(rows):
+    half = rows // 2
+    base = sqlite3.connect(":memory:")
+    start = time.perf_counter()
+    base.execute("create table E (id integer primary key, k integer, x text)")
+    base.execute("create table D (id integer primary key, y text)")
+    base.executemany("insert into E values (?, ?, ?)", ((n, n, str(n)) for n in range(half)))
+    base.executemany("insert into D values (?, ?)", ((n, str((n + 1) % half)) for n in range(half)))
+    base.execute("create index k on E (k)")
+    base.execute("create index x on E (x)")
+    with tempfile.TemporaryFile("w") as out:
+        for row in base.execute(SELECT):
+            out.write(f"{row[0]}\n")
+    return time.perf_counter() - start
+
+
+def measure(program, text):
+    with tempfile.TemporaryDirectory() as folder:
+        pathlib.Path(folder, "p.cql").write_text(text)
+        return min(run(program, folder) for _ in range(3))[0]
+
+
+def composed(count):
+    """So many queries of two variables each, one composed with the next."""
+    text = T + "schema S0 = literal : T { entities E0 }\n"
+    for n in range(1, count + 1):
+        text += f"schema S{n} = literal : T {{ entities E{n} }}\n"
+        text += f"query Q{n} = literal : S{n - 1} -> S{n} {{ entity E{n} -> {{ from a b : E{n - 1} }} }}\n"
+    text += "query C2 = compose Q1 Q2\n"
+    for n in range(3, count + 1):
+        text += f"query C{n} = compose C{n - 1} Q{n}\n"
+    return text
+
+
+def seconds_of(program, text):
+    """The best of three runs, accepted or refused, and the first line of the answer."""
+    with tempfile.TemporaryDirectory() as folder:
+        pathlib.Path(folder, "p.cql").write_text(text)
+        best, line = None, ""
+        for _ in range(3):
+            start = time.perf_counter()
+            ended = subprocess.run([program, "run", "p.cql"], cwd=folder, capture_output=True, text=True)
+            took = time.perf_counter() - start
+            best = took if best is None else min(best, took)
+            line = ended.stdout.split("\n")[0]
+        return best, line
+
+
+def main():
+    program = str(pathlib.Path(sys.argv[1]).resolve() if len(sys.argv) > 1 else ROOT / "crates/cqlrun/out/cqlrun")
+    print("| rows | composite, seconds | of a tenth | of the two evals | of sqlite3 |")
+    print("|---|---|---|---|---|")
+    before = None
+    for rows in (2_000, 20_000, 200_000):
+        start = T + SCHEMAS + QUERIES + "query C = compose Q W\n" + instance(rows)
+        without = measure(program, start)
+        once = measure(program, start + "instance M = eval C I\n") - without
+        turns = measure(program, start + "instance J = eval Q I\ninstance N = eval W J\n") - without
+        ratio = f"{once / before:.1f}" if before else ""
+        before = once
+        other = f"{once / by_sqlite(rows):.1f}" if sqlite3 else ""
+        print(f"| {rows:,} | {once:.3f} | {ratio} | {once / turns:.1f} | {other} |", flush=True)
+    print()
+    for count in (10, 40):
+        took, line = seconds_of(program, composed(count))
+        print(f"{count} queries of two variables: {took:.3f} seconds {line}", flush=True)
+
+
+main()
