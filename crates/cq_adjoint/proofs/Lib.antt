@@ -1,0 +1,10 @@
+pub mod SentModels
+pub mod SameMeanings
+pub mod SpelledImages
+pub mod RightImages
+pub mod PulledImages
+pub mod NamedImages
+pub mod PushedImages
+pub mod AlongImages
+pub mod SpelledValues
+pub mod MovedImages

@@ -1,0 +1,5 @@
+pub mod Moved
+pub mod Moves
+pub mod Transposed
+pub mod Spelling
+pub mod Spellable
