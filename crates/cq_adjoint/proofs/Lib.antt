@@ -8,3 +8,10 @@ pub mod PushedImages
 pub mod AlongImages
 pub mod SpelledValues
 pub mod MovedImages
+pub mod Grounds
+pub mod GivenModels
+pub mod ToDelta
+pub mod DeltaMap
+pub mod FromDelta
+pub mod Within
+pub mod ThereAndBack

@@ -28,6 +28,7 @@ use Rattle.cq_transform.specs.Transforms.{meanings_in, GoesFrom}
 use Rattle.cq_transform.specs.Transforming.{AreKept, AreSorted}
 use Rattle.cq_transform.proofs.ExactlyOne.{one_homomorphism}
 use Rattle.cq_adjoint.specs.Moves.{spelled, each_generator}
+use Rattle.cq_adjoint.proofs.MovedImages.{same_image}
 use Rattle.cq_adjoint.proofs.RightImages as images_of
 use Rattle.cq_adjoint.proofs.SameMeanings.{image_sided, holds_pulled}
 use Rattle.cq_adjoint.proofs.SentModels.{sent_on, sent_at, sent_holds}
@@ -72,7 +73,7 @@ module _ (F : Mapping) (is : IsMapping F) (i d : InstanceData) (over : i.schema 
   tables_are : d.tables ≡ D
   tables_are = ap (λ (x : InstanceData). x.tables) d_is
 
-  pub pulled_holds : Holds i.schema i.presentation d.tables C
+  pulled_holds : Holds i.schema i.presentation d.tables C
   pulled_holds = subst (λ (x : Schema × Tables). Holds x.0 i.presentation x.1 C) (λ k. (sym over k, sym tables_are k)) source_holds
 
   goes_at : (n : ℕ) (g : Name × Sort) → slice_get i.presentation.generators n ≡ Some g → slice_index_or C n (AtRow 0) ≡ goes n g.1
@@ -95,6 +96,17 @@ module _ (F : Mapping) (is : IsMapping F) (i d : InstanceData) (over : i.schema 
 
   pub kept : AreKept i d images
   kept = images_of.are_kept i d images C pulled_holds count right
+
+  -- what is spelled is of its sort in d
+  pub moved_sorted : (L : Tables) (n : ℕ) (g : Name × Sort) → slice_get i.presentation.generators n ≡ Some g
+      → HasSort d.schema d.tables g.1 (meaning_image d.schema L d.tables rows nulls (sort_image F g.1) (slice_index_or A n (AtRow 0)))
+  moved_sorted L n g at =
+      let one : HasSort F.source D g.1 (goes n g.1) = subst (HasSort F.source D g.1) (goes_at n g at) (source_holds.sorts n g at) in
+      let entries : D.algebra.entries ≡ d.tables.algebra.entries = ap (λ (x : Tables). x.algebra.entries) (sym tables_are) in
+      let schema_is : d.schema ≡ F.source = ap (λ (x : InstanceData). x.schema) d_is in
+      let same : goes n g.1 ≡ meaning_image d.schema L d.tables rows nulls (sort_image F g.1) (slice_index_or A n (AtRow 0)) =
+      same_image F.target d.schema M L N d.tables rows nulls entries (sort_image F g.1) (slice_index_or A n (AtRow 0)) in
+      subst (λ (x : Schema × (Tables × Meaning)). HasSort x.0 x.1.0 g.1 x.1.1) (λ k. (sym schema_is k, (sym tables_are k, same k))) one
 
   -- a transform by these images sends what a generator stands for where the homomorphism sends it
   pub transposed : (made : Transform) → made.images ≡ images → GoesFrom made i d → (n : ℕ) (g : Name × Sort) → slice_get i.presentation.generators n ≡ Some g

@@ -63,7 +63,7 @@ module _ (F : Mapping) (is : IsMapping F) (i a j : InstanceData) (presented : Is
   target_holds : Holds F.target (sigma F i.presentation) j.tables C
   target_holds = holds_pushed F is j.tables well i.presentation presented C satisfies source_holds
 
-  pub pushed_holds : Holds a.schema a.presentation j.tables C
+  pushed_holds : Holds a.schema a.presentation j.tables C
   pushed_holds = subst (λ (x : Schema × Presentation). Holds x.0 x.1 j.tables C) (λ k. (sym schema_is k, sym presentation_is k)) target_holds
 
   goes_at : (n : ℕ) (g : Name × Sort) → slice_get i.presentation.generators n ≡ Some g → slice_index_or C n (AtRow 0) ≡ goes n g.1
@@ -75,15 +75,18 @@ module _ (F : Mapping) (is : IsMapping F) (i a j : InstanceData) (presented : Is
       let before = get-map_from (λ (x : Name × Sort). (x.0, sort_image F x.1)) i.presentation.generators n g (ap (λ (P : Presentation). slice_get P.generators n) (sym presentation_is) ∙ at) in
       (before.0, before.1, ap (λ (x : Name × Sort). x.1) before.2)
 
+  -- what is named is of its sort in j
+  pub moved_sorted : (n : ℕ) (x : Name × Sort) → slice_get i.presentation.generators n ≡ Some x → HasSort j.schema j.tables (sort_image F x.1) (goes n x.1)
+  moved_sorted n x at =
+      let in_target : HasSort F.target j.tables (sort_image F x.1) (slice_index_or C n (AtRow 0)) =
+      target_holds.sorts n (x.0, sort_image F x.1) (get-map (λ (y : Name × Sort). (y.0, sort_image F y.1)) i.presentation.generators n x at) in
+      subst (λ (y : Schema × Meaning). HasSort y.0 j.tables (sort_image F x.1) y.1) (λ l. (sym over l, goes_at n x at l)) in_target
+
   right : (n : ℕ) (g : Name × Sort) (picture : Image) → slice_get a.presentation.generators n ≡ Some g → slice_get images n ≡ Some picture → IsImageOf j g.1 (slice_index_or C n (AtRow 0)) picture
   right n g picture at there =
       let x = generator_from n g at in
       let m : Meaning = goes n x.0.1 in
-      let in_target : HasSort F.target j.tables (sort_image F x.0.1) (slice_index_or C n (AtRow 0)) =
-      target_holds.sorts n (x.0.0, sort_image F x.0.1) (get-map (λ (y : Name × Sort). (y.0, sort_image F y.1)) i.presentation.generators n x.0 x.1) in
-      let sorted : HasSort j.schema j.tables (sort_image F x.0.1) m =
-      subst (λ (y : Schema × Meaning). HasSort y.0 j.tables (sort_image F x.0.1) y.1) (λ k. (sym over k, goes_at n x.0 x.1 k)) in_target in
-      let of : IsImageOf j (sort_image F x.0.1) m (image n x.0.1) = named_image j null_term spell least (sort_image F x.0.1) m sorted in
+      let of : IsImageOf j (sort_image F x.0.1) m (image n x.0.1) = named_image j null_term spell least (sort_image F x.0.1) m (moved_sorted n x.0 x.1) in
       subst (λ (y : Sort × (Meaning × Image)). IsImageOf j y.0 y.1.0 y.1.1)
       (λ k. (x.2 k, (sym (goes_at n x.0 x.1) k, image_at image i.presentation.generators n x.0 picture x.1 there k))) of
 

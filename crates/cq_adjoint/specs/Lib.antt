@@ -3,3 +3,4 @@ pub mod Moves
 pub mod Transposed
 pub mod Spelling
 pub mod Spellable
+pub mod Nameable
