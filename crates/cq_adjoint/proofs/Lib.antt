@@ -15,3 +15,4 @@ pub mod DeltaMap
 pub mod FromDelta
 pub mod Within
 pub mod ThereAndBack
+pub mod IdentityMoves

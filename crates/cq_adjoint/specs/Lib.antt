@@ -4,3 +4,4 @@ pub mod Transposed
 pub mod Spelling
 pub mod Spellable
 pub mod Nameable
+pub mod Units

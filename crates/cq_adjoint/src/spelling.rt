@@ -27,6 +27,15 @@ pub(crate) fn name_row(
     Ok(Image::Row(name))
 }
 
+/// How many nulls there are in an instance of tables.
+fn null_count(to: &Instance) -> u32
+    requires { to.now ≡ given to.now.schema to.now.tables }
+    ensures { result ≡ length to.now.tables.algebra.nulls }
+{
+    to.is_instance();
+    to.algebra().nulls.len() as u32
+}
+
 /// The first generator of a null in an instance of tables.
 fn first_null(to: &Instance) -> u32
     requires { to.now ≡ given to.now.schema to.now.tables }
@@ -35,8 +44,7 @@ fn first_null(to: &Instance) -> u32
 {
     to.is_instance();
     let generators = to.presentation().generators.len() as u32;
-    let nulls = to.algebra().nulls.len() as u32;
-    generators - nulls
+    generators - null_count(to)
 }
 
 /// A value as a term over the generators of nulls, in an instance of tables.
@@ -50,7 +58,7 @@ pub(crate) fn spell_value(
     ensures { IfOk result (λ made. made ≡ image.Value (term_of_value to.now.schema to.now.tables value.now)) }
 {
     let first = first_null(to);
-    let count = to.algebra().nulls.len() as u32;
+    let count = null_count(to);
     let term = value_term(alloc, first, count, value)?;
     Ok(Image::Value(term))
 }
