@@ -62,7 +62,7 @@ module _ (j : InstanceData) (null_term : ℕ → TypeTerm) (spell : AreNullsSpel
   value_spelled = on_values IsSpelled
       (λ c type h. (
         ap (type_of S G) (values.fold-Const TypeTerm (spelled_step null_term) c) ∙ fold-Const (Option ℕ) (type_step S G) c
-        ∙ sym (values.fold-Const (Option ℕ) (value_type_step S M.algebra.nulls) c) ∙ h,
+            ∙ sym (values.fold-Const (Option ℕ) (value_type_step S M.algebra.nulls) c) ∙ h,
         ap (value_of M A) (values.fold-Const TypeTerm (spelled_step null_term) c) ∙ fold-Const Value (value_step M A) c ∙ sym (values.fold-Const Value (normal_step M) c),
       ))
       (λ n type h.
@@ -74,10 +74,10 @@ module _ (j : InstanceData) (null_term : ℕ → TypeTerm) (spell : AreNullsSpel
       let parts = applied_type_some (slice_get S.typeside.functions f) (map type_in vs) type (sym (values.fold-Fun (Option ℕ) (value_type_step S M.algebra.nulls) f vs) ∙ h) in
       let args = all_spelled vs parts.0.args each parts.2 in (
         ap (type_of S G) (values.fold-Fun TypeTerm (spelled_step null_term) f vs) ∙ fold-Fun (Option ℕ) (type_step S G) f (map as_term vs)
-        ∙ ap (λ o. applied_type o (map (type_of S G) (map as_term vs))) parts.1
-        ∙ ap (λ (b : Bool). if b then Some parts.0.result else None) args.0 ∙ ap (λ n. Some n) parts.3,
+            ∙ ap (λ o. applied_type o (map (type_of S G) (map as_term vs))) parts.1
+            ∙ ap (λ (b : Bool). if b then Some parts.0.result else None) args.0 ∙ ap (λ n. Some n) parts.3,
         ap (value_of M A) (values.fold-Fun TypeTerm (spelled_step null_term) f vs) ∙ fold-Fun Value (value_step M A) f (map as_term vs)
-        ∙ ap (applied M f) args.1 ∙ sym (values.fold-Fun Value (normal_step M) f vs),
+            ∙ ap (applied M f) args.1 ∙ sym (values.fold-Fun Value (normal_step M) f vs),
       ))
 
   module _ (least : HasLeastNames j) where

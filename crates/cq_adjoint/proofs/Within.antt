@@ -18,11 +18,11 @@ use Rattle.cq_transform.proofs.Loops.{read_at}
 -- one more that isn't too long
 pub fits_more : (images : List Image) (image : Image) → has_long images ≡ false → is_long image ≡ false → has_long (images ++ image ∷ []) ≡ false
 fits_more [] image none short = ap (λ (b : Bool). b || false) short
-fits_more (x ∷ images) image none short = at_test (is_long x) none
+fits_more (x ∷ images) image none short = at_test (is_long x) none (λ h. fits_more images image h short)
   where
-    at_test : (b : Bool) → (b || has_long images) ≡ false → (b || has_long (images ++ image ∷ [])) ≡ false
-    at_test true h = cc
-    at_test false h = fits_more images image h short
+    at_test : (b : Bool) → (b || has_long images) ≡ false → (has_long images ≡ false → has_long (images ++ image ∷ []) ≡ false) → (b || has_long (images ++ image ∷ [])) ≡ false
+    at_test true h rest = cc
+    at_test false h rest = rest h
 
 -- a refusal at one image is one of them all
 pub tells_of : (images : List Image) (n : ℕ) (image : Image) (refusal : SizeRefusal) → slice_get images n ≡ Some image → TellsSize (is_long image) refusal → TellsSize (has_long images) refusal

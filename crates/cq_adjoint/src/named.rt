@@ -38,20 +38,16 @@ fn null_term(alloc: Global, null_terms: &[TypeTerm], label: u64) -> Result<TypeT
 }
 
 /// A value as a term, with the term of each null in the null's place.
-fn named_term(
-    alloc: Global,
-    null_terms: &[TypeTerm],
-    value: &Value,
-) -> Result<TypeTerm, AllocError>
-    ensures { IfOk result (λ made. made ≡ spelled_value (term_among null_terms.now) value.now) }
+fn named_term(alloc: Global, naming: &Naming, value: &Value) -> Result<TypeTerm, AllocError>
+    ensures { IfOk result (λ made. made ≡ spelled_value (term_among naming.now.null_terms.now) value.now) }
 {
     match value {
         Value::Const(constant) => Ok(TypeTerm::Const(constant.clone()?)),
-        Value::Null(label) => null_term(alloc, null_terms, *label),
+        Value::Null(label) => null_term(alloc, naming.null_terms, *label),
         Value::Fun(function, args) => {
             let mut made = Vec::new(alloc);
             for arg in args.as_slice() {
-                made.push(named_term(alloc, null_terms, arg)?)?;
+                made.push(named_term(alloc, naming, arg)?)?;
             }
             Ok(TypeTerm::Fun(*function, Seq::from_vec(made)))
         }
@@ -99,7 +95,7 @@ fn named_value(
     let Ok(value) = sent_value(alloc, from, to, k, generator) else {
         return Err(AllocError);
     };
-    match named_term(alloc, naming.null_terms, &value) {
+    match named_term(alloc, naming, &value) {
         Ok(term) => Ok(Image::Value(term)),
         Err(refusal) => Err(refusal),
     }

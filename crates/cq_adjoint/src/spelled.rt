@@ -37,7 +37,8 @@ fn spelled_row(
 ) -> Result<Image, AllocError>
     requires given { to.now ≡ given to.now.schema to.now.tables }
     requires spellable { IsSpellable mapping.now h.now from.now to.now generator (Entity entity) }
-    ensures { IfOk result (λ made. made ≡ moved_spelling mapping.now h.now from.now to.now generator (Entity entity)) }
+    ensures { IfOk result (λ made. made
+        ≡ moved_spelling mapping.now h.now from.now to.now generator (Entity entity)) }
 {
     to.is_instance();
     let rows = rows_at(h.rows.as_slice(), image_of_entity(mapping, entity) as usize);
@@ -114,7 +115,8 @@ pub(crate) fn spelled_images(
         return Err(SizeRefusal::Memory);
     };
     for (number, generator) in generators.iter().enumerate() {
-        let Ok(image) = spelled_image(alloc, mapping, h, from, to, number as u32, generator.1) else {
+        let Ok(image) = spelled_image(alloc, mapping, h, from, to, number as u32, generator.1)
+        else {
             return Err(SizeRefusal::Memory);
         };
         if let Err(refusal) = push_image(image, &mut images) {

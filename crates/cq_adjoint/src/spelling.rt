@@ -48,11 +48,7 @@ fn first_null(to: &Instance) -> u32
 }
 
 /// A value as a term over the generators of nulls, in an instance of tables.
-pub(crate) fn spell_value(
-    alloc: Global,
-    to: &Instance,
-    value: &Value,
-) -> Result<Image, AllocError>
+pub(crate) fn spell_value(alloc: Global, to: &Instance, value: &Value) -> Result<Image, AllocError>
     requires given { to.now ≡ given to.now.schema to.now.tables }
     requires typed { (type : ℕ) × (value_type to.now.schema to.now.tables.algebra.nulls value.now ≡ Some type) }
     ensures { IfOk result (λ made. made ≡ image.Value (term_of_value to.now.schema to.now.tables value.now)) }

@@ -10,7 +10,7 @@ use Rattle.cq_adjoint.proofs.named.+named_term.Goals as goal
 
 pub loop-arg-preserved : goal.loop-arg-preserved
 loop-arg-preserved t c =
-    let f : Value → TypeTerm = spelled_value (term_among c.args.null_terms.now) in
+    let f : Value → TypeTerm = spelled_value (term_among c.args.naming.now.null_terms.now) in
     let items : List Value = c.as_slice-arg-items.result.now in
     let arg : Value = c.arg-item.result in
     c.in_ok-push-in-Fun.ensures.items
@@ -20,17 +20,17 @@ loop-arg-preserved t c =
 pub returns-in_ok-clone-in-Const : goal.returns-in_ok-clone-in-Const
 returns-in_ok-clone-in-Const t c =
     ap Const c.in_ok-clone-in-Const.ensures.cases
-    ∙ sym (ap (spelled_value (term_among c.args.null_terms.now)) c.in-Const.is ∙ fold-Const TypeTerm (spelled_step (term_among c.args.null_terms.now)) c.in-Const.constant)
+    ∙ sym (ap (spelled_value (term_among c.args.naming.now.null_terms.now)) c.in-Const.is ∙ fold-Const TypeTerm (spelled_step (term_among c.args.naming.now.null_terms.now)) c.in-Const.constant)
 
 pub returns-in-Null : goal.returns-in-Null
 returns-in-Null t c =
     subst (λ (u : TypeTerm). IfOk c.null_term.result (λ w. w ≡ u))
-    (sym (ap (spelled_value (term_among c.args.null_terms.now)) c.in-Null.is ∙ fold-Null TypeTerm (spelled_step (term_among c.args.null_terms.now)) c.in-Null.label))
+    (sym (ap (spelled_value (term_among c.args.naming.now.null_terms.now)) c.in-Null.is ∙ fold-Null TypeTerm (spelled_step (term_among c.args.naming.now.null_terms.now)) c.in-Null.label))
     c.null_term.ensures
 
 pub returns-after-loop-arg : goal.returns-after-loop-arg
 returns-after-loop-arg t c =
-    let f : Value → TypeTerm = spelled_value (term_among c.args.null_terms.now) in
+    let f : Value → TypeTerm = spelled_value (term_among c.args.naming.now.null_terms.now) in
     ap (Fun c.in-Fun.function)
     (c.from_vec.ensures ∙ c.loop-arg.invariant ∙ ap (map f) (take_all c.loop-arg.arg-index c.as_slice-arg-items.result.now c.loop-arg-test.false ∙ c.as_slice-arg-items.ensures))
-    ∙ sym (ap f c.in-Fun.is ∙ fold-Fun TypeTerm (spelled_step (term_among c.args.null_terms.now)) c.in-Fun.function c.in-Fun.args)
+    ∙ sym (ap f c.in-Fun.is ∙ fold-Fun TypeTerm (spelled_step (term_among c.args.naming.now.null_terms.now)) c.in-Fun.function c.in-Fun.args)

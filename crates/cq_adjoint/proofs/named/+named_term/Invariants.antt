@@ -7,4 +7,4 @@ abbrev pub decreases-named_term : goal.decreases-named_term
 decreases-named_term l = goal.size-named_term l
 
 abbrev pub invariant-loop-arg : goal.invariant-loop-arg
-invariant-loop-arg l = l.made.items ≡ map (spelled_value (term_among l.null_terms)) (take l.arg-index l.arg-items)
+invariant-loop-arg l = l.made.items ≡ map (spelled_value (term_among l.naming.null_terms.now)) (take l.arg-index l.arg-items)

@@ -18,16 +18,16 @@ named_image-requires c =
 pub returns-in-Err-clause-refused : goal.returns-in-Err-clause-refused
 returns-in-Err-clause-refused c =
     tells_numbered (λ (x : ℕ × (Name × Sort)). moved_name c.args.mapping.now c.args.k.now c.args.from.now c.args.naming.now.to.now (term_among c.args.naming.now.null_terms.now) x.0 x.1.1) c.args.generators.now c.loop-number.number
-    c.index-generators-number.result c.in-Ok.image c.in-Err.refusal c.loop-number-test.true c.index-generators-number.is c.in-Ok.ensures c.in-Err.ensures.refused
+    c.index-generators-number.result c.in-Ok-named_image.image c.in-Err.refusal c.loop-number-test.true c.index-generators-number.is c.in-Ok-named_image.ensures c.in-Err.ensures.refused
 
 pub loop-number-preserved : goal.loop-number-preserved
 loop-number-preserved c =
     let f : ℕ × (Name × Sort) → Image = λ x. moved_name c.args.mapping.now c.args.k.now c.args.from.now c.args.naming.now.to.now (term_among c.args.naming.now.null_terms.now) x.0 x.1.1 in
-    let image : c.in-Ok.image ≡ f (c.loop-number.number, get_or c.args.generators.now c.loop-number.number c.index-generators-number.result) =
-    c.in-Ok.ensures ∙ ap (λ (g : Name × Sort). f (c.loop-number.number, g)) c.index-generators-number.is in
+    let image : c.in-Ok-named_image.image ≡ f (c.loop-number.number, get_or c.args.generators.now c.loop-number.number c.index-generators-number.result) =
+    c.in-Ok-named_image.ensures ∙ ap (λ (g : Name × Sort). f (c.loop-number.number, g)) c.index-generators-number.is in
     record {
       made =
-          c.in_default.ensures.made ∙ (λ j. c.loop-number.invariant.made j ++ image j ∷ [])
+          c.in_default-push_image.ensures.made ∙ (λ j. c.loop-number.invariant.made j ++ image j ∷ [])
           ∙ sym (enumerated_more f c.args.generators.now c.loop-number.number c.index-generators-number.result c.loop-number-test.true);
-      fits = ap has_long c.in_default.ensures.made ∙ fits_more c.loop-number.images.items c.in-Ok.image c.loop-number.invariant.fits c.in_default.ensures.fits;
+      fits = ap has_long c.in_default-push_image.ensures.made ∙ fits_more c.loop-number.images.items c.in-Ok-named_image.image c.loop-number.invariant.fits c.in_default-push_image.ensures.fits;
     }

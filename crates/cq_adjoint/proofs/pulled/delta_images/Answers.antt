@@ -19,44 +19,40 @@ spelled_images-requires-clause-given c =
 
 pub spelled_images-requires-clause-few : goal.spelled_images-requires-clause-few
 spelled_images-requires-clause-few c =
-    omega (arith, c.presentation.ensures.instance.presented.count, ap length (c.as_slice.ensures ∙ ap (λ (P : Presentation). P.generators) c.presentation.ensures.presentation))
+    omega (arith, c.presentation-presentation.ensures.instance.presented.count, ap length (c.as_slice.ensures ∙ ap (λ (P : Presentation). P.generators) c.presentation-presentation.ensures.presentation))
 
 pub spelled_images-requires-clause-spellable : goal.spelled_images-requires-clause-spellable
 spelled_images-requires-clause-spellable c =
-    subst (AreSpellable c.args.mapping.now c.args.h.now c.args.a.now c.args.b.now) (sym (c.as_slice.ensures ∙ ap (λ (P : Presentation). P.generators) c.presentation.ensures.presentation))
-    (lemmas.spellable c.args.mapping.now c.is_well_sorted.ensures c.args.i.now c.args.j.now c.args.a.now c.args.b.now c.is_instance.ensures c.is_instance-2.ensures c.presentation.ensures.instance
+    subst (AreSpellable c.args.mapping.now c.args.h.now c.args.a.now c.args.b.now) (sym (c.as_slice.ensures ∙ ap (λ (P : Presentation). P.generators) c.presentation-presentation.ensures.presentation))
+    (lemmas.spellable c.args.mapping.now c.is_well_sorted.ensures c.args.i.now c.args.j.now c.args.a.now c.args.b.now c.is_instance.ensures c.is_instance-2.ensures c.presentation-presentation.ensures.instance
     c.is_instance-3.ensures c.requires.first c.requires.second c.args.h.now c.requires.goes)
 
--- the images that were made
-images_are : (c : _) → goal.returns-in-Ok-clause-images c
-images_are c =
+pub returns-in-Ok-clause-images : goal.returns-in-Ok-clause-images
+returns-in-Ok-clause-images c =
     c.in-Ok.ensures.made
-    ∙ ap (each_generator (moved_spelling c.args.mapping.now c.args.h.now c.args.a.now c.args.b.now)) (c.as_slice.ensures ∙ ap (λ (P : Presentation). P.generators) c.presentation.ensures.presentation)
-    ∙ lemmas.images_are c.args.mapping.now c.is_well_sorted.ensures c.args.i.now c.args.j.now c.args.a.now c.args.b.now c.is_instance.ensures c.is_instance-2.ensures c.presentation.ensures.instance
+    ∙ ap (each_generator (moved_spelling c.args.mapping.now c.args.h.now c.args.a.now c.args.b.now)) (c.as_slice.ensures ∙ ap (λ (P : Presentation). P.generators) c.presentation-presentation.ensures.presentation)
+    ∙ lemmas.images_are c.args.mapping.now c.is_well_sorted.ensures c.args.i.now c.args.j.now c.args.a.now c.args.b.now c.is_instance.ensures c.is_instance-2.ensures c.presentation-presentation.ensures.instance
     c.is_instance-3.ensures c.requires.first c.requires.second c.args.h.now c.requires.goes
 
-pub returns-in-Ok-clause-images : goal.returns-in-Ok-clause-images
-returns-in-Ok-clause-images c = images_are c
-
 pub returns-in-Ok-clause-fits : goal.returns-in-Ok-clause-fits
-returns-in-Ok-clause-fits c = ap has_long (sym (images_are c)) ∙ c.in-Ok.ensures.fits
+returns-in-Ok-clause-fits c = ap has_long (sym (returns-in-Ok-clause-images c)) ∙ c.in-Ok.ensures.fits
 
 pub returns-in-Ok-clause-sorted : goal.returns-in-Ok-clause-sorted
 returns-in-Ok-clause-sorted c =
-    subst (AreSorted c.args.a.now c.args.b.now) (sym (images_are c))
-    (lemmas.sorted c.args.mapping.now c.is_well_sorted.ensures c.args.i.now c.args.j.now c.args.a.now c.args.b.now c.is_instance.ensures c.is_instance-2.ensures c.presentation.ensures.instance
+    subst (AreSorted c.args.a.now c.args.b.now) (sym (returns-in-Ok-clause-images c))
+    (lemmas.sorted c.args.mapping.now c.is_well_sorted.ensures c.args.i.now c.args.j.now c.args.a.now c.args.b.now c.is_instance.ensures c.is_instance-2.ensures c.presentation-presentation.ensures.instance
     c.is_instance-3.ensures c.requires.first c.requires.second c.args.h.now c.requires.goes)
 
 pub returns-in-Ok-clause-kept : goal.returns-in-Ok-clause-kept
 returns-in-Ok-clause-kept c =
-    subst (AreKept c.args.a.now c.args.b.now) (sym (images_are c))
-    (lemmas.kept c.args.mapping.now c.is_well_sorted.ensures c.args.i.now c.args.j.now c.args.a.now c.args.b.now c.is_instance.ensures c.is_instance-2.ensures c.presentation.ensures.instance
+    subst (AreKept c.args.a.now c.args.b.now) (sym (returns-in-Ok-clause-images c))
+    (lemmas.kept c.args.mapping.now c.is_well_sorted.ensures c.args.i.now c.args.j.now c.args.a.now c.args.b.now c.is_instance.ensures c.is_instance-2.ensures c.presentation-presentation.ensures.instance
     c.is_instance-3.ensures c.requires.first c.requires.second c.args.h.now c.requires.goes)
 
 pub returns-in-Err-clause-refused : goal.returns-in-Err-clause-refused
 returns-in-Err-clause-refused c =
     subst (λ (images : List Image). TellsSize (has_long images) c.in-Err.refusal)
-    (ap (each_generator (moved_spelling c.args.mapping.now c.args.h.now c.args.a.now c.args.b.now)) (c.as_slice.ensures ∙ ap (λ (P : Presentation). P.generators) c.presentation.ensures.presentation)
-    ∙ lemmas.images_are c.args.mapping.now c.is_well_sorted.ensures c.args.i.now c.args.j.now c.args.a.now c.args.b.now c.is_instance.ensures c.is_instance-2.ensures c.presentation.ensures.instance
+    (ap (each_generator (moved_spelling c.args.mapping.now c.args.h.now c.args.a.now c.args.b.now)) (c.as_slice.ensures ∙ ap (λ (P : Presentation). P.generators) c.presentation-presentation.ensures.presentation)
+    ∙ lemmas.images_are c.args.mapping.now c.is_well_sorted.ensures c.args.i.now c.args.j.now c.args.a.now c.args.b.now c.is_instance.ensures c.is_instance-2.ensures c.presentation-presentation.ensures.instance
     c.is_instance-3.ensures c.requires.first c.requires.second c.args.h.now c.requires.goes)
     c.in-Err.ensures.refused

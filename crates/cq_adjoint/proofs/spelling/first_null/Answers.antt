@@ -13,5 +13,10 @@ returns-clause-first c =
 
 pub returns-clause-room : goal.returns-clause-room
 returns-clause-room c =
-    omega (arith, given_count c.args.to.now c.is_instance.ensures c.requires, c.is_instance.ensures.presented.count, c.null_count.ensures,
-    ap (λ (P : Presentation). length P.generators) c.presentation.ensures.presentation)
+    omega (
+      arith,
+      given_count c.args.to.now c.is_instance.ensures c.requires,
+      c.is_instance.ensures.presented.count,
+      c.null_count.ensures,
+      ap (λ (P : Presentation). length P.generators) c.presentation.ensures.presentation,
+    )
