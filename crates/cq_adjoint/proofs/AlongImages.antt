@@ -1,8 +1,8 @@
 -- The images of a transform's images along a mapping make a transform between the instances that the mapping pushes forward.
-use Rattle.std.proofs.Common.{ℕ, List, Some, ◌≡◌, map, length, refl, sym, ap, subst, ◌∙◌, arith}
+use Rattle.std.proofs.Common.{ℕ, List, Some, ◌≡◌, length, refl, sym, ap, subst, ◌∙◌}
 use Rattle.std.specs.Prelude.{slice_get, slice_index_or}
 use Rattle.std.proofs.lemmas.List.{length-map}
-use Rattle.std.proofs.lemmas.Option.{get_or_from_slice_get, slice_get_within}
+use Rattle.std.proofs.lemmas.Option.{get_or_from_slice_get}
 use Rattle.cq_base.specs.declared.name.Name.{Name}
 use Rattle.cq_theory.specs.declared.presentation.Presentation.{Presentation}
 use Rattle.cq_theory.specs.declared.presentation.Sort.{Sort}
@@ -10,14 +10,13 @@ use Rattle.cq_theory.specs.declared.term.Term.{Term}
 use Rattle.cq_theory.specs.declared.value.Value.{Value}
 use Rattle.cq_theory.specs.SchemaData.{SchemaData as Schema}
 use Rattle.cq_theory.specs.Presentation.{IsPresentation}
-use Rattle.cq_theory.specs.Schema.{IsSchema}
-use Rattle.cq_theory.specs.Sorts.{Generators, sort_of}
-use Rattle.cq_theory.specs.Tables.{Tables, Meaning, AtRow, Assignment, meaning_of, IsWellFormed, Satisfies, Holds, Initial}
+use Rattle.cq_theory.specs.Sorts.{sort_of}
+use Rattle.cq_theory.specs.Tables.{Tables, AtRow, Assignment, meaning_of, IsWellFormed, Satisfies, Holds, Initial}
 use Rattle.cq_theory.specs.Homomorphism.{IsHomomorphism}
 use Rattle.cq_mapping.specs.MappingData.{MappingData as Mapping}
 use Rattle.cq_mapping.specs.Mapping.{IsMapping}
 use Rattle.cq_mapping.specs.Duties.{Preserves}
-use Rattle.cq_mapping.specs.Images.{sort_image, term_image, generator_images, sigma}
+use Rattle.cq_mapping.specs.Images.{sort_image, term_image, generator_images}
 use Rattle.cq_mapping.specs.Moved.{delta_tables}
 use Rattle.cq_mapping.proofs.Imaged.{sort_of-image}
 use Rattle.cq_instance.specs.InstanceData.{InstanceData, IsInstance}
@@ -31,7 +30,6 @@ use Rattle.cq_transform.specs.Transforms.{term_of, meanings_in, GoesFrom}
 use Rattle.cq_transform.specs.Transforming.{AreKept, AreSorted}
 use Rattle.cq_transform.proofs.Composites.{meaning_goes}
 use Rattle.cq_transform.proofs.ExactlyOne.{some_homomorphism}
-use Rattle.cq_transform.proofs.Loops.{member_at}
 use Rattle.cq_adjoint.specs.Moved.{IsSigmaOf}
 use Rattle.cq_adjoint.specs.Moves.{image_along, sigma_images}
 use Rattle.cq_adjoint.proofs.RightImages as images_of

@@ -1,19 +1,15 @@
 -- A transform goes along to what a mapping pulls back.
-use Rattle.std.proofs.Common.{ℕ, List, Some, ◌≡◌, refl, sym, ap, subst, ◌∙◌}
-use Rattle.std.specs.Prelude.{slice_get, slice_index_or}
-use Rattle.cq_base.specs.declared.name.Name.{Name}
-use Rattle.cq_theory.specs.declared.presentation.Presentation.{Presentation}
-use Rattle.cq_theory.specs.declared.presentation.Sort.{Sort}
+use Rattle.std.proofs.Common.{List, ◌≡◌, sym, ap, subst, ◌∙◌}
+use Rattle.std.specs.Prelude.{slice_index_or}
 use Rattle.cq_theory.specs.SchemaData.{SchemaData as Schema}
 use Rattle.cq_theory.specs.Presentation.{IsPresentation}
-use Rattle.cq_theory.specs.Tables.{Tables, AtRow, Assignment, IsWellFormed, Satisfies, Holds}
+use Rattle.cq_theory.specs.Tables.{Tables, AtRow, IsWellFormed, Satisfies, Holds}
 use Rattle.cq_theory.specs.Homomorphism.{IsHomomorphism}
 use Rattle.cq_mapping.specs.MappingData.{MappingData as Mapping}
 use Rattle.cq_mapping.specs.Mapping.{IsMapping}
 use Rattle.cq_mapping.specs.Images.{sort_image, sigma}
 use Rattle.cq_mapping.specs.Moved.{delta_tables}
 use Rattle.cq_instance.specs.InstanceData.{InstanceData, IsInstance}
-use Rattle.cq_instance.specs.Given.{given}
 use Rattle.cq_instance.specs.declared.transform.Image.{Image}
 use Rattle.cq_instance.specs.declared.transform.Transform.{Transform}
 use Rattle.cq_transform.specs.Agreement.{meaning_image}

@@ -1,18 +1,16 @@
 -- What arrives at an instance that a mapping pulls back leaves the one that it pushes forward.
-use Rattle.std.proofs.Common.{ℕ, List, Some, ◌≡◌, refl, sym, ap, subst, ◌∙◌}
-use Rattle.std.specs.Prelude.{slice_get, slice_index_or}
-use Rattle.cq_base.specs.declared.name.Name.{Name}
-use Rattle.cq_theory.specs.declared.presentation.Presentation.{Presentation}
+use Rattle.std.proofs.Common.{ℕ, List, ◌≡◌, refl, sym, ap, subst, ◌∙◌}
+use Rattle.std.specs.Prelude.{slice_index_or}
 use Rattle.cq_theory.specs.declared.presentation.Sort.{Sort}
 use Rattle.cq_theory.specs.declared.term.TypeTerm.{TypeTerm}
 use Rattle.cq_theory.specs.SchemaData.{SchemaData as Schema}
 use Rattle.cq_theory.specs.Presentation.{IsPresentation}
 use Rattle.cq_theory.specs.Schema.{IsSchema}
-use Rattle.cq_theory.specs.Tables.{Tables, Meaning, AtRow, HasSort, IsWellFormed, Satisfies, Holds}
+use Rattle.cq_theory.specs.Tables.{Tables, AtRow, HasSort, IsWellFormed, Satisfies, Holds}
 use Rattle.cq_theory.specs.Homomorphism.{IsHomomorphism}
 use Rattle.cq_mapping.specs.MappingData.{MappingData as Mapping}
 use Rattle.cq_mapping.specs.Mapping.{IsMapping}
-use Rattle.cq_mapping.specs.Images.{sort_image, sigma}
+use Rattle.cq_mapping.specs.Images.{sort_image}
 use Rattle.cq_mapping.specs.Moved.{delta_tables}
 use Rattle.cq_instance.specs.InstanceData.{InstanceData, IsInstance}
 use Rattle.cq_instance.specs.declared.transform.Image.{Image}

@@ -1,5 +1,5 @@
 -- A generator is a term over its instance.
-use Rattle.std.proofs.Common.{ℕ, List, [], Option, Some, ◌≡◌, ap, ◌∙◌}
+use Rattle.std.proofs.Common.{ℕ, [], Option, Some, ◌≡◌, ap, ◌∙◌}
 use Rattle.std.specs.Prelude.{slice_get, option_map, option_and_then}
 use Rattle.cq_base.specs.declared.name.Name.{Name}
 use Rattle.cq_theory.specs.declared.presentation.Sort.{Sort}

@@ -1,8 +1,8 @@
 -- What identities are sent to along mappings, and units and counits.
-use Rattle.std.proofs.Common.{ℕ, zero, suc, List, [], ◌∷◌, Some, ◌≡◌, ◌+◌, inl, inr, map, length, refl, sym, ap, subst, ◌∙◌, arith}
+use Rattle.std.proofs.Common.{ℕ, suc, [], ◌∷◌, Some, ◌≡◌, ◌+◌, map, refl, ap, subst, ◌∙◌, arith}
 use Rattle.std.specs.Prelude.{slice_get, slice_index_or}
 use Rattle.std.specs.List.{enumerate_from}
-use Rattle.std.proofs.lemmas.Option.{slice_get_within, get_or_from_slice_get}
+use Rattle.std.proofs.lemmas.Option.{get_or_from_slice_get}
 use Rattle.cq_base.specs.declared.name.Name.{Name}
 use Rattle.cq_theory.specs.declared.presentation.Sort.{Sort}
 use Rattle.cq_theory.specs.declared.presentation.Sort.TheVariants.{Plain, Entity}
@@ -10,21 +10,20 @@ use Rattle.cq_theory.specs.declared.presentation.Presentation.{Presentation}
 use Rattle.cq_theory.specs.declared.term.TypeTerm.{TypeTerm}
 use Rattle.cq_theory.specs.declared.value.Value.{Value}
 use Rattle.cq_theory.specs.Sorts.{Generators}
-use Rattle.cq_theory.specs.Tables.{Tables, Meaning, AtRow, AtValue, Assignment, row_in, value_in, value_of, value_step, meaning_of, HasSort, IsWellFormed, Holds}
+use Rattle.cq_theory.specs.Tables.{Meaning, AtRow, AtValue, row_in, value_in, value_step, meaning_of, HasSort, Holds}
 use Rattle.cq_theory.proofs.TypeTerms.{fold-Gen}
 use Rattle.cq_mapping.specs.MappingData.{MappingData as Mapping}
-use Rattle.cq_mapping.specs.Images.{sort_image, generator_images, type_image_step, sigma}
+use Rattle.cq_mapping.specs.Images.{sort_image, generator_images, type_image_step}
 use Rattle.cq_instance.specs.InstanceData.{InstanceData}
 use Rattle.cq_instance.specs.declared.transform.Image.{Image}
-use Rattle.cq_instance.specs.declared.transform.Image.TheVariants.{Row, Value as ValueImage}
-use Rattle.cq_instance.specs.declared.transform.Transform.{Transform}
+use Rattle.cq_instance.specs.declared.transform.Image.TheVariants.{Value as ValueImage}
 use Rattle.cq_instance.proofs.Enumerated.{get-enumerate}
 use Rattle.cq_instance.proofs.Lists.{get-map}
 use Rattle.cq_transform.specs.Identities.{itself, identity_images}
 use Rattle.cq_transform.specs.Transforms.{term_of, meanings_in, GoesFrom}
 use Rattle.cq_transform.proofs.Itself.{identity_goes}
-use Rattle.cq_adjoint.specs.Moved.{IsSigmaOf, IsDeltaOf}
-use Rattle.cq_adjoint.specs.Moves.{sent, spelled, named, each_generator, image_along, delta_images, to_delta_images, from_delta_images}
+use Rattle.cq_adjoint.specs.Moved.{IsSigmaOf}
+use Rattle.cq_adjoint.specs.Moves.{sent, spelled, named, each_generator, image_along, to_delta_images, from_delta_images}
 use Rattle.cq_adjoint.specs.Units.{identity_of, unit_images, counit_images}
 
 -- images that are the same at each generator

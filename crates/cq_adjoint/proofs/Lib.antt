@@ -6,7 +6,7 @@ pub mod PulledImages
 pub mod NamedImages
 pub mod PushedImages
 pub mod AlongImages
-pub mod SpelledValues
+pub mod NumberedNulls
 pub mod MovedImages
 pub mod Grounds
 pub mod GivenModels

@@ -1,18 +1,16 @@
 -- What the code makes of a generator is where the transform sends what the generator stands for.
-use Rattle.std.proofs.Common.{ℕ, List, [], Some, ◌≡◌, ◌<◌, refl, sym, ap, subst, ◌∙◌}
+use Rattle.std.proofs.Common.{ℕ, List, [], Some, ◌≡◌, ◌<◌, refl, sym, ap, ◌∙◌}
 use Rattle.std.specs.Prelude.{slice_index, slice_index_or}
 use Rattle.cq_theory.specs.declared.presentation.Sort.{Sort}
 use Rattle.cq_theory.specs.declared.presentation.Sort.TheVariants.{Plain, Entity}
-use Rattle.cq_theory.specs.declared.term.EntTerm.{EntTerm}
 use Rattle.cq_theory.specs.declared.value.Value.{Value}
 use Rattle.cq_theory.specs.declared.value.Entry.{Entry}
 use Rattle.cq_theory.specs.SchemaData.{SchemaData as Schema}
 use Rattle.cq_theory.specs.Canonical.{row_term}
-use Rattle.cq_theory.specs.Tables.{Tables, Meaning, AtRow, AtValue, row_in, value_in, count_of, value_type, HasSort, IsWellFormed}
+use Rattle.cq_theory.specs.Tables.{Tables, Meaning, AtRow, AtValue, row_in, value_in, count_of, value_type, HasSort}
 use Rattle.cq_instance.specs.InstanceData.{InstanceData, name_at, IsInstance}
 use Rattle.cq_instance.specs.Given.{given}
-use Rattle.cq_instance.specs.declared.transform.Image.{Image}
-use Rattle.cq_instance.specs.declared.transform.Image.TheVariants.{Row, Value as ValueImage}
+use Rattle.cq_instance.specs.declared.transform.Image.TheVariants.{Row}
 use Rattle.cq_transform.specs.Agreement.{meaning_image}
 use Rattle.cq_transform.specs.Sent.{value_sent}
 use Rattle.cq_transform.proofs.Placed.{sent_image}

@@ -1,15 +1,14 @@
 -- Rows by their least names, and values with their nulls spelled by terms, are terms that mean them.
-use Rattle.std.proofs.Common.{ℕ, Bool, true, List, [], ◌∷◌, Option, Some, ◌≡◌, ◌<◌, ◌&&◌, if◌then◌else◌, None, map, refl, sym, ap, ◌∙◌}
+use Rattle.std.proofs.Common.{ℕ, Bool, true, List, [], ◌∷◌, Option, Some, ◌≡◌, ◌&&◌, if◌then◌else◌, None, map, refl, sym, ap, ◌∙◌}
 use Rattle.std.specs.Prelude.{slice_get, option_map}
 use Rattle.std.proofs.lemmas.Bool.{and_parts}
 use Rattle.cq_theory.specs.declared.presentation.Sort.{Sort}
 use Rattle.cq_theory.specs.declared.presentation.Sort.TheVariants.{Plain, Entity}
 use Rattle.cq_theory.specs.declared.term.TypeTerm.{TypeTerm}
 use Rattle.cq_theory.specs.declared.value.Value.{Value}
-use Rattle.cq_theory.specs.declared.value.Value.TheVariants.{Const, Null, Fun}
 use Rattle.cq_theory.specs.SchemaData.{SchemaData as Schema}
 use Rattle.cq_theory.specs.Sorts.{Generators, is_type, have_types, applied_type, type_of, type_step}
-use Rattle.cq_theory.specs.Tables.{Tables, Meaning, AtRow, AtValue, Assignment, count_of, value_of, value_step, applied, value_type, value_type_step, normal_of, normal_step, HasSort}
+use Rattle.cq_theory.specs.Tables.{Tables, Meaning, AtRow, AtValue, Assignment, value_of, value_step, applied, value_type, value_type_step, normal_of, normal_step, HasSort}
 use Rattle.cq_theory.proofs.TypeTerms.{fold-Const, fold-Fun}
 use Rattle.cq_theory.proofs.Values as values
 use Rattle.cq_theory.proofs.OnValues.{Each, on_values}

@@ -1,5 +1,5 @@
 -- Images that are spelled in tables that a mapping pulls back make a transform into them.
-use Rattle.std.proofs.Common.{ℕ, List, Some, ◌≡◌, map, length, refl, sym, ap, subst, ◌∙◌}
+use Rattle.std.proofs.Common.{ℕ, List, Some, ◌≡◌, length, sym, ap, subst, ◌∙◌}
 use Rattle.std.specs.Prelude.{slice_get, slice_index_or}
 use Rattle.std.specs.List.{enumerate_from}
 use Rattle.std.proofs.lemmas.List.{length-map}
@@ -22,7 +22,7 @@ use Rattle.cq_instance.specs.declared.transform.Image.{Image}
 use Rattle.cq_instance.specs.declared.transform.Transform.{Transform}
 use Rattle.cq_instance.proofs.Enumerated.{get-enumerate}
 use Rattle.cq_instance.proofs.Lists.{get-map}
-use Rattle.cq_transform.specs.Agreement.{meaning_image, Agrees}
+use Rattle.cq_transform.specs.Agreement.{meaning_image}
 use Rattle.cq_transform.specs.Nulls.{IsInitial}
 use Rattle.cq_transform.specs.Transforms.{meanings_in, GoesFrom}
 use Rattle.cq_transform.specs.Transforming.{AreKept, AreSorted}

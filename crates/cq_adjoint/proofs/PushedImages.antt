@@ -1,5 +1,5 @@
 -- Images that are named in an instance make a transform into it, where a homomorphism goes into the tables that a mapping pulls back.
-use Rattle.std.proofs.Common.{ℕ, List, Some, ◌≡◌, map, length, refl, sym, ap, subst, ◌∙◌}
+use Rattle.std.proofs.Common.{ℕ, List, Some, ◌≡◌, length, sym, ap, subst, ◌∙◌}
 use Rattle.std.specs.Prelude.{slice_get, slice_index_or}
 use Rattle.std.proofs.lemmas.List.{length-map}
 use Rattle.cq_base.specs.declared.name.Name.{Name}

@@ -1,7 +1,7 @@
 -- In the tables that a mapping pulls back a term means what its image means in the tables, where generators stand for the same.
-use Rattle.std.proofs.Common.{ℕ, List, [], ◌∷◌, Option, Some, None, ◌≡◌, ◌<◌, map, length, refl, sym, ap, subst, ◌∙◌, arith}
-use Rattle.std.specs.Prelude.{slice_get, slice_index, slice_index_or, All}
-use Rattle.std.proofs.lemmas.List.{get_or-map, length-map}
+use Rattle.std.proofs.Common.{ℕ, List, [], ◌∷◌, Some, ◌≡◌, ◌<◌, map, length, refl, sym, ap, subst, ◌∙◌, arith}
+use Rattle.std.specs.Prelude.{slice_get, slice_index_or}
+use Rattle.std.proofs.lemmas.List.{length-map}
 use Rattle.std.proofs.lemmas.Option.{option_and_then_some}
 use Rattle.cq_base.specs.declared.name.Name.{Name}
 use Rattle.cq_theory.specs.TypesideData.{TypesideData as Typeside}
@@ -20,7 +20,7 @@ use Rattle.cq_theory.specs.declared.value.Value.{Value}
 use Rattle.cq_theory.specs.Derivation.{left_of, right_of}
 use Rattle.cq_theory.specs.Presentation.{IsSort, IsPresentation}
 use Rattle.cq_theory.specs.Sorts.{Generators, target_of, entity_at, entity_of, type_of, sort_of}
-use Rattle.cq_theory.specs.Tables.{Tables, Meaning, AtRow, AtValue, Assignment, row_in, value_in, count_of, cell_at, row_from, row_of, value_of, value_step, meaning_of, applied, value_type, HasSort, IsWellFormed, Satisfies, Holds}
+use Rattle.cq_theory.specs.Tables.{Tables, Meaning, AtRow, AtValue, Assignment, row_in, count_of, cell_at, row_of, value_of, value_step, meaning_of, applied, value_type, HasSort, IsWellFormed, Satisfies, Holds}
 use Rattle.cq_theory.proofs.ResolvedSorts.{map_some}
 use Rattle.cq_theory.proofs.TypeTerms.{fold-Gen, fold-Const, fold-Att, fold-Fun, Each, on_terms}
 use Rattle.cq_mapping.specs.MappingData.{MappingData as Mapping}

@@ -1,6 +1,6 @@
 -- Where a homomorphism sends what generators stand for, the presentation holds too.
-use Rattle.std.proofs.Common.{ℕ, List, [], Some, ◌≡◌, ◌<◌, map, length, refl, sym, ap, subst, ◌∙◌, arith}
-use Rattle.std.specs.Prelude.{slice_get, slice_index, slice_index_or}
+use Rattle.std.proofs.Common.{ℕ, List, [], Some, ◌≡◌, ◌<◌, map, length, sym, ap, subst, ◌∙◌, arith}
+use Rattle.std.specs.Prelude.{slice_get, slice_index_or}
 use Rattle.std.specs.List.{enumerate_from}
 use Rattle.std.proofs.lemmas.List.{length-map}
 use Rattle.std.proofs.lemmas.List.FromFn.{length-enumerate_from}
@@ -15,8 +15,8 @@ use Rattle.cq_theory.specs.Derivation.{left_of, right_of}
 use Rattle.cq_theory.specs.declared.presentation.Equation.{Equation}
 use Rattle.cq_theory.specs.Presentation.{IsPresentation}
 use Rattle.cq_theory.specs.Sorts.{sort_of}
-use Rattle.cq_theory.specs.Tables.{Tables, Meaning, AtRow, AtValue, Assignment, count_of, meaning_of, HasSort, IsWellFormed, Satisfies, Holds}
-use Rattle.cq_theory.specs.Homomorphism.{row_image, IsHomomorphism}
+use Rattle.cq_theory.specs.Tables.{Tables, Meaning, AtRow, AtValue, Assignment, HasSort, IsWellFormed, Satisfies, Holds}
+use Rattle.cq_theory.specs.Homomorphism.{IsHomomorphism}
 use Rattle.cq_instance.proofs.Enumerated.{numbered_at}
 use Rattle.cq_transform.specs.Agreement.{meaning_image, Agrees}
 use Rattle.cq_transform.proofs.Composites.{meaning_goes}

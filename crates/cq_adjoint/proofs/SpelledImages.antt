@@ -1,13 +1,12 @@
 -- Rows and values that are spelled in an instance of tables are terms that mean them.
-use Rattle.std.proofs.Common.{ℕ, List, [], Some, ◌≡◌, ◌<◌, map, length, refl, sym, ap, subst, ◌∙◌, arith}
-use Rattle.std.specs.Prelude.{slice_get, slice_index_or, option_map}
+use Rattle.std.proofs.Common.{ℕ, List, [], Some, ◌≡◌, ◌<◌, length, sym, ap, subst, ◌∙◌, arith}
+use Rattle.std.specs.Prelude.{slice_index_or, option_map}
 use Rattle.std.proofs.lemmas.List.FromFn.{get_or-map-range_with_len}
 use Rattle.cq_theory.specs.declared.presentation.Sort.{Sort}
 use Rattle.cq_theory.specs.declared.presentation.Sort.TheVariants.{Plain, Entity}
 use Rattle.cq_theory.specs.declared.term.EntTerm.{EntTerm}
-use Rattle.cq_theory.specs.declared.value.Value.{Value}
 use Rattle.cq_theory.specs.SchemaData.{SchemaData as Schema}
-use Rattle.cq_theory.specs.Canonical.{row_term, value_term}
+use Rattle.cq_theory.specs.Canonical.{row_term}
 use Rattle.cq_theory.specs.Sorts.{sort_of}
 use Rattle.cq_theory.specs.Tables.{Tables, Meaning, AtRow, AtValue, count_of, meaning_of, HasSort, IsWellFormed}
 use Rattle.cq_instance.specs.InstanceData.{InstanceData, name_at}

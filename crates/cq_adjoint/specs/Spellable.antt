@@ -1,5 +1,5 @@
 -- What has to hold of a generator whose image is made.
-use Rattle.std.specs.Prelude.{ℕ, List, [], Some, ◌≡◌, slice_get, slice_index_or}
+use Rattle.std.specs.Prelude.{ℕ, [], Some, ◌≡◌, slice_get, slice_index_or}
 use Rattle.cq_base.specs.declared.name.Name.{Name}
 use Rattle.cq_theory.specs.declared.presentation.Sort.{Sort}
 use Rattle.cq_theory.specs.declared.presentation.Sort.TheVariants.{Plain, Entity}

@@ -1,9 +1,7 @@
-use Rattle.std.proofs.Common.{List, false, ◌≡◌, map, sym, ap, subst, ◌∙◌}
-use Rattle.cq_instance.specs.declared.transform.Image.{Image}
-use Rattle.cq_move.specs.Pulling.{TellsSize}
+use Rattle.std.proofs.Common.{map, sym, ap, subst, ◌∙◌}
 use Rattle.cq_transform.specs.Composing.{has_long}
 use Rattle.cq_transform.specs.Transforming.{AreKept, AreSorted}
-use Rattle.cq_adjoint.specs.Moves.{image_along, sigma_images}
+use Rattle.cq_adjoint.specs.Moves.{image_along}
 use Rattle.cq_adjoint.proofs.AlongImages as lemmas
 use Rattle.cq_adjoint.proofs.along.sigma_map.Goals as goal
 

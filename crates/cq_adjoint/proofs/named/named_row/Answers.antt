@@ -1,7 +1,6 @@
 use Rattle.std.proofs.Common.{ℕ, List, [], ◌≡◌, ◌<◌, sym, ap, subst, ◌∙◌}
 use Rattle.std.specs.Prelude.{slice_index, slice_index_or}
-use Rattle.cq_theory.specs.declared.presentation.Sort.TheVariants.{Entity}
-use Rattle.cq_theory.specs.Tables.{Tables, Meaning, AtRow, row_in, count_of}
+use Rattle.cq_theory.specs.Tables.{Meaning, AtRow, row_in, count_of}
 use Rattle.cq_mapping.specs.Images.{entity_image}
 use Rattle.cq_instance.specs.InstanceData.{InstanceData, name_at}
 use Rattle.cq_instance.specs.declared.transform.Image.TheVariants.{Row}

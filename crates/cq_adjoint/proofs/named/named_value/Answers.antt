@@ -1,7 +1,6 @@
 use Rattle.std.proofs.Common.{◌≡◌, ap, ◌∙◌}
 use Rattle.std.specs.Prelude.{slice_index_or}
 use Rattle.cq_theory.specs.declared.presentation.Sort.TheVariants.{Plain}
-use Rattle.cq_theory.specs.declared.value.Value.{Value}
 use Rattle.cq_theory.specs.Tables.{Meaning, AtRow, value_in}
 use Rattle.cq_instance.specs.InstanceData.{InstanceData}
 use Rattle.cq_instance.specs.declared.transform.Image.TheVariants as image

@@ -1,12 +1,11 @@
-use Rattle.std.proofs.Common.{List, false, ◌≡◌, sym, ap, subst, ◌∙◌, arith}
+use Rattle.std.proofs.Common.{List, sym, ap, subst, ◌∙◌, arith}
 use Rattle.std.specs.Prelude.{length}
 use Rattle.cq_theory.specs.declared.presentation.Presentation.{Presentation}
-use Rattle.cq_theory.specs.Sorts.{Generators}
 use Rattle.cq_instance.specs.declared.transform.Image.{Image}
 use Rattle.cq_move.specs.Pulling.{TellsSize}
 use Rattle.cq_transform.specs.Composing.{has_long}
 use Rattle.cq_transform.specs.Transforming.{AreKept, AreSorted}
-use Rattle.cq_adjoint.specs.Moves.{each_generator, from_delta_images}
+use Rattle.cq_adjoint.specs.Moves.{each_generator}
 use Rattle.cq_adjoint.specs.Nameable.{AreNameable, moved_name}
 use Rattle.cq_adjoint.specs.Spelling.{term_among}
 use Rattle.cq_adjoint.proofs.FromDelta as lemmas

@@ -1,4 +1,4 @@
-use Rattle.std.proofs.Common.{ℕ, ◌≡◌, sym, ap, ◌∙◌}
+use Rattle.std.proofs.Common.{◌≡◌, ap, ◌∙◌}
 use Rattle.std.specs.Prelude.{slice_index_or}
 use Rattle.cq_theory.specs.declared.presentation.Sort.TheVariants.{Plain}
 use Rattle.cq_theory.specs.declared.value.Value.{Value}

@@ -1,6 +1,6 @@
-use Rattle.std.proofs.Common.{◌≡◌, length, ap, arith}
+use Rattle.std.proofs.Common.{length, ap, arith}
 use Rattle.cq_theory.specs.declared.presentation.Presentation.{Presentation}
-use Rattle.cq_adjoint.proofs.SpelledValues.{given_count}
+use Rattle.cq_adjoint.proofs.NumberedNulls.{given_count}
 use Rattle.cq_adjoint.proofs.spelling.first_null.Goals as goal
 
 pub overflow_sub-result : goal.overflow_sub-result

@@ -1,6 +1,6 @@
 use Rattle.std.proofs.Common.{length, ap, arith}
 use Rattle.cq_theory.specs.declared.value.Algebra.{Algebra}
-use Rattle.cq_adjoint.proofs.SpelledValues.{given_count}
+use Rattle.cq_adjoint.proofs.NumberedNulls.{given_count}
 use Rattle.cq_adjoint.proofs.spelling.null_count.Goals as goal
 
 pub overflow_cast-result : goal.overflow_cast-result

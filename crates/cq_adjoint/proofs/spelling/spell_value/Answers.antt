@@ -1,7 +1,7 @@
 use Rattle.std.proofs.Common.{ap, ◌∙◌}
 use Rattle.cq_instance.specs.declared.transform.Image.TheVariants as image
 use Rattle.cq_terms.specs.ValueTerms as terms_of
-use Rattle.cq_adjoint.proofs.SpelledValues.{value_made}
+use Rattle.cq_adjoint.proofs.NumberedNulls.{value_made}
 use Rattle.cq_adjoint.proofs.spelling.spell_value.Goals as goal
 
 pub returns : goal.returns
