@@ -16,3 +16,4 @@ pub mod FromDelta
 pub mod Within
 pub mod ThereAndBack
 pub mod IdentityMoves
+pub mod DeltaIdentities
