@@ -101,7 +101,7 @@ fn images_of(
 }
 
 /// The rows at a place, and none past the end.
-fn rows_at(rows: &[Seq<u32>], place: usize) -> &[u32]
+pub fn rows_at(rows: &[Seq<u32>], place: usize) -> &[u32]
     ensures { result.now ≡ slice_index_or rows.now place [] }
 {
     match rows.get(place) {
@@ -148,7 +148,7 @@ fn null_then(alloc: Global, nulls: &[Value], label: u64) -> Result<Value, AllocE
 }
 
 /// Where a value goes by the second transform, which ends in the last instance.
-fn value_then(
+pub fn value_then(
     alloc: Global,
     last: &Instance,
     second: &Transform,
