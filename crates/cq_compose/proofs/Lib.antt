@@ -25,3 +25,9 @@ pub mod JoinedRows
 pub mod AnswersInTurn
 pub mod AllDuties
 pub mod IdentityQueries
+pub mod Following
+pub mod Measuring
+pub mod Pushing
+pub mod Sizing
+pub mod Stepping
+pub mod Finishing

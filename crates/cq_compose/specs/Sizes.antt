@@ -1,4 +1,4 @@
--- Where the limits on queries refuse a composite.
+-- Where a composite is refused.
 use Rattle.std.specs.Prelude.{Bool, true, ◌≡◌}
 use Rattle.cq_theory.specs.declared.lookup.SizeRefusal.{SizeRefusal}
 use Rattle.cq_theory.specs.declared.lookup.SizeRefusal.TheVariants.{TooLarge, Memory}
