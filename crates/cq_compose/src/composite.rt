@@ -4,6 +4,9 @@ ghost use Rattle.std.specs.Prelude.{length, map, slice_get, sum};
 ghost use Rattle.std.specs.List.{flat_map, enumerate_from, list_any};
 ghost use Rattle.cq_theory.specs.Canonical.{below};
 ghost use Rattle.cq_query.specs.Puts.{put_equation};
+ghost use Rattle.cq_theory.specs.Tables.{Tables};
+ghost use Rattle.cq_query.specs.Answers.{IsEval};
+ghost use Rattle.cq_query.specs.Duties.{Sound};
 ghost use Rattle.cq_query.specs.IsQuery.{IsQuery};
 ghost use Rattle.cq_query.specs.Translation.{variables_at, tests_at};
 ghost use Rattle.cq_compose.specs.Composite.{components, composite_block, composite, translated, translated_test};
@@ -332,6 +335,11 @@ pub fn compose_query(alloc: Global, first: &Query, second: &Query) -> Result<Que
     ensures composite { IfOk result (λ made. made ≡ composite first.now second.now) }
     ensures fits { IfOk result (λ _. is_query_large (composite first.now second.now) ≡ false) }
     ensures refused { IfErr result (TellsSize (is_query_large (composite first.now second.now))) }
+    // If both queries are sound, the composite is.
+    ensures sound { IfOk result (λ made. Sound first.now → Sound second.now → Sound made) }
+    // The composite answers the tables that the second query answers over those that the first answers.
+    ensures evals { IfOk result (λ made. (M N R : Tables) → IsEval first.now M N → IsEval second.now N R
+        → IsEval made M R) }
 {
     first.is_well_sorted();
     second.is_well_sorted();
