@@ -1,15 +1,21 @@
 //! A folder, a sink and exporters in memory, for tests. Each is told which of its calls fail.
 
 ghost use Rattle.std.specs.Prelude.{◌≡◌, ◌++◌, ◌∷◌, [], ◌≤◌, ℕ, List, map, IfOk, OnOk, OnErr, IfErr, Some, vec_len};
-ghost use Rattle.std.specs.Prelude.{vec_capacity};
+ghost use Rattle.std.specs.Prelude.{vec_capacity, ◌↔◌, ◌-◌, IsTrue, IsOk, IsErrOf, IfSome, length, true, false};
+ghost use Rattle.cq_io.specs.Counts.{Rose};
+ghost use Rattle.cq_io.specs.Failing.{first_call, is_to_fail, after_call};
+ghost use Rattle.cq_io.specs.Reads.{IsReadOf};
+ghost use Rattle.cq_io.specs.Writes.{Appends, AppendsSome, FillsRoom};
 ghost use Rattle.cq_io.specs.Content.{file_of, find_file};
 ghost use Rattle.cq_io.specs.Failing.{is_empty, spare_room};
 ghost use Rattle.std.specs.Option.{option_copied};
 
 use crate::exporter::{Exporter, PutRefusal};
+use crate::failing::Failing;
 use crate::folder::{Folder, ReadRefusal};
 use crate::format::Format;
 use crate::keep::keep;
+use crate::overruns::Overruns;
 use crate::sink::{Failed, Sink};
 use std::alloc::{AllocError, Global};
 
@@ -18,11 +24,10 @@ use std::alloc::{AllocError, Global};
 pub struct MemFolder {
     alloc: Global,
     files: Vec<(String, Vec<u8>)>,
-    failing: Vec<u64>,
-    reads: u64,
+    failing: Failing,
     faults: u64,
     absences: u64,
-    overruns: u64,
+    overruns: Overruns,
 }
 
 impl MemFolder {
@@ -37,15 +42,15 @@ impl MemFolder {
         ensures steady { IfOk result (λ folder. (⟦<MemFolder as Folder>⟧.state folder).steady
             ≡ is_empty failing.items) }
         ensures faults { IfOk result (λ folder. (⟦<MemFolder as Folder>⟧.state folder).faults ≡ 0) }
+        ensures calls { IfOk result (λ folder. folder.failing ≡ first_call failing) }
     {
         Ok(MemFolder {
             alloc,
             files,
-            failing,
-            reads: 0,
+            failing: Failing::new(failing),
             faults: 0,
             absences: 0,
-            overruns: 0,
+            overruns: Overruns::new(),
         })
     }
 }
@@ -55,14 +60,31 @@ impl Folder for MemFolder {
       files = Some (map file_of s.files.items);
       absences = s.absences;
       faults = s.faults;
-      overruns = s.overruns;
-      steady = is_empty s.failing.items;
+      overruns = s.overruns.count;
+      steady = is_empty s.failing.numbers.items;
     } };
 
-    fn read(&mut self, name: &str, limit: u64) -> Result<Vec<u8>, ReadRefusal> {
-        let number = self.reads;
-        self.reads = self.reads.saturating_add(1);
-        if self.failing.contains(&number) {
+    fn read(&mut self, name: &str, limit: u64) -> Result<Vec<u8>, ReadRefusal>
+        ensures exact { IsErrOf result ReadRefusal.Failed ↔ IsTrue (is_to_fail self.old.failing) }
+        ensures calls { self.new.failing ≡ after_call self.old.failing }
+
+        // What each folder promises.
+        ensures files { (⟦<MemFolder as Folder>⟧.state self.new).files
+            ≡ (⟦<MemFolder as Folder>⟧.state self.old).files }
+        ensures limit { IfOk result (λ bytes. vec_len bytes ≤ limit) }
+        ensures told { IsReadOf name.now limit result (map file_of self.old.files.items) }
+        ensures faults { self.old.faults ≤ self.new.faults }
+        ensures absences { self.old.absences ≤ self.new.absences }
+        ensures overruns { self.old.overruns.count ≤ self.new.overruns.count }
+        ensures failed { IsErrOf result ReadRefusal.Failed → Rose self.old.faults self.new.faults }
+        ensures steady { is_empty self.new.failing.numbers.items ≡ is_empty self.old.failing.numbers.items }
+        ensures fails { IsErrOf result ReadRefusal.Failed → is_empty self.old.failing.numbers.items ≡ false }
+        ensures calm { is_empty self.old.failing.numbers.items ≡ true → self.new.faults ≡ self.old.faults }
+        ensures absent { IsErrOf result ReadRefusal.Absent → Rose self.old.absences self.new.absences }
+        ensures too_long { IsErrOf result ReadRefusal.TooLong
+            → Rose self.old.overruns.count self.new.overruns.count }
+    {
+        if self.failing.fails() {
             self.faults = self.faults.saturating_add(1);
             return Err(ReadRefusal::Failed);
         }
@@ -71,7 +93,7 @@ impl Folder for MemFolder {
             return Err(ReadRefusal::Absent);
         };
         if bytes.len() as u64 > limit {
-            self.overruns = self.overruns.saturating_add(1);
+            self.overruns.add(bytes, limit);
             return Err(ReadRefusal::TooLong);
         }
         match Vec::from_slice(self.alloc, bytes) {
@@ -98,8 +120,7 @@ fn find<'a>(files: &'a [(String, Vec<u8>)], name: &str) -> Option<&'a [u8]>
 pub struct MemSink {
     held: Vec<u8>,
     room: usize,
-    failing: Vec<u64>,
-    writes: u64,
+    failing: Failing,
     faults: u64,
     ghost reserved: { room ≤ vec_capacity held },
 }
@@ -111,13 +132,14 @@ impl MemSink {
         ensures held { IfOk result (λ sink. ⟦<MemSink as Sink>⟧.held sink ≡ Some []) }
         ensures spare { IfOk result (λ sink. ⟦<MemSink as Sink>⟧.spare sink ≡ spare_room failing.items room []) }
         ensures faults { IfOk result (λ sink. ⟦<MemSink as Sink>⟧.faults sink ≡ 0) }
+        ensures calls { IfOk result (λ sink. sink.failing ≡ first_call failing) }
+        ensures room { IfOk result (λ sink. sink.room ≡ room) }
     {
         let room = room as usize;
         Ok(MemSink {
             held: Vec::with_capacity(alloc, room)?,
             room,
-            failing,
-            writes: 0,
+            failing: Failing::new(failing),
             faults: 0,
         })
     }
@@ -133,14 +155,27 @@ impl MemSink {
 impl Sink for MemSink {
     ghost held = { λ s. Some s.held.items };
 
-    ghost spare = { λ s. spare_room s.failing.items s.room s.held.items };
+    ghost spare = { λ s. spare_room s.failing.numbers.items s.room s.held.items };
 
     ghost faults = { λ s. s.faults };
 
-    fn write_all(&mut self, bytes: &[u8]) -> Result<(), Failed> {
-        let number = self.writes;
-        self.writes = self.writes.saturating_add(1);
-        if self.failing.contains(&number) {
+    fn write_all(&mut self, bytes: &[u8]) -> Result<(), Failed>
+        ensures exact { FillsRoom (is_to_fail self.old.failing) (self.old.room - vec_len self.old.held)
+            self.old.held.items self.new.held.items bytes.now result }
+        ensures room { self.new.room ≡ self.old.room }
+        ensures calls { self.new.failing ≡ after_call self.old.failing }
+
+        // What each sink promises.
+        ensures ok { OnOk result (Appends (Some self.old.held.items) (Some self.new.held.items) bytes.now) }
+        ensures err { OnErr result (AppendsSome (Some self.old.held.items) (Some self.new.held.items) bytes.now) }
+        ensures later { self.old.faults ≤ self.new.faults }
+        ensures spare { IfSome (spare_room self.old.failing.numbers.items self.old.room self.old.held.items)
+            (λ room. length bytes.now ≤ room → IsOk result
+            × (spare_room self.new.failing.numbers.items self.new.room self.new.held.items
+            ≡ Some (room - length bytes.now)) × (self.new.faults ≡ self.old.faults)) }
+        ensures failed { OnErr result (Rose self.old.faults self.new.faults) }
+    {
+        if self.failing.fails() {
             self.faults = self.faults.saturating_add(1);
             return Err(Failed);
         }
@@ -161,23 +196,22 @@ pub struct MemExporter {
     alloc: Global,
     format: Format,
     kept: Vec<(String, Vec<u8>)>,
-    failing: Vec<u64>,
-    puts: u64,
+    failing: Failing,
     faults: u64,
 }
 
 impl MemExporter {
     /// An exporter that took no file yet.
     pub fn new(alloc: Global, format: Format, failing: Vec<u64>) -> Result<MemExporter, AllocError>
-        ensures { IfOk result (λ exporter. ⟦<MemExporter as Exporter>⟧.account exporter
+        ensures account { IfOk result (λ exporter. ⟦<MemExporter as Exporter>⟧.account exporter
             ≡ record { format = format; held = []; steady = is_empty failing.items; faults = 0 }) }
+        ensures calls { IfOk result (λ exporter. exporter.failing ≡ first_call failing) }
     {
         Ok(MemExporter {
             alloc,
             format,
             kept: Vec::new(alloc),
-            failing,
-            puts: 0,
+            failing: Failing::new(failing),
             faults: 0,
         })
     }
@@ -187,7 +221,7 @@ impl Exporter for MemExporter {
     ghost account = { λ s. record {
       format = s.format;
       held = map file_of s.kept.items;
-      steady = is_empty s.failing.items;
+      steady = is_empty s.failing.numbers.items;
       faults = s.faults;
     } };
 
@@ -199,10 +233,23 @@ impl Exporter for MemExporter {
         self.kept.as_slice()
     }
 
-    fn put(&mut self, name: &str, bytes: &[u8]) -> Result<(), PutRefusal> {
-        let number = self.puts;
-        self.puts = self.puts.saturating_add(1);
-        if self.failing.contains(&number) {
+    fn put(&mut self, name: &str, bytes: &[u8]) -> Result<(), PutRefusal>
+        ensures exact { IsErrOf result PutRefusal.Failed ↔ IsTrue (is_to_fail self.old.failing) }
+        ensures calls { self.new.failing ≡ after_call self.old.failing }
+
+        // What each exporter promises.
+        ensures format { self.new.format ≡ self.old.format }
+        ensures ok { OnOk result (map file_of self.new.kept.items
+            ≡ map file_of self.old.kept.items ++ (name.now, bytes.now) ∷ []) }
+        ensures err { OnErr result (map file_of self.new.kept.items ≡ map file_of self.old.kept.items) }
+        ensures later { self.old.faults ≤ self.new.faults }
+        ensures failed { IsErrOf result PutRefusal.Failed → Rose self.old.faults self.new.faults }
+        ensures memory { IsErrOf result PutRefusal.Memory → self.new.faults ≡ self.old.faults }
+        ensures steady { is_empty self.new.failing.numbers.items ≡ is_empty self.old.failing.numbers.items }
+        ensures fails { IsErrOf result PutRefusal.Failed → is_empty self.old.failing.numbers.items ≡ false }
+        ensures calm { is_empty self.old.failing.numbers.items ≡ true → self.new.faults ≡ self.old.faults }
+    {
+        if self.failing.fails() {
             self.faults = self.faults.saturating_add(1);
             return Err(PutRefusal::Failed);
         }

@@ -1,15 +1,17 @@
 //! The real folder, sink and exporter: the working directory, standard output, and folders of files.
 
 ghost use Rattle.std.specs.Prelude.{◌≡◌, ◌≤◌, ◌<◌, ◌++◌, [], ℕ, List, None, map, codes, string_bytes, IfOk, IsErrOf};
-ghost use Rattle.std.specs.Prelude.{vec_len, Bool, false};
+ghost use Rattle.std.specs.Prelude.{vec_len, Bool, IfSome, false};
 ghost use Rattle.std.specs.declared.option.Option.{Option};
 ghost use Rattle.cq_io.specs.Counts.{Rose};
 ghost use Rattle.cq_io.specs.Content.{file_of, path_of};
+ghost use Rattle.cq_io.specs.Reads.{IsReadUpTo};
 
 use crate::exporter::{Exporter, PutRefusal};
 use crate::folder::{Folder, ReadRefusal};
 use crate::format::Format;
 use crate::keep::copy_of;
+use crate::overruns::Overruns;
 use crate::sink::{Failed, Sink};
 use std::alloc::{AllocError, Global};
 use std::io::{ErrorKind, Read, Write};
@@ -24,7 +26,7 @@ pub struct DirFolder<R> {
     alloc: Global,
     faults: u64,
     absences: u64,
-    overruns: u64,
+    overruns: Overruns,
 }
 
 impl<R: Files> DirFolder<R> {
@@ -39,7 +41,7 @@ impl<R: Files> DirFolder<R> {
             alloc,
             faults: 0,
             absences: 0,
-            overruns: 0,
+            overruns: Overruns::new(),
         }
     }
 }
@@ -49,47 +51,62 @@ impl<R: Files> Folder for DirFolder<R> {
       files = None;
       absences = s.absences;
       faults = s.faults;
-      overruns = s.overruns;
+      overruns = s.overruns.count;
       steady = false;
     } };
 
     fn read(&mut self, name: &str, limit: u64) -> Result<Vec<u8>, ReadRefusal> {
-        let answer = read_file(&self.rt, self.alloc, name, limit);
+        let answer = read_file(&self.rt, self.alloc, name, limit, &mut self.overruns);
         match answer {
             Err(ReadRefusal::Absent) => self.absences = self.absences.saturating_add(1),
-            Err(ReadRefusal::TooLong) => self.overruns = self.overruns.saturating_add(1),
             Err(ReadRefusal::Failed) => self.faults = self.faults.saturating_add(1),
-            Ok(_) | Err(ReadRefusal::Memory) => {}
+            Ok(_) | Err(ReadRefusal::TooLong | ReadRefusal::Memory) => {}
         }
         answer
     }
 }
 
-/// The bytes of a file, at most `limit`.
+/// The bytes of a file, at most `limit`. An overrun is counted.
 fn read_file<R: Files>(
     rt: &R,
     alloc: Global,
     name: &str,
     limit: u64,
+    overruns: &mut Overruns,
 ) -> Result<Vec<u8>, ReadRefusal>
-    ensures { IfOk result (λ bytes. vec_len bytes ≤ limit) }
+    ensures limit { IfOk result (λ bytes. vec_len bytes ≤ limit) }
+    ensures later { overruns.old.count ≤ overruns.new.count }
+    ensures too_long { IsErrOf result ReadRefusal.TooLong → Rose overruns.old.count overruns.new.count }
 {
     match fs::open(rt, name) {
-        Ok(file) => read_up_to(alloc, file, limit),
+        Ok(file) => read_up_to(alloc, file, limit, overruns),
         Err(error) if error.kind() == ErrorKind::NotFound => Err(ReadRefusal::Absent),
         Err(_) => Err(ReadRefusal::Failed),
     }
 }
 
-/// Reads to the end, and no more than one byte past the limit. A read that a signal interrupts is tried again.
-fn read_up_to<S: Read + Drop>(alloc: Global, source: S, limit: u64) -> Result<Vec<u8>, ReadRefusal>
-    ensures { IfOk result (λ bytes. vec_len bytes ≤ limit) }
+/// Reads to the end, and no more than one byte past the limit. A read that a signal interrupts is tried
+/// again. Where the bytes of the source are told, Ok gives all of them, and TooLong comes only where they
+/// are more than the limit. An overrun is counted.
+fn read_up_to<S: Read + Drop>(
+    alloc: Global,
+    source: S,
+    limit: u64,
+    overruns: &mut Overruns,
+) -> Result<Vec<u8>, ReadRefusal>
+    ensures limit { IfOk result (λ bytes. vec_len bytes ≤ limit) }
+    ensures told { IfSome (S.remaining source) (IsReadUpTo limit result) }
+    ensures later { overruns.old.count ≤ overruns.new.count }
+    ensures too_long { IsErrOf result ReadRefusal.TooLong → Rose overruns.old.count overruns.new.count }
 {
     let mut bytes = Vec::new(alloc);
     let mut source = source.take(limit.saturating_add(1));
     match source.read_to_end(&mut bytes) {
         Ok(_) if bytes.len() as u64 <= limit => Ok(bytes),
-        Ok(_) => Err(ReadRefusal::TooLong),
+        Ok(_) => {
+            overruns.add(bytes.as_slice(), limit);
+            Err(ReadRefusal::TooLong)
+        }
         Err(error) if error.kind() == ErrorKind::OutOfMemory => Err(ReadRefusal::Memory),
         Err(_) => Err(ReadRefusal::Failed),
     }
