@@ -1,0 +1,4 @@
+//! Transforms along mappings and queries.
+#![tactic(auto)]
+
+pub mod querylaws;
