@@ -1,267 +1,194 @@
--- Where the presentation of coeval holds, rows go to the answers that their copies name: a homomorphism to eval.
-use Rattle.std.proofs.Common.{ℕ, zero, suc, Bool, true, List, [], ◌∷◌, Option, Some, ◌≡◌, ◌<◌, ◌+◌, map, length, get_or, refl, sym, ap, subst, ◌∙◌, arith}
-use Rattle.std.specs.Prelude.{slice_get, slice_index, slice_index_or, All, find}
+-- Images that name the generators of answers, and the spellings of values, are sorted and keep the equations.
+use Rattle.std.proofs.Common.{ℕ, List, [], ◌∷◌, Option, Some, ◌≡◌, ◌<◌, ◌+◌, map, length, refl, sym, ap, subst, ◌∙◌, arith}
+use Rattle.std.specs.Prelude.{slice_get, slice_index_or}
+use Rattle.std.specs.List.{enumerate_from}
 use Rattle.std.proofs.lemmas.List.{length-map}
-use Rattle.std.proofs.lemmas.List.FromFn.{get_or-map-range_with_len, length-map-range_with_len}
-use Rattle.std.proofs.lemmas.Option.{slice_get_within, get_or_from_slice_get}
-use Rattle.cq_theory.specs.declared.constant.Con.TheVariants.{Named}
-use Rattle.cq_theory.specs.declared.schema.Edge.{Edge}
-use Rattle.cq_theory.specs.declared.term.TypeTerm.{TypeTerm}
-use Rattle.cq_theory.specs.declared.value.Algebra.{Algebra}
-use Rattle.cq_theory.specs.declared.value.Entry.{Entry}
+use Rattle.std.proofs.lemmas.List.FromFn.{length-enumerate_from}
+use Rattle.std.proofs.lemmas.Option.{get_or_from_slice_get}
+use Rattle.cq_base.specs.declared.name.Name.{Name}
+use Rattle.cq_theory.specs.declared.presentation.Equation.{Equation}
+use Rattle.cq_theory.specs.declared.presentation.Sort.{Sort}
+use Rattle.cq_theory.specs.declared.presentation.Sort.TheVariants.{Plain, Entity}
+use Rattle.cq_theory.specs.declared.term.Term.TheVariants.{Ent, Typ}
 use Rattle.cq_theory.specs.declared.value.Value.{Value}
-use Rattle.cq_theory.specs.declared.value.Value.TheVariants.{Const, Null, Fun}
+use Rattle.cq_theory.specs.declared.value.Value.TheVariants.{Null}
 use Rattle.cq_theory.specs.SchemaData.{SchemaData as Schema}
-use Rattle.cq_theory.specs.TypesideData.{TypesideData as Typeside}
-use Rattle.cq_theory.specs.Canonical.{below}
-use Rattle.cq_theory.specs.Homomorphism.{row_image, value_image, value_image_step, IsHomomorphism}
-use Rattle.cq_theory.specs.Sorts.{is_type, have_types}
-use Rattle.cq_theory.specs.Tables.{Tables, Assignment, count_of, key_at, cell_at, value_of, value_step, is_for, entry_or_built, applied, value_type, value_type_step, normal_of, IsSoundEntry, IsWellFormed, Holds}
-use Rattle.cq_theory.proofs.Faults.{made_of}
-use Rattle.cq_theory.proofs.OnValues.{Each, on_values, All_at}
-use Rattle.cq_theory.proofs.Sound.{both, is_type_some, applied_type_some}
-use Rattle.cq_theory.proofs.TypeTerms.{fold-Const, fold-Fun}
+use Rattle.cq_theory.specs.Schema.{IsSchema}
+use Rattle.cq_theory.specs.Canonical.{row_term, value_term}
+use Rattle.cq_theory.specs.Derivation.{left_of, right_of}
+use Rattle.cq_theory.specs.Homomorphism.{row_image, value_image, IsHomomorphism}
+use Rattle.cq_theory.specs.Sorts.{sort_of}
+use Rattle.cq_theory.specs.Tables.{Tables, Meaning, AtRow, AtValue, Assignment, count_of, meaning_of, value_type, value_type_step, normal_of, HasSort, IsWellFormed, Holds}
+use Rattle.cq_theory.proofs.Every.{enumerated}
 use Rattle.cq_theory.proofs.Values as values
-use Rattle.cq_instance.proofs.CanonicalHolds as canonical
-use Rattle.cq_instance.proofs.Lists.{All_from}
-use Rattle.cq_terms.specs.ValueTerms.{value_term_step}
+use Rattle.cq_instance.specs.InstanceData.{InstanceData, IsInstance}
+use Rattle.cq_instance.specs.Given.{given}
+use Rattle.cq_instance.specs.declared.transform.Image.{Image}
+use Rattle.cq_instance.specs.declared.transform.Image.TheVariants.{Row, Value as ValueImage}
+use Rattle.cq_instance.specs.declared.transform.Transform.{Transform}
+use Rattle.cq_instance.proofs.Lists.{get-map}
+use Rattle.cq_transform.specs.Agreement.{meaning_image, Agrees}
+use Rattle.cq_transform.specs.Nulls.{IsInitial}
+use Rattle.cq_transform.specs.Transforming.{AreKept, AreSorted}
+use Rattle.cq_transform.specs.Transforms.{term_of, meanings_in, GoesFrom}
+use Rattle.cq_transform.proofs.Composites.{meaning_goes}
+use Rattle.cq_transform.proofs.ExactlyOne.{one_homomorphism}
+use Rattle.cq_transform.proofs.Loops.{member_at}
+use Rattle.cq_transform.proofs.SortedValues.{value_sorted}
 use Rattle.cq_query.specs.QueryData.{QueryData as Query}
-use Rattle.cq_query.specs.Translation.{attribute_term}
 use Rattle.cq_query.specs.IsQuery.{IsQuery}
-use Rattle.cq_query.specs.Answers.{IsEval, stands}
-use Rattle.cq_query.specs.Coeval.{null_start, coeval_of}
-use Rattle.cq_query.specs.Leading.{led}
-use Rattle.cq_query.proofs.Answering.{among_answers}
-use Rattle.cq_query.proofs.Once.{one_place, one_answers, answers_once}
-use Rattle.cq_adjoint.specs.Copies.{copied_value, answers_at, place_of, AreAllAnswers}
-use Rattle.cq_adjoint.proofs.CopiesMean as copies
-use Rattle.cq_adjoint.proofs.Places.{place_found}
+use Rattle.cq_query.specs.Answers.{IsEval}
+use Rattle.cq_adjoint.specs.Copies.{answers_at, place_of, AreAllAnswers}
+use Rattle.cq_adjoint.proofs.AnsweredRows as answered
+use Rattle.cq_adjoint.proofs.AnsweredRows.{AreSent}
+use Rattle.cq_adjoint.proofs.SpelledTerms.{IsTermOf, row_spelled, value_spelled}
 
--- lists with the same members at the same places
-pub same_list : {X : Type 0} (xs ys : List X) → length xs ≡ length ys → ((k : ℕ) (x y : X) → slice_get xs k ≡ Some x → slice_get ys k ≡ Some y → x ≡ y) → xs ≡ ys
-same_list [] [] same h = refl
-same_list [] (y ∷ ys) same h = absurd (omega arith)
-same_list (x ∷ xs) [] same h = absurd (omega arith)
-same_list (x ∷ xs) (y ∷ ys) same h =
-    let first : x ≡ y = h zero x y refl refl in
-    let rest : xs ≡ ys = same_list xs ys (omega arith) (λ k v w left right. h (suc k) v w left right) in
-    λ i. first i ∷ rest i
+-- i is over the target and initial, and d is eval of tables N with these answers
+pub record IsInto (Q : Query) (i d : InstanceData) (N : Tables) (answers : List (List (List ℕ))) : Type 0 where
+  pub query : IsQuery Q
+  pub source : IsInstance i
+  pub over : i.schema ≡ Q.target
+  pub initial : IsInitial i
+  pub eval : IsEval Q N d.tables
+  pub given : d ≡ given Q.target d.tables
+  pub well : IsWellFormed Q.target d.tables
+  pub answered : AreAllAnswers Q N answers
 
-module _ (Q : Query) (query : IsQuery Q) (M : Tables) (tables : IsWellFormed Q.target M) (N : Tables) (B : Assignment) (holds : Holds Q.source (coeval_of Q M) N B)
-    (D : Tables) (eval : IsEval Q N D) (answers : List (List (List ℕ))) (all : AreAllAnswers Q N answers) where
+module _ (Q : Query) (i d : InstanceData) (N : Tables) (answers : List (List (List ℕ))) (is : IsInto Q i d N answers) where
   abbrev T : Schema
   T = Q.target
 
-  abbrev n : ℕ
-  n = length T.entities
+  abbrev M : Tables
+  M = i.tables
 
-  abbrev rows_at : ℕ → ℕ → List ℕ
-  rows_at = copies.rows_at Q query M tables N B holds
+  abbrev D : Tables
+  D = d.tables
 
-  abbrev value_at : Value → Value
-  value_at = copies.value_at Q query M tables N B holds
+  tables : IsWellFormed T M
+  tables = subst (λ (S : Schema). IsWellFormed S M) is.over is.source.well_formed
 
-  -- where rows and nulls go
-  abbrev pub place : ℕ → ℕ → ℕ
-  place e row = place_of (answers_at answers e) (rows_at e row)
+  -- where the images of generators go
+  module _ (rows_at : ℕ → ℕ → List ℕ) (value_at : Value → Value) (are : AreSent Q M N rows_at value_at) where
+    abbrev pub rows_to : List (List ℕ)
+    rows_to = answered.rows_to Q is.query M tables N rows_at value_at are D is.eval answers is.answered
 
-  abbrev places : ℕ → List ℕ
-  places e = map (place e) (below (count_of M e))
+    abbrev pub nulls_to : List Value
+    nulls_to = answered.nulls_to Q is.query M tables N rows_at value_at are D is.eval answers is.answered
 
-  abbrev pub rows_to : List (List ℕ)
-  rows_to = map places (below n)
+    homomorphism : IsHomomorphism T M D rows_to nulls_to
+    homomorphism = answered.homomorphism Q is.query M tables N rows_at value_at are D is.eval answers is.answered
 
-  abbrev to_null : ℕ → Value
-  to_null label = value_at (Null label)
+    abbrev pub answer_term : ℕ → ℕ → Image
+    answer_term e row = Row (row_term T D e (place_of (answers_at answers e) (rows_at e row)))
 
-  abbrev pub nulls_to : List Value
-  nulls_to = map to_null (below (length M.algebra.nulls))
+    abbrev pub spelling : Value → Image
+    spelling v = ValueImage (value_term T D (value_at v))
 
-  abbrev image : Value → Value
-  image = value_image T M D rows_to nulls_to
+    -- the image is a term of the sort, and means where the homomorphism sends what the generator stands for
+    abbrev IsRight : Sort → Meaning → Image → Type 0
+    IsRight sort m image = IsTermOf d sort (meaning_image T M D rows_to nulls_to sort m) (term_of image)
 
-  pub known : (e row : ℕ) → row < count_of M e → e < n
-  known e row inside = within_counts M.sheet.counts e row inside (tables.entities)
-    where
-      within_counts : (xs : List ℕ) (k m : ℕ) → m < slice_index xs k → length xs ≡ n → k < n
-      within_counts xs k m h same = omega (arith, here xs k h, same)
-        where
-          here : (xs : List ℕ) (k : ℕ) → m < slice_index xs k → k < length xs
-          here [] k h = absurd (omega arith)
-          here (x ∷ xs) zero h = omega arith
-          here (x ∷ xs) (suc k) h = let rest : k < length xs = here xs k h in omega arith
+    row_right : (e row : ℕ) → row < count_of M e → IsRight (Entity e) (AtRow row) (answer_term e row)
+    row_right e row inside =
+        let p : ℕ = place_of (answers_at answers e) (rows_at e row) in
+        let less : p < count_of D e = answered.place_inside Q is.query M tables N rows_at value_at are D is.eval answers is.answered e row inside in
+        let same : row_image T M D rows_to nulls_to e row ≡ p = answered.row_is Q is.query M tables N rows_at value_at are D is.eval answers is.answered e row inside in
+        subst (λ (r : ℕ). IsTermOf d (Entity e) (AtRow r) (Ent (row_term T D e p))) (sym same) (row_spelled T d is.given is.well e p less)
 
-  -- the answer of a row stands at its place
-  pub placed : (e row : ℕ) → row < count_of M e → slice_get (answers_at answers e) (place e row) ≡ Some (rows_at e row)
-  placed e row inside =
-      let within = known e row inside in
-      let found = (among_answers Q N e (answers_at answers e) (all.each e within) (rows_at e row)).1 (copies.are_answer Q query M tables N B holds e row within inside) in
-      place_found (answers_at answers e) found.0 (rows_at e row) found.1
+    value_right : (v : Value) (type : ℕ) → value_type T M.algebra.nulls v ≡ Some type → IsRight (Plain type) (AtValue v) (spelling v)
+    value_right v type typed =
+        let same : value_image T M D rows_to nulls_to v ≡ value_at v = answered.value_goes Q is.query M tables N rows_at value_at are D is.eval answers is.answered v type typed in
+        let sorted = value_sorted T M D rows_to nulls_to is.well homomorphism v type typed in
+        subst (λ (w : Value). IsTermOf d (Plain type) (AtValue (value_image T M D rows_to nulls_to v)) (Typ (value_term T D w))) same
+        (value_spelled T d is.given is.well (value_image T M D rows_to nulls_to v) type sorted.0 sorted.1)
 
-  same_answers : (e : ℕ) → e < n → slice_index_or eval.answers e [] ≡ answers_at answers e
-  same_answers e within = one_answers Q N e (slice_index_or eval.answers e []) (answers_at answers e) (eval.each e within) (all.each e within)
+    -- the images are those of the rows and values for which generators stand
+    pub record AreOf (image_at : ℕ × (Name × Sort) → Image) : Type 0 where
+      pub of_row : (n : ℕ) (name : Name) (e row : ℕ) → slice_index_or i.assignment n (AtRow 0) ≡ AtRow row → row < count_of M e → image_at (n, (name, Entity e)) ≡ answer_term e row
+      pub of_value : (n : ℕ) (name : Name) (type : ℕ) (v : Value) → slice_index_or i.assignment n (AtRow 0) ≡ AtValue v → value_type T M.algebra.nulls v ≡ Some type
+          → image_at (n, (name, Plain type)) ≡ spelling v
 
-  pub count_is : (e : ℕ) → e < n → count_of D e ≡ length (answers_at answers e)
-  count_is e within =
-      let here : 0 + e ≡ e = omega arith in
-      ap (λ (counts : List ℕ). slice_index counts e) eval.counts ∙ get_or-map-range_with_len (λ m. length (slice_index_or eval.answers m [])) 0 n e e 0 within here ∙ ap length (same_answers e within)
+    module _ (image_at : ℕ × (Name × Sort) → Image) (of : AreOf image_at) where
+      abbrev images : List Image
+      images = map image_at (enumerate_from 0 i.presentation.generators)
 
-  pub place_inside : (e row : ℕ) → row < count_of M e → place e row < count_of D e
-  place_inside e row inside =
-      subst (λ m. place e row < m) (sym (count_is e (known e row inside))) (slice_get_within (answers_at answers e) (place e row) (rows_at e row) (placed e row inside))
+      abbrev B : Assignment
+      B = meanings_in d images
 
-  list_is : (e : ℕ) → e < n → slice_index_or rows_to e [] ≡ places e
-  list_is e within = let here : 0 + e ≡ e = omega arith in get_or-map-range_with_len places 0 n e e [] within here
+      right_at : (n : ℕ) (name : Name) (sort : Sort) (m : Meaning) → slice_index_or i.assignment n (AtRow 0) ≡ m → HasSort T M sort m → IsRight sort m (image_at (n, (name, sort)))
+      right_at n name (Entity e) (AtRow row) at sorted = subst (IsRight (Entity e) (AtRow row)) (sym (of.of_row n name e row at sorted)) (row_right e row sorted)
+      right_at n name (Entity e) (AtValue v) at sorted = absurd sorted
+      right_at n name (Plain type) (AtRow row) at sorted = absurd sorted
+      right_at n name (Plain type) (AtValue v) at sorted = subst (IsRight (Plain type) (AtValue v)) (sym (of.of_value n name type v at sorted.0)) (value_right v type sorted.0)
 
-  pub row_is : (e row : ℕ) → row < count_of M e → row_image T M D rows_to nulls_to e row ≡ place e row
-  row_is e row inside =
-      let here : 0 + row ≡ row = omega arith in
-      ap (λ (l : List ℕ). slice_index l row) (list_is e (known e row inside)) ∙ get_or-map-range_with_len (place e) 0 (count_of M e) row row 0 inside here
+      right : (n : ℕ) (g : Name × Sort) → slice_get i.presentation.generators n ≡ Some g → IsRight g.1 (slice_index_or i.assignment n (AtRow 0)) (image_at (n, g))
+      right n g at = right_at n g.0 g.1 (slice_index_or i.assignment n (AtRow 0)) refl
+          (subst (λ (S : Schema). HasSort S M g.1 (slice_index_or i.assignment n (AtRow 0))) is.over (is.source.sorts n g at))
 
-  null_is : (label : ℕ) → label < length M.algebra.nulls → slice_index_or nulls_to label (Const (Named 0)) ≡ value_at (Null label)
-  null_is label within = let here : 0 + label ≡ label = omega arith in get_or-map-range_with_len to_null 0 (length M.algebra.nulls) label label (Const (Named 0)) within here
+      image_is : (n : ℕ) (g : Name × Sort) → slice_get i.presentation.generators n ≡ Some g → slice_get images n ≡ Some (image_at (n, g))
+      image_is n g at =
+          let here : 0 + n ≡ n = omega arith in
+          get-map image_at (enumerate_from 0 i.presentation.generators) n (n, g) (enumerated 0 i.presentation.generators n g at ∙ ap (λ (m : ℕ). let p : ℕ × (Name × Sort) = (m, g) in Some p) here)
 
-  abbrev type_in : Value → Option ℕ
-  type_in = value_type T M.algebra.nulls
+      pub sorted : AreSorted i d images
+      sorted = record {
+        count = length-map (enumerate_from 0 i.presentation.generators) image_at ∙ length-enumerate_from 0 i.presentation.generators;
+        sorts = λ n g image at there.
+            let both : Some (image_at (n, g)) ≡ Some image = sym (image_is n g at) ∙ there in
+            let same : image_at (n, g) ≡ image = cc in
+            ap (λ (x : Image). sort_of d.schema d.presentation.generators (term_of x)) (sym same) ∙ (right n g at).of_sort;
+      }
 
-  abbrev copied : Value → TypeTerm
-  copied = copied_value Q M
+      agrees : Agrees T i.presentation M D i.assignment B rows_to nulls_to
+      agrees n g at =
+          (right n g at).means
+          ∙ sym (get_or_from_slice_get B n (meaning_of D d.assignment (term_of (image_at (n, g)))) (AtRow 0)
+          (get-map (λ (x : Image). meaning_of D d.assignment (term_of x)) images n (image_at (n, g)) (image_is n g at)))
 
-  applied_same : (f : ℕ) (vs : List Value) → applied D f vs ≡ applied N f vs
-  applied_same f vs = ap (λ (g : Algebra). entry_or_built (find (is_for f vs) g.entries) f vs) eval.algebra
+      -- over i's schema
+      here_homomorphism : IsHomomorphism i.schema M D rows_to nulls_to
+      here_homomorphism = subst (λ (S : Schema). IsHomomorphism S M D rows_to nulls_to) (sym is.over) homomorphism
 
-  -- a value goes where it means as a copy
-  abbrev Goes : Value → Type 0
-  Goes v = (type : ℕ) → type_in v ≡ Some type → image v ≡ value_at v
+      here_agrees : Agrees i.schema i.presentation M D i.assignment B rows_to nulls_to
+      here_agrees = subst (λ (S : Schema). Agrees S i.presentation M D i.assignment B rows_to nulls_to) (sym is.over) agrees
 
-  all_go : (vs : List Value) (types : List ℕ) → have_types (map type_in vs) types ≡ true → Each Goes vs → map image vs ≡ map (value_of N B) (map copied vs)
-  all_go [] types h each = refl
-  all_go (v ∷ vs) [] h each = cc
-  all_go (v ∷ vs) (type ∷ types) h each =
-      let parts = both (is_type (type_in v) type) (have_types (map type_in vs) types) h in
-      let first : image v ≡ value_of N B (copied v) = each.0 type (is_type_some (type_in v) type parts.0) in
-      let rest : map image vs ≡ map (value_of N B) (map copied vs) = all_go vs types parts.1 each.1 in
-      λ i. first i ∷ rest i
+      pub are_kept : AreKept i d images
+      are_kept n e at =
+          let presented = is.source.presented.equations n e at in
+          sym (meaning_goes i.schema i.presentation M D i.assignment B rows_to nulls_to is.initial.0.holds here_homomorphism here_agrees (left_of e) presented.sort presented.left)
+          ∙ ap (meaning_image i.schema M D rows_to nulls_to presented.sort) (is.initial.0.holds.equations n e at)
+          ∙ meaning_goes i.schema i.presentation M D i.assignment B rows_to nulls_to is.initial.0.holds here_homomorphism here_agrees (right_of e) presented.sort presented.right
 
-  args_go : (f type : ℕ) (vs : List Value) → Each Goes vs → type_in (Fun f vs) ≡ Some type → map image vs ≡ map (value_of N B) (map copied vs)
-  args_go f type vs each h =
-      let parts = applied_type_some (slice_get T.typeside.functions f) (map type_in vs) type (sym (values.fold-Fun (Option ℕ) (value_type_step T M.algebra.nulls) f vs) ∙ h) in
-      all_go vs parts.0.args parts.2 each
+      -- what is made of the images is the homomorphism
+      pub are_one : (made : Transform) → made.images ≡ images → GoesFrom made i d → (rows_to ≡ made.rows) × (nulls_to ≡ made.nulls)
+      are_one made same there = one_homomorphism i.schema i.presentation M D i.assignment B (subst IsSchema (sym is.over) is.query.target) is.initial.0
+          (subst (λ (l : List Image). Holds i.schema i.presentation D (meanings_in d l)) same there.holds) rows_to made.rows nulls_to made.nulls here_homomorphism here_agrees there.homomorphism
+          (subst (λ (l : List Image). Agrees i.schema i.presentation M D i.assignment (meanings_in d l) made.rows made.nulls) same there.agrees)
 
-  pub value_goes : (v : Value) → Goes v
-  value_goes = on_values Goes
-      (λ c type h.
-      values.fold-Const Value (value_image_step T M D rows_to nulls_to) c ∙ sym (fold-Const Value (value_step N B) c)
-      ∙ ap (value_of N B) (sym (values.fold-Const TypeTerm (value_term_step (null_start Q M.sheet.counts) (length M.algebra.nulls)) c)))
-      (λ label type h.
-      let typed : slice_get M.algebra.nulls label ≡ Some type = sym (values.fold-Null (Option ℕ) (value_type_step T M.algebra.nulls) label) ∙ h in
-      values.fold-Null Value (value_image_step T M D rows_to nulls_to) label ∙ null_is label (slice_get_within M.algebra.nulls label type typed))
-      (λ f vs each type h.
-      values.fold-Fun Value (value_image_step T M D rows_to nulls_to) f vs ∙ applied_same f (map image vs) ∙ ap (applied N f) (args_go f type vs each h)
-      ∙ sym (fold-Fun Value (value_step N B) f (map copied vs))
-      ∙ ap (value_of N B) (sym (values.fold-Fun TypeTerm (value_term_step (null_start Q M.sheet.counts) (length M.algebra.nulls)) f vs)))
+    pub schemas : d.schema ≡ i.schema
+    schemas = ap (λ (x : InstanceData). x.schema) is.given ∙ sym is.over
 
-  each_goes : (vs : List Value) → Each Goes vs
-  each_goes [] = tt
-  each_goes (v ∷ vs) = (value_goes v, each_goes vs)
+    -- rows go to their answers, and nulls to their values
+    pub row_answered : (e row : ℕ) → row < count_of M e → slice_get (answers_at answers e) (row_image i.schema M D rows_to nulls_to e row) ≡ Some (rows_at e row)
+    row_answered e row inside =
+        ap (slice_get (answers_at answers e)) (answered.row_is Q is.query M tables N rows_at value_at are D is.eval answers is.answered e row inside)
+        ∙ answered.placed Q is.query M tables N rows_at value_at are D is.eval answers is.answered e row inside
 
-  -- types and normal values are those of j's tables
-  pub type_same : (v : Value) → value_type T D.algebra.nulls v ≡ value_type Q.source N.algebra.nulls v
-  type_same v =
-      ap (λ (y : Typeside). value_type (record { typeside = y; entities = []; keys = []; attributes = []; path_eqs = []; obs_eqs = [] }) D.algebra.nulls v) (sym query.typeside)
-      ∙ ap (λ (g : Algebra). value_type Q.source g.nulls v) eval.algebra
+    null_type_at : (label : ℕ) → label < length M.algebra.nulls → (type : ℕ) × (value_type T M.algebra.nulls (Null label) ≡ Some type)
+    null_type_at label within = let type = member_at M.algebra.nulls label within in (type.0, values.fold-Null (Option ℕ) (value_type_step T M.algebra.nulls) label ∙ type.1)
 
-  pub normal_same : (v : Value) → normal_of D v ≡ normal_of N v
-  normal_same v = ap (λ (g : Algebra). let X : Tables = record { sheet = D.sheet; algebra = g } in normal_of X v) eval.algebra
+    pub null_valued : (label : ℕ) → label < length M.algebra.nulls → value_image i.schema M D rows_to nulls_to (Null label) ≡ value_at (Null label)
+    null_valued label within =
+        let typed = null_type_at label within in
+        answered.value_goes Q is.query M tables N rows_at value_at are D is.eval answers is.answered (Null label) typed.0 typed.1
 
-  null_typed : (label type : ℕ) → slice_get M.algebra.nulls label ≡ Some type → (value_type T D.algebra.nulls (image (Null label)) ≡ Some type) × (normal_of D (image (Null label)) ≡ image (Null label))
-  null_typed label type h =
-      let is : image (Null label) ≡ value_at (Null label) = values.fold-Null Value (value_image_step T M D rows_to nulls_to) label ∙ null_is label (slice_get_within M.algebra.nulls label type h) in
-      let sorted = copies.null_sorted Q query M tables N B holds label type h in
-      subst (λ (v : Value). (value_type T D.algebra.nulls v ≡ Some type) × (normal_of D v ≡ v)) (sym is) (type_same (value_at (Null label)) ∙ sorted.0, normal_same (value_at (Null label)) ∙ sorted.1)
-
-  key_goes : (k : ℕ) (edge : Edge) → slice_get T.keys k ≡ Some edge → (row : ℕ) → row < count_of M edge.from
-      → row_image T M D rows_to nulls_to edge.to (key_at M k row) ≡ key_at D k (row_image T M D rows_to nulls_to edge.from row)
-  key_goes k edge is row inside =
-      let there = copies.key_inside Q query M tables N B holds k edge is row inside in
-      let from = known edge.from row inside in
-      let to = known edge.to (key_at M k row) there in
-      let p : ℕ = place edge.from row in
-      let at : slice_get (slice_index_or eval.answers edge.from []) p ≡ Some (rows_at edge.from row) = ap (λ (l : List (List ℕ)). slice_get l p) (same_answers edge.from from) ∙ placed edge.from row inside in
-      let lands : slice_get (answers_at answers edge.to) (key_at D k p) ≡ Some (led Q N k (rows_at edge.from row)) =
-      ap (λ (l : List (List ℕ)). slice_get l (key_at D k p)) (sym (same_answers edge.to to)) ∙ eval.keys k p edge (rows_at edge.from row) is at in
-      let stands_there : slice_get (answers_at answers edge.to) (place edge.to (key_at M k row)) ≡ Some (led Q N k (rows_at edge.from row)) =
-      placed edge.to (key_at M k row) there ∙ ap (λ (l : List ℕ). Some l) (copies.key_led Q query M tables N B holds k edge is row inside) in
-      row_is edge.to (key_at M k row) there
-      ∙ one_place (answers_at answers edge.to) (answers_once Q N edge.to (answers_at answers edge.to) (all.each edge.to to)) (place edge.to (key_at M k row)) (key_at D k p) (led Q N k (rows_at edge.from row)) stands_there lands
-      ∙ ap (key_at D k) (sym (row_is edge.from row inside))
-
-  cell_goes : (a : ℕ) (edge : Edge) → slice_get T.attributes a ≡ Some edge → (row : ℕ) → row < count_of M edge.from
-      → image (cell_at M a row) ≡ cell_at D a (row_image T M D rows_to nulls_to edge.from row)
-  cell_goes a edge is row inside =
-      let from = known edge.from row inside in
-      let p : ℕ = place edge.from row in
-      let at : slice_get (slice_index_or eval.answers edge.from []) p ≡ Some (rows_at edge.from row) = ap (λ (l : List (List ℕ)). slice_get l p) (same_answers edge.from from) ∙ placed edge.from row inside in
-      value_goes (cell_at M a row) edge.to (copies.cell_typed Q query M tables N B holds a edge is row inside)
-      ∙ sym (copies.cell_means Q query M tables N B holds a edge is row inside)
-      ∙ sym (eval.cells a p edge (rows_at edge.from row) is at) ∙ ap (cell_at D a) (sym (row_is edge.from row inside))
-
-  entry_goes : (k : ℕ) (entry : Entry) → slice_get M.algebra.entries k ≡ Some entry → applied D entry.function (map image entry.args) ≡ image entry.value
-  entry_goes k entry at =
-      let sound : IsSoundEntry T M entry = All_at (IsSoundEntry T M) M.algebra.entries k entry tables.entries at in
-      applied_same entry.function (map image entry.args)
-      ∙ ap (applied N entry.function) (args_go entry.function sound.function.result entry.args (each_goes entry.args) sound.typed)
-      ∙ copies.entry_means Q query M tables N B holds k entry at ∙ sym (value_goes entry.value sound.function.result sound.same_type)
-
-  rows_counted : (e : ℕ) (list : List ℕ) → slice_get rows_to e ≡ Some list → (length list ≡ count_of M e) × All (λ row. row < count_of D e) list
-  rows_counted e list at =
-      let within : e < n = omega (arith, slice_get_within rows_to e list at, length-map-range_with_len places 0 n) in
-      let is : places e ≡ list = sym (list_is e within) ∙ get_or_from_slice_get rows_to e list [] at in
-      subst (λ (l : List ℕ). (length l ≡ count_of M e) × All (λ row. row < count_of D e) l) is (
-        length-map-range_with_len (place e) 0 (count_of M e),
-        All_from (λ row. row < count_of D e) (places e) (λ k p there.
-            let row = made_of (place e) (below (count_of M e)) k p there in
-            subst (λ m. m < count_of D e) (sym row.2) (place_inside e row.0 (from_below (count_of M e) k row.0 row.1))),
-      )
-    where
-      from_below : (m k x : ℕ) → slice_get (below m) k ≡ Some x → x < m
-      from_below m k x h = canonical.from_below m k x h
-
-  pub homomorphism : IsHomomorphism T M D rows_to nulls_to
-  homomorphism = record {
-    entities = length-map-range_with_len places 0 n;
-    each_row = rows_counted;
-    each_null = length-map-range_with_len to_null 0 (length M.algebra.nulls);
-    typed = null_typed;
-    keys = key_goes;
-    cells = cell_goes;
-    entries = All_from (λ (e : Entry). applied D e.function (map image e.args) ≡ image e.value) M.algebra.entries entry_goes;
-  }
-
-  -- no other homomorphism sends rows to the answers of their copies, and nulls where they mean
-  module _ (rows : List (List ℕ)) (nulls : List Value) (is : IsHomomorphism T M D rows nulls)
-      (each_row : (e row : ℕ) → row < count_of M e → slice_get (answers_at answers e) (row_image T M D rows nulls e row) ≡ Some (rows_at e row))
-      (each_null : (label : ℕ) → label < length M.algebra.nulls → value_image T M D rows nulls (Null label) ≡ value_at (Null label)) where
-    row_same : (e row : ℕ) → row < count_of M e → row_image T M D rows nulls e row ≡ place e row
-    row_same e row inside =
-        one_place (answers_at answers e) (answers_once Q N e (answers_at answers e) (all.each e (known e row inside))) (row_image T M D rows nulls e row) (place e row) (rows_at e row)
-        (each_row e row inside) (placed e row inside)
-
-    list_same : (e : ℕ) (xs ys : List ℕ) → slice_get rows e ≡ Some xs → slice_get rows_to e ≡ Some ys → xs ≡ ys
-    list_same e xs ys left right =
-        let one = is.each_row e xs left in
-        let other = rows_counted e ys right in
-        same_list xs ys (one.0 ∙ sym other.0) (λ k x y at at'.
-        let inside : k < count_of M e = omega (arith, slice_get_within xs k x at, one.0) in
-        let x_is : row_image T M D rows nulls e k ≡ x = ap (λ (l : List ℕ). slice_index l k) (get_or_from_slice_get rows e xs [] left) ∙ get_or_from_slice_get xs k x 0 at in
-        let y_is : row_image T M D rows_to nulls_to e k ≡ y = ap (λ (l : List ℕ). slice_index l k) (get_or_from_slice_get rows_to e ys [] right) ∙ get_or_from_slice_get ys k y 0 at' in
-        sym x_is ∙ row_same e k inside ∙ sym (row_is e k inside) ∙ y_is)
-
-    pub rows_same : rows ≡ rows_to
-    rows_same = same_list rows rows_to (is.entities ∙ sym homomorphism.entities) list_same
-
-    pub nulls_same : nulls ≡ nulls_to
-    nulls_same = same_list nulls nulls_to (is.each_null ∙ sym homomorphism.each_null) (λ k x y at at'.
-        let within : k < length M.algebra.nulls = omega (arith, slice_get_within nulls k x at, is.each_null) in
-        sym (get_or_from_slice_get nulls k x (Const (Named 0)) at) ∙ sym (values.fold-Null Value (value_image_step T M D rows nulls) k) ∙ each_null k within
-        ∙ sym (null_is k within) ∙ get_or_from_slice_get nulls_to k y (Const (Named 0)) at')
+    -- no other homomorphism does so
+    pub one : (rows : List (List ℕ)) (nulls : List Value) → IsHomomorphism i.schema M D rows nulls
+        → ((e row : ℕ) → row < count_of M e → slice_get (answers_at answers e) (row_image i.schema M D rows nulls e row) ≡ Some (rows_at e row))
+        → ((label : ℕ) → label < length M.algebra.nulls → value_image i.schema M D rows nulls (Null label) ≡ value_at (Null label))
+        → (rows ≡ rows_to) × (nulls ≡ nulls_to)
+    one rows nulls sends each_row each_null =
+        let over : IsHomomorphism T M D rows nulls = subst (λ (S : Schema). IsHomomorphism S M D rows nulls) is.over sends in (
+          answered.rows_same Q is.query M tables N rows_at value_at are D is.eval answers is.answered rows nulls over each_row each_null,
+          answered.nulls_same Q is.query M tables N rows_at value_at are D is.eval answers is.answered rows nulls over each_row each_null,
+        )

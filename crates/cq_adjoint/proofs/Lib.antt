@@ -1,6 +1,11 @@
 pub mod Copied
 pub mod CopiesMean
 pub mod Places
-pub mod IntoEval
+pub mod Inserted
+pub mod AnsweredRows
+pub mod SpelledValues
+pub mod SpelledTerms
 pub mod TypedCopies
+pub mod CoevalTerms
+pub mod IntoEval
 pub mod ToEval

@@ -1,5 +1,5 @@
 -- Copies of rows in coeval, and answers in eval.
-use Rattle.std.specs.Prelude.{ℕ, List, [], ◌≡◌, ◌<◌, ◌+◌, ◌*◌, length, slice_index_or, position, nat_eq}
+use Rattle.std.specs.Prelude.{ℕ, List, [], ◌≡◌, ◌<◌, ◌+◌, ◌*◌, Some, length, slice_get, slice_index_or, position, nat_eq}
 use Rattle.std.specs.Option.{unwrap_or}
 use Rattle.std.specs.Cmp.Lexicographic.{pointwise}
 use Rattle.cq_theory.specs.declared.term.EntTerm.{EntTerm}
@@ -29,6 +29,10 @@ answers_at answers entity = slice_index_or answers entity []
 -- the place at which an answer stands among others, or 0 where it doesn't
 abbrev pub place_of : List (List ℕ) → List ℕ → ℕ
 place_of answers rows = unwrap_or (position (pointwise nat_eq rows) answers) 0
+
+-- no list stands twice
+abbrev pub StandOnce : List (List ℕ) → Type 0
+StandOnce lists = (p q : ℕ) (rows : List ℕ) → slice_get lists p ≡ Some rows → slice_get lists q ≡ Some rows → p ≡ q
 
 -- the answers of a query for each entity of its target, in order
 pub record AreAllAnswers (Q : Query) (M : Tables) (answers : List (List (List ℕ))) : Type 0 where

@@ -1,3 +1,4 @@
 pub mod Copies
 pub mod QueryMoves
 pub mod TransposedQueries
+pub mod Crossing

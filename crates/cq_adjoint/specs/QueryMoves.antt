@@ -1,5 +1,5 @@
 -- Where a transform along a query sends generators.
-use Rattle.std.specs.Prelude.{ℕ, List, ◌≡◌, map, length, slice_index_or}
+use Rattle.std.specs.Prelude.{ℕ, List, [], ◌≡◌, map, length, slice_index, slice_index_or}
 use Rattle.std.specs.List.{enumerate_from}
 use Rattle.cq_base.specs.declared.name.Name.{Name}
 use Rattle.cq_theory.specs.declared.presentation.Sort.{Sort}
@@ -73,3 +73,33 @@ pub record AreAcross (Q : Query) (i a j d : InstanceData) (answers : List (List 
   pub coeval : IsCoeval Q i a
   pub evaluated : IsEvaluated Q j d
   pub answered : AreAllAnswers Q j.tables answers
+
+-- h goes from i to j, a is eval of i with the answers `from`, and b is eval of j with the answers `to`
+module _ (Q : Query) (h : Transform) (i j a b : InstanceData) (from to : List (List (List ℕ))) where
+  -- the answer with h applied to each row
+  abbrev pub answer_sent : ℕ → List ℕ → List ℕ
+  answer_sent entity rows = map (λ v. row_image i.schema i.tables j.tables h.rows h.nulls v.1.1 (slice_index rows v.0)) (enumerate_from 0 (variables_at Q entity))
+
+  -- a generator of an answer goes to that of the answer with h applied to each row, and one of a null to the spelling of where h sends the null
+  abbrev pub eval_row : ℕ → ℕ → Image
+  eval_row entity row = Row (row_term b.schema b.tables entity
+      (place_of (answers_at to entity) (answer_sent entity (slice_index_or (answers_at from entity) row []))))
+
+  abbrev pub eval_value : Value → Image
+  eval_value v = ValueImage (value_term b.schema b.tables (value_image i.schema i.tables j.tables h.rows h.nulls v))
+
+  abbrev pub eval_image : ℕ × (Name × Sort) → Image
+  eval_image g = elim g.1.1 [
+    | Plain type ↦ eval_value (value_in (slice_index_or a.assignment g.0 (AtRow 0)))
+    | Entity entity ↦ eval_row entity (row_in (slice_index_or a.assignment g.0 (AtRow 0)))
+  ]
+
+  abbrev pub eval_images : List Image
+  eval_images = map eval_image (enumerate_from 0 a.presentation.generators)
+
+-- a is eval of i with the answers `from`, and b is eval of j with the answers `to`
+pub record AreEvaluated (Q : Query) (i j a b : InstanceData) (from to : List (List (List ℕ))) : Type 0 where
+  pub source : IsEvaluated Q i a
+  pub target : IsEvaluated Q j b
+  pub answered : AreAllAnswers Q i.tables from
+  pub answered_there : AreAllAnswers Q j.tables to

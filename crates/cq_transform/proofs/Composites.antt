@@ -32,7 +32,7 @@ use Rattle.cq_transform.proofs.Put.{image_kept}
 use Rattle.cq_transform.proofs.Composed.{value_then, row_then, then_homomorphism}
 
 -- a homomorphism that agrees with what generators stand for sends what a term means to what it means there
-meaning_goes : (S : Schema) (P : Presentation) (M N : Tables) (A B : Assignment) (rows : List (List ℕ)) (nulls : List Value) → Holds S P M A → IsHomomorphism S M N rows nulls
+pub meaning_goes : (S : Schema) (P : Presentation) (M N : Tables) (A B : Assignment) (rows : List (List ℕ)) (nulls : List Value) → Holds S P M A → IsHomomorphism S M N rows nulls
     → Agrees S P M N A B rows nulls → (t : Term) (sort : Sort) → sort_of S P.generators t ≡ Some sort → meaning_image S M N rows nulls sort (meaning_of M A t) ≡ meaning_of N B t
 meaning_goes S P M N A B rows nulls holds homomorphism agrees (Ent t) sort h =
     let found = map_some Entity (entity_of S P.generators t) sort h in

@@ -33,7 +33,7 @@ use Rattle.cq_transform.specs.Transforms.{term_of, meanings_in, GoesFrom}
 use Rattle.cq_transform.specs.Identities.{itself, identity_images}
 
 -- lists with the same members are one
-same_members : {X : Type 0} (d : X) (xs ys : List X) → length xs ≡ length ys → ((i : ℕ) → i < length xs → slice_index_or xs i d ≡ slice_index_or ys i d) → xs ≡ ys
+pub same_members : {X : Type 0} (d : X) (xs ys : List X) → length xs ≡ length ys → ((i : ℕ) → i < length xs → slice_index_or xs i d ≡ slice_index_or ys i d) → xs ≡ ys
 same_members d [] [] size h = refl
 same_members d [] (y ∷ ys) size h = absurd (omega arith)
 same_members d (x ∷ xs) [] size h = absurd (omega arith)

@@ -45,7 +45,7 @@ module _ (S : Schema) (M N : Tables) (rows : List (List ℕ)) (nulls : List Valu
   each_image [] each = refl
   each_image (v ∷ vs) each = let one : sent v ≡ image v = each.0 in let rest : map sent vs ≡ map image vs = each_image vs each.1 in λ i. one i ∷ rest i
 
-  sent_image : (v : Value) → IsImage v
+  pub sent_image : (v : Value) → IsImage v
   sent_image = on_values IsImage
       (λ c. values.fold-Const Value (value_sent_step N.algebra.entries nulls) c ∙ sym (values.fold-Const Value (value_image_step S M N rows nulls) c))
       (λ n. values.fold-Null Value (value_sent_step N.algebra.entries nulls) n ∙ sym (values.fold-Null Value (value_image_step S M N rows nulls) n))

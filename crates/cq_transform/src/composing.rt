@@ -148,7 +148,7 @@ fn null_then(alloc: Global, nulls: &[Value], label: u64) -> Result<Value, AllocE
 }
 
 /// Where a value goes by the second transform, which ends in the last instance.
-fn value_then(
+pub fn value_then(
     alloc: Global,
     last: &Instance,
     second: &Transform,

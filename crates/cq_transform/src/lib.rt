@@ -21,10 +21,11 @@ mod putting;
 pub mod refusal;
 mod rows;
 pub mod scope;
-mod sizes;
+pub mod sizes;
 pub mod transforming;
 
 pub use composing::compose;
 pub use identities::identity;
 pub use refusal::TransformRefusal;
-pub use transforming::transform;
+pub use sizes::is_long;
+pub use transforming::{transform, transform_of_images};

@@ -6,7 +6,7 @@ use cq_instance::Image;
 use cq_theory::{is_long_entity, is_long_type};
 
 /// Whether an image has over 1,024 symbols.
-pub(crate) fn is_long(image: &Image) -> bool
+pub fn is_long(image: &Image) -> bool
     ensures { result ≡ is_over image.now }
 {
     match image {

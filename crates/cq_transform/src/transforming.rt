@@ -47,6 +47,31 @@ pub fn transform(
     }
 }
 
+/// The transform by images that are of the sorts of the generators and keep the equations. Want of memory is the only
+/// error. Out of an initial model with least names it goes to the target, as in `transform`.
+pub fn transform_of_images(
+    alloc: Global,
+    source: &Instance,
+    target: &Instance,
+    images: Vec<Image>,
+) -> Result<Transform, AllocError>
+    requires schema { target.now.schema ≡ source.now.schema }
+    requires sorted { AreSorted source.now target.now images.items }
+    requires kept { AreKept source.now target.now images.items }
+    ensures images { IfOk result (λ made. made.images ≡ images.items) }
+    ensures goes { IfOk result (λ made. IsInitial source.now → GoesFrom made source.now target.now) }
+{
+    schema_of(source).is_well_sorted();
+    target.is_instance();
+    let Ok(standings) = standings(alloc, target, images.as_slice()) else {
+        return Err(AllocError);
+    };
+    match finished(alloc, source, target, images, standings.as_slice()) {
+        Ok(made) => Ok(made),
+        Err(refusal) => Err(refusal),
+    }
+}
+
 /// The schema of an instance.
 fn schema_of(instance: &Instance) -> &Schema
     ensures { result.now ≡ instance.now.schema }
