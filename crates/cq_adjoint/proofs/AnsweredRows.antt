@@ -31,7 +31,7 @@ use Rattle.cq_query.specs.Leading.{IsAnswer, led}
 use Rattle.cq_query.proofs.Answering.{among_answers}
 use Rattle.cq_query.proofs.Once.{one_place, one_answers, answers_once}
 use Rattle.cq_adjoint.specs.Copies.{answers_at, place_of, AreAllAnswers}
-use Rattle.cq_adjoint.proofs.Places.{place_found}
+use Rattle.cq_adjoint.proofs.AnswerPlaces.{place_found}
 
 -- lists with the same members at the same places
 pub same_list : {X : Type 0} (xs ys : List X) → length xs ≡ length ys → ((k : ℕ) (x y : X) → slice_get xs k ≡ Some x → slice_get ys k ≡ Some y → x ≡ y) → xs ≡ ys

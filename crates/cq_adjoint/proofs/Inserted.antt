@@ -7,7 +7,7 @@ use Rattle.std.proofs.lemmas.List.{take_more}
 use Rattle.std.proofs.lemmas.Option.{slice_get_within, get_or_from_slice_get}
 use Rattle.cq_instance.proofs.Lists.{get-map}
 use Rattle.cq_adjoint.specs.Copies.{StandOnce}
-use Rattle.cq_adjoint.proofs.Places.{same_rows}
+use Rattle.cq_adjoint.proofs.AnswerPlaces.{same_rows}
 
 abbrev Passing : {X : Type 0} → (X → Bool) → List X → Type 0
 Passing {X} p xs = (n : ℕ) × (x : X) × (slice_get xs n ≡ Some x) × (p x ≡ true)

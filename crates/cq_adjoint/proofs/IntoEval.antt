@@ -64,7 +64,7 @@ module _ (Q : Query) (i d : InstanceData) (N : Tables) (answers : List (List (Li
   abbrev D : Tables
   D = d.tables
 
-  tables : IsWellFormed T M
+  pub tables : IsWellFormed T M
   tables = subst (λ (S : Schema). IsWellFormed S M) is.over is.source.well_formed
 
   -- where the images of generators go

@@ -1,6 +1,6 @@
 pub mod Copied
 pub mod CopiesMean
-pub mod Places
+pub mod AnswerPlaces
 pub mod Inserted
 pub mod AnsweredRows
 pub mod SpelledValues
@@ -9,3 +9,5 @@ pub mod TypedCopies
 pub mod CoevalTerms
 pub mod IntoEval
 pub mod ToEval
+pub mod EvalMaps
+pub mod OutOfCoeval

@@ -10,13 +10,18 @@ use Rattle.cq_theory.specs.declared.term.Term.{Term}
 use Rattle.cq_theory.specs.declared.term.Term.TheVariants.{Ent, Typ}
 use Rattle.cq_theory.specs.declared.value.Value.{Value}
 use Rattle.cq_theory.specs.SchemaData.{SchemaData as Schema}
+use Rattle.cq_theory.specs.Schema.{IsSchema}
+use Rattle.cq_theory.specs.Listed.{IsLeastName}
 use Rattle.cq_theory.specs.Canonical.{row_term, value_term, canonical, canonical_assignment}
 use Rattle.cq_theory.specs.Sorts.{sort_of}
-use Rattle.cq_theory.specs.Tables.{Tables, Meaning, AtRow, AtValue, count_of, meaning_of, value_type, normal_of, IsWellFormed}
+use Rattle.cq_theory.specs.Tables.{Tables, Meaning, AtRow, AtValue, count_of, meaning_of, value_type, normal_of, IsWellFormed, Satisfies}
 use Rattle.cq_instance.specs.InstanceData.{InstanceData, IsInstance, name_at}
 use Rattle.cq_instance.specs.Given.{given, row_names}
+use Rattle.cq_instance.proofs.CanonicalDerived as derived
 use Rattle.cq_instance.proofs.CanonicalGenerators as generators
+use Rattle.cq_instance.proofs.CanonicalNames as names
 use Rattle.cq_instance.proofs.CanonicalTerms as terms
+use Rattle.cq_transform.specs.Nulls.{IsInitial}
 use Rattle.cq_transform.proofs.ExactlyOne.{within_counts}
 
 -- the term has this sort over d, and means this
@@ -68,3 +73,12 @@ module _ (T : Schema) (d : InstanceData) (is : d ≡ given T d.tables) (well : I
 
   pub few_rows : IsInstance d → (e : ℕ) → count_of D e ≤ 16000000
   few_rows instance e = omega (arith, at_most D.sheet.counts e, generators_are, instance.presented.count)
+
+  -- it is the initial model of its presentation, and its names are the least ones
+  pub given_initial : IsSchema T → Satisfies T D → IsInitial d
+  given_initial schema satisfies = subst IsInitial (sym is) (
+    derived.initial T D schema well satisfies,
+    λ e row inside.
+        subst (IsLeastName T (canonical T D) D (canonical_assignment T D) e row) (sym (name_is e row inside) ∙ ap (λ (x : InstanceData). name_at x.names e row) is)
+        (names.least_name T D schema well e row inside),
+  )

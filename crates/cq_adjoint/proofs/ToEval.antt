@@ -121,11 +121,14 @@ module _ (Q : Query) (query : IsQuery Q) (h : Transform) (i a j d : InstanceData
       kept.value_goes a.schema a.presentation a.tables N a.assignment B h.rows h.nulls across.coeval.initial.0.holds goes.homomorphism goes.agrees (copied_value Q M v) type
       (coeval.value_over Q query i a across.coeval source v type typed)
 
+  abbrev sent_in : ℕ → ℕ → ℕ × (Name × ℕ) → ℕ
+  sent_in e row v = row_sent h a j v.1.1 (copy_of Q M e row v.0)
+
   pub copies_are : (e row : ℕ) → row < count_of M e → copies_sent Q h i a j e row ≡ rows_at e row
   copies_are e row inside = same_list (copies_sent Q h i a j e row) (rows_at e row)
-      (length-map (enumerate_from 0 (variables_at Q e)) sent ∙ length-enumerate_from 0 (variables_at Q e) ∙ sym (copies.rows_count Q query M tables N B holds e row (known e row inside) inside))
+      (length-map (enumerate_from 0 (variables_at Q e)) (sent_in e row) ∙ length-enumerate_from 0 (variables_at Q e) ∙ sym (copies.rows_count Q query M tables N B holds e row (known e row inside) inside))
       (λ k x y left right.
-      let v = made_of sent (enumerate_from 0 (variables_at Q e)) k x left in
+      let v = made_of (sent_in e row) (enumerate_from 0 (variables_at Q e)) k x left in
       let at = from_enumerated 0 (variables_at Q e) k v.0 v.1 in
       let number : v.0.0 ≡ k = omega (arith, at.1) in
       let there : slice_get (rows_at e row) k ≡ Some (row_of N B (copy_of Q M e row k)) =
@@ -133,9 +136,6 @@ module _ (Q : Query) (query : IsQuery Q) (h : Transform) (i a j d : InstanceData
       let both : Some (row_of N B (copy_of Q M e row k)) ≡ Some y = sym there ∙ right in
       let same : row_of N B (copy_of Q M e row k) ≡ y = cc in
       v.2 ∙ ap (λ m. row_sent h a j v.0.1.1 (copy_of Q M e row m)) number ∙ row_meant e row k v.0.1 inside at.0 ∙ same)
-    where
-      abbrev sent : ℕ × (Name × ℕ) → ℕ
-      sent v = row_sent h a j v.1.1 (copy_of Q M e row v.0)
 
   abbrev image_at : ℕ × (Name × Sort) → Image
   image_at = to_eval_image Q h i a j d answers

@@ -74,16 +74,17 @@ pub record AreAcross (Q : Query) (i a j d : InstanceData) (answers : List (List 
   pub evaluated : IsEvaluated Q j d
   pub answered : AreAllAnswers Q j.tables answers
 
--- h goes from i to j, a is eval of i with the answers `from`, and b is eval of j with the answers `to`
-module _ (Q : Query) (h : Transform) (i j a b : InstanceData) (from to : List (List (List ℕ))) where
-  -- the answer with h applied to each row
+-- h goes from i to j: the answer in j for an answer in i, with h applied to each row
+module _ (Q : Query) (h : Transform) (i j : InstanceData) where
   abbrev pub answer_sent : ℕ → List ℕ → List ℕ
   answer_sent entity rows = map (λ v. row_image i.schema i.tables j.tables h.rows h.nulls v.1.1 (slice_index rows v.0)) (enumerate_from 0 (variables_at Q entity))
 
+-- h goes from i to j, a is eval of i with the answers `from`, and b is eval of j with the answers `to`
+module _ (Q : Query) (h : Transform) (i j a b : InstanceData) (from to : List (List (List ℕ))) where
   -- a generator of an answer goes to that of the answer with h applied to each row, and one of a null to the spelling of where h sends the null
   abbrev pub eval_row : ℕ → ℕ → Image
   eval_row entity row = Row (row_term b.schema b.tables entity
-      (place_of (answers_at to entity) (answer_sent entity (slice_index_or (answers_at from entity) row []))))
+      (place_of (answers_at to entity) (answer_sent Q h i j entity (slice_index_or (answers_at from entity) row []))))
 
   abbrev pub eval_value : Value → Image
   eval_value v = ValueImage (value_term b.schema b.tables (value_image i.schema i.tables j.tables h.rows h.nulls v))

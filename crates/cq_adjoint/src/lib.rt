@@ -2,10 +2,10 @@
 #![tactic(auto)]
 
 mod crossing;
+pub mod into_eval;
 mod layout;
 mod places;
 pub mod querylaws;
 mod rows;
-pub mod to_eval;
 
-pub use to_eval::to_eval;
+pub use into_eval::to_eval;

@@ -1,5 +1,7 @@
 use Rattle.std.proofs.Common.{refl}
 use Rattle.cq_adjoint.proofs.ToEval.{one}
+use Rattle.cq_adjoint.proofs.OutOfCoeval.{coeval_holds}
+use Rattle.cq_adjoint.proofs.EvalMaps.{are}
 use Rattle.cq_adjoint.proofs.Inserted.{inserted}
 use Rattle.cq_adjoint.proofs.SpelledValues.{same_spelling}
 use Rattle.cq_adjoint.proofs.querylaws.scratch.Goals as goal
