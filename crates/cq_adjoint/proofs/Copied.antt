@@ -34,7 +34,7 @@ use Rattle.cq_query.proofs.Standing.{Stand, alone_at}
 use Rattle.cq_query.proofs.Copying.{const_sum, rows_size, rows_count}
 
 -- a member of one of many lists stands after those before it
-in_flat : {X : Type 0} (f : ℕ → List X) (s n k j : ℕ) (x : X) → k < n → slice_get (f (s + k)) j ≡ Some x
+pub in_flat : {X : Type 0} (f : ℕ → List X) (s n k j : ℕ) (x : X) → k < n → slice_get (f (s + k)) j ≡ Some x
     → slice_get (flat_map f (range_with_len s n)) (sum_by (λ m. length (f m)) (range_with_len s k) + j) ≡ Some x
 in_flat f s zero k j x within h = absurd (omega arith)
 in_flat f s (suc n) zero j x within h =

@@ -88,6 +88,9 @@ module _ (Q : Query) (i d : InstanceData) (N : Tables) (answers : List (List (Li
     abbrev IsRight : Sort → Meaning → Image → Type 0
     IsRight sort m image = IsTermOf d sort (meaning_image T M D rows_to nulls_to sort m) (term_of image)
 
+    pub place_within : (e row : ℕ) → row < count_of M e → place_of (answers_at answers e) (rows_at e row) < count_of D e
+    place_within e row inside = answered.place_inside Q is.query M tables N rows_at value_at are D is.eval answers is.answered e row inside
+
     row_right : (e row : ℕ) → row < count_of M e → IsRight (Entity e) (AtRow row) (answer_term e row)
     row_right e row inside =
         let p : ℕ = place_of (answers_at answers e) (rows_at e row) in
@@ -101,6 +104,11 @@ module _ (Q : Query) (i d : InstanceData) (N : Tables) (answers : List (List (Li
         let sorted = value_sorted T M D rows_to nulls_to is.well homomorphism v type typed in
         subst (λ (w : Value). IsTermOf d (Plain type) (AtValue (value_image T M D rows_to nulls_to v)) (Typ (value_term T D w))) same
         (value_spelled T d is.given is.well (value_image T M D rows_to nulls_to v) type sorted.0 sorted.1)
+
+    pub value_typed : (v : Value) (type : ℕ) → value_type T M.algebra.nulls v ≡ Some type → value_type T D.algebra.nulls (value_at v) ≡ Some type
+    value_typed v type typed =
+        ap (value_type T D.algebra.nulls) (sym (answered.value_goes Q is.query M tables N rows_at value_at are D is.eval answers is.answered v type typed))
+        ∙ (value_sorted T M D rows_to nulls_to is.well homomorphism v type typed).0
 
     -- the images are those of the rows and values for which generators stand
     pub record AreOf (image_at : ℕ × (Name × Sort) → Image) : Type 0 where

@@ -11,3 +11,6 @@ pub mod IntoEval
 pub mod ToEval
 pub mod EvalMaps
 pub mod OutOfCoeval
+pub mod Besides
+pub mod CoevalMaps
+pub mod SortedGenerators

@@ -82,7 +82,7 @@ module _ (Q : Query) (query : IsQuery Q) (h : Transform) (i a j d : InstanceData
       ap (value_of N B) (values.fold-Fun TypeTerm (value_term_step (null_start Q M.sheet.counts) (length M.algebra.nulls)) f vs)
       ∙ fold-Fun Value (value_step N B) f (map (copied_value Q M) vs) ∙ ap (applied N f) (map-map (value_of N B) (copied_value Q M) vs)
 
-  pub are : AreSent Q M N rows_at value_at
+  are : AreSent Q M N rows_at value_at
   are = record {
     answer = λ e row inside. copies.are_answer Q query M tables N B holds e row (known e row inside) inside;
     key = copies.key_led Q query M tables N B holds;
@@ -116,7 +116,7 @@ module _ (Q : Query) (query : IsQuery Q) (h : Transform) (i a j d : InstanceData
       kept.row_goes a.schema a.presentation a.tables N a.assignment B h.rows h.nulls across.coeval.initial.0.holds goes.homomorphism goes.agrees (copy_of Q M e row k) v.1
       (coeval.copy_over Q query i a across.coeval source e row k v inside at)
 
-  pub value_meant : (v : Value) (type : ℕ) → value_type T M.algebra.nulls v ≡ Some type → value_sent h a j (copied_value Q M v) ≡ value_at v
+  value_meant : (v : Value) (type : ℕ) → value_type T M.algebra.nulls v ≡ Some type → value_sent h a j (copied_value Q M v) ≡ value_at v
   value_meant v type typed =
       kept.value_goes a.schema a.presentation a.tables N a.assignment B h.rows h.nulls across.coeval.initial.0.holds goes.homomorphism goes.agrees (copied_value Q M v) type
       (coeval.value_over Q query i a across.coeval source v type typed)
@@ -124,7 +124,7 @@ module _ (Q : Query) (query : IsQuery Q) (h : Transform) (i a j d : InstanceData
   abbrev sent_in : ℕ → ℕ → ℕ × (Name × ℕ) → ℕ
   sent_in e row v = row_sent h a j v.1.1 (copy_of Q M e row v.0)
 
-  pub copies_are : (e row : ℕ) → row < count_of M e → copies_sent Q h i a j e row ≡ rows_at e row
+  copies_are : (e row : ℕ) → row < count_of M e → copies_sent Q h i a j e row ≡ rows_at e row
   copies_are e row inside = same_list (copies_sent Q h i a j e row) (rows_at e row)
       (length-map (enumerate_from 0 (variables_at Q e)) (sent_in e row) ∙ length-enumerate_from 0 (variables_at Q e) ∙ sym (copies.rows_count Q query M tables N B holds e row (known e row inside) inside))
       (λ k x y left right.
@@ -161,6 +161,15 @@ module _ (Q : Query) (query : IsQuery Q) (h : Transform) (i a j d : InstanceData
 
   pub schemas : d.schema ≡ i.schema
   schemas = into.schemas Q i d N answers is_into rows_at value_at are
+
+  -- the answer of a row is a row of d
+  pub place_inside : (e row : ℕ) → row < count_of M e → place_of (answers_at answers e) (copies_sent Q h i a j e row) < count_of D e
+  place_inside e row inside =
+      subst (λ (l : List ℕ). place_of (answers_at answers e) l < count_of D e) (sym (copies_are e row inside)) (into.place_within Q i d N answers is_into rows_at value_at are e row inside)
+
+  -- what h sends has its type in d
+  pub sent_typed : (v : Value) (type : ℕ) → value_type T M.algebra.nulls v ≡ Some type → value_type T D.algebra.nulls (value_sent h a j (copied_value Q M v)) ≡ Some type
+  sent_typed v type typed = ap (value_type T D.algebra.nulls) (value_meant v type typed) ∙ into.value_typed Q i d N answers is_into rows_at value_at are v type typed
 
   abbrev rows_to : List (List ℕ)
   rows_to = into.rows_to Q i d N answers is_into rows_at value_at are

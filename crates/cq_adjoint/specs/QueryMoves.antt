@@ -1,15 +1,16 @@
 -- Where a transform along a query sends generators.
-use Rattle.std.specs.Prelude.{ℕ, List, [], ◌≡◌, map, length, slice_index, slice_index_or}
-use Rattle.std.specs.List.{enumerate_from}
+use Rattle.std.specs.Prelude.{ℕ, List, [], ◌≡◌, ◌++◌, map, length, slice_index, slice_index_or}
+use Rattle.std.specs.List.{enumerate_from, flat_map}
 use Rattle.cq_base.specs.declared.name.Name.{Name}
 use Rattle.cq_theory.specs.declared.presentation.Sort.{Sort}
 use Rattle.cq_theory.specs.declared.presentation.Sort.TheVariants.{Plain, Entity}
 use Rattle.cq_theory.specs.declared.term.EntTerm.{EntTerm}
 use Rattle.cq_theory.specs.declared.term.TypeTerm.{TypeTerm}
 use Rattle.cq_theory.specs.declared.value.Value.{Value}
-use Rattle.cq_theory.specs.Canonical.{row_term, value_term}
+use Rattle.cq_theory.specs.declared.value.Value.TheVariants.{Null}
+use Rattle.cq_theory.specs.Canonical.{below, row_term, value_term}
 use Rattle.cq_theory.specs.Homomorphism.{row_image, value_image}
-use Rattle.cq_theory.specs.Tables.{Tables, AtRow, row_in, value_in, row_of, value_of}
+use Rattle.cq_theory.specs.Tables.{Tables, AtRow, count_of, row_in, value_in, row_of, value_of}
 use Rattle.cq_instance.specs.InstanceData.{InstanceData}
 use Rattle.cq_instance.specs.Given.{given}
 use Rattle.cq_instance.specs.declared.transform.Image.{Image}
@@ -104,3 +105,19 @@ pub record AreEvaluated (Q : Query) (i j a b : InstanceData) (from to : List (Li
   pub target : IsEvaluated Q j b
   pub answered : AreAllAnswers Q i.tables from
   pub answered_there : AreAllAnswers Q j.tables to
+
+-- h goes from i to j; a and b are coeval of i and of j. The copy of a row goes to the copy, for the same variable, of the row to which h sends
+-- the row, and a null's generator to the spelling of the value to which h sends the null.
+module _ (Q : Query) (h : Transform) (i j : InstanceData) where
+  abbrev pub copy_sent : ℕ → ℕ → ℕ → Image
+  copy_sent entity row variable = Row (copy_of Q j.tables entity (row_image i.schema i.tables j.tables h.rows h.nulls entity row) variable)
+
+  abbrev pub copies_of_row : ℕ → ℕ → List Image
+  copies_of_row entity row = map (copy_sent entity row) (below (length (variables_at Q entity)))
+
+  abbrev pub null_sent : ℕ → Image
+  null_sent label = ValueImage (copied_value Q j.tables (value_image i.schema i.tables j.tables h.rows h.nulls (Null label)))
+
+  abbrev pub coeval_images : List Image
+  coeval_images = flat_map (λ entity. flat_map (copies_of_row entity) (below (count_of i.tables entity))) (below (length Q.target.entities))
+      ++ map null_sent (below (length i.tables.algebra.nulls))

@@ -8,9 +8,11 @@ ghost use Rattle.cq_theory.specs.declared.term.Term.TheVariants.{Ent, Typ};
 ghost use Rattle.cq_theory.specs.declared.term.TypeTerm.TheVariants.{Gen};
 ghost use Rattle.cq_theory.specs.EntTerm.{alone as generator_alone};
 ghost use Rattle.cq_theory.specs.Sorts.{IsGround, type_of};
-ghost use Rattle.cq_theory.specs.Canonical.{value_term as spelling};
+ghost use Rattle.cq_theory.specs.Canonical.{row_term, value_term as spelling};
 ghost use Rattle.cq_theory.specs.Tables.{AtRow, count_of, value_in, value_type};
 ghost use Rattle.cq_query.specs.Translation.{variables_at};
+ghost use Rattle.cq_query.specs.Coeval.{start_of};
+ghost use Rattle.cq_adjoint.specs.Copies.{answers_at, place_of};
 ghost use Rattle.cq_terms.specs.ValueTerms.{value_term as value_term_over};
 ghost use Rattle.cq_instance.specs.Given.{given};
 ghost use Rattle.cq_adjoint.specs.QueryMoves.{row_sent, value_sent, to_eval_row, to_eval_value, to_eval_image};
@@ -18,14 +20,14 @@ ghost use Rattle.cq_adjoint.specs.QueryMoves.{to_eval_images};
 ghost use Rattle.cq_adjoint.specs.Crossing.{IsCrossing};
 
 use crate::layout::width;
-use crate::places::Places;
+use crate::places::{Places, places_at};
 use crate::rows::Rows;
 use cq_base::{Name, Seq, number_at};
 use cq_instance::{Image, Instance, Transform};
 use cq_query::Query;
 use cq_terms::copy_entity_term;
 use cq_terms::values::value_term;
-use cq_theory::{Sort, TypeTerm, Value, alone};
+use cq_theory::{EntTerm, Sort, TypeTerm, Value, alone};
 use cq_transform::composing::value_then;
 use std::alloc::{AllocError, Global};
 
@@ -100,6 +102,49 @@ fn sent_rows(
     Ok(made)
 }
 
+/// The first of the generators of coeval for a row.
+fn first_copy(crossing: &Crossing, entity: u32, row: u32) -> u32
+    requires crossing { IsCrossing crossing.now }
+    requires row { row < count_of crossing.now.source.now.tables entity }
+    ensures first { result ≡ start_of crossing.now.query.now crossing.now.source.now.tables.sheet.counts entity
+        + row * length (variables_at crossing.now.query.now entity) }
+    ensures few { result + length (variables_at crossing.now.query.now entity) ≤ 16000000 }
+{
+    let query = crossing.query;
+    let source = crossing.source;
+    let copies = crossing.copies;
+    query.is_well_sorted();
+    source.is_instance();
+    copies.is_instance();
+    let start = number_at(crossing.starts, entity as usize);
+    let count = width(query, entity);
+    start + row * count
+}
+
+/// The generator of the answer that has these rows.
+fn answer_term(
+    alloc: Global,
+    crossing: &Crossing,
+    entity: u32,
+    rows: Vec<u32>,
+) -> Result<EntTerm, AllocError>
+    requires entity { entity < length crossing.now.places.now }
+    requires few { length (answers_at crossing.now.places.now entity) < 2 ^ 32 }
+    requires place { place_of (answers_at crossing.now.places.now entity) rows.items
+        < count_of crossing.now.evaluated.now.tables entity }
+    requires given { crossing.now.evaluated.now
+        ≡ given crossing.now.evaluated.now.schema crossing.now.evaluated.now.tables }
+    ensures { IfOk result (λ made. made ≡ row_term crossing.now.evaluated.now.schema
+        crossing.now.evaluated.now.tables entity
+        (place_of (answers_at crossing.now.places.now entity) rows.items)) }
+{
+    let evaluated = crossing.evaluated;
+    evaluated.is_instance();
+    let places = places_at(crossing.places, entity);
+    let place = places.place_of(&Rows::from_vec(rows));
+    copy_entity_term(alloc, evaluated.name_of(entity, place))
+}
+
 /// The image of a generator that stands for a row.
 fn row_image(
     alloc: Global,
@@ -114,11 +159,16 @@ fn row_image(
         crossing.now.places.now entity row) }
 {
     let query = crossing.query;
+    let source = crossing.source;
+    let target = crossing.target;
     let evaluated = crossing.evaluated;
-    let first = number_at(crossing.starts, entity as usize) + row * width(query, entity);
+    query.is_well_sorted();
+    source.is_instance();
+    target.is_instance();
+    evaluated.is_instance();
+    let first = first_copy(crossing, entity, row);
     let rows = sent_rows(alloc, crossing, entity, first)?;
-    let place = crossing.places[entity as usize].place_of(&Rows::from_vec(rows));
-    let name = copy_entity_term(alloc, evaluated.name_of(entity, place))?;
+    let name = answer_term(alloc, crossing, entity, rows)?;
     Ok(Image::Row(name))
 }
 
@@ -129,7 +179,8 @@ fn copied_value(alloc: Global, crossing: &Crossing, value: &Value) -> Result<Typ
         (length crossing.now.source.now.tables.algebra.nulls) value.now) }
 {
     let source = crossing.source;
-    let nulls = source.algebra().nulls.len() as u32;
+    let algebra = source.algebra();
+    let nulls = algebra.nulls.len() as u32;
     value_term(alloc, crossing.first_null, nulls, value)
 }
 
@@ -165,7 +216,14 @@ fn value_image(alloc: Global, crossing: &Crossing, generator: u32) -> Result<Ima
         crossing.now.source.now crossing.now.copies.now crossing.now.target.now crossing.now.evaluated.now
         crossing.now.places.now (value_in (slice_index_or crossing.now.source.now.assignment generator (AtRow 0)))) }
 {
+    let query = crossing.query;
     let source = crossing.source;
+    let copies = crossing.copies;
+    let target = crossing.target;
+    query.is_well_sorted();
+    source.is_instance();
+    copies.is_instance();
+    target.is_instance();
     let value = source.value_of(alloc, &TypeTerm::Gen(generator))?;
     let copied = copied_value(alloc, crossing, &value)?;
     let sent = sent_value(alloc, crossing, &copied)?;

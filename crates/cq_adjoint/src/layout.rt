@@ -35,7 +35,9 @@ pub(crate) fn find_layout(alloc: Global, query: &Query, counts: &[u32]) -> Resul
     let mut total = 0;
     for entity in 0..query.entity_count() {
         starts.push(total)?;
-        total += number_at(counts, entity as usize) * width(query, entity);
+        let count = number_at(counts, entity as usize);
+        let copies = width(query, entity);
+        total += count * copies;
     }
     Ok(Layout {
         starts,

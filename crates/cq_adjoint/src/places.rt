@@ -1,5 +1,5 @@
 //! The places of answers.
-ghost use Rattle.std.specs.Prelude.{◌≡◌, ◌<◌, ◌≤◌, ◌++◌, ◌∷◌, [], All, IfOk, OnOk, length, map, slice_index_or};
+ghost use Rattle.std.specs.Prelude.{◌≡◌, ◌<◌, ◌^◌, [], All, IfOk, length, map, slice_index_or};
 ghost use Rattle.cq_adjoint.specs.Copies.{place_of as place_among, StandOnce};
 
 use crate::rows::Rows;
@@ -71,4 +71,12 @@ pub(crate) fn all_places(
         made.push(Places::new(alloc, list.as_slice())?)?;
     }
     Ok(made)
+}
+
+/// The places of the answers for an entity.
+pub(crate) fn places_at(places: &[Places], entity: u32) -> &Places
+    requires { entity < length places.now }
+    ensures { result.now ≡ slice_index_or places.now entity [] }
+{
+    &places[entity as usize]
 }

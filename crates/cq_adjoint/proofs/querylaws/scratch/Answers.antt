@@ -1,5 +1,6 @@
 use Rattle.std.proofs.Common.{refl}
 use Rattle.cq_adjoint.proofs.ToEval.{one}
+use Rattle.cq_adjoint.proofs.CoevalMaps.{sorted}
 use Rattle.cq_adjoint.proofs.OutOfCoeval.{coeval_holds}
 use Rattle.cq_adjoint.proofs.EvalMaps.{are}
 use Rattle.cq_adjoint.proofs.Inserted.{inserted}
