@@ -14,3 +14,5 @@ pub mod OutOfCoeval
 pub mod Besides
 pub mod CoevalMaps
 pub mod SortedGenerators
+pub mod EvalImages
+pub mod AllAnswers

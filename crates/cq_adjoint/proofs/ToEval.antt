@@ -1,11 +1,12 @@
 -- The images of a transform into eval are sorted and keep the equations, and what they make is transposed.
-use Rattle.std.proofs.Common.{ℕ, List, [], ◌∷◌, Option, Some, ◌≡◌, ◌<◌, ◌+◌, ◌*◌, map, length, refl, sym, ap, subst, ◌∙◌, arith}
+use Rattle.std.proofs.Common.{ℕ, List, [], ◌∷◌, Option, Some, Result, Ok, Err, IfOk, ◌≡◌, ◌<◌, ◌+◌, ◌*◌, map, length, refl, sym, ap, subst, ◌∙◌, arith}
 use Rattle.std.specs.Prelude.{slice_get, slice_index_or}
 use Rattle.std.specs.List.{enumerate_from}
 use Rattle.std.proofs.lemmas.List.{length-map}
 use Rattle.std.proofs.lemmas.List.FromFn.{length-enumerate_from}
 use Rattle.cq_base.specs.declared.name.Name.{Name}
 use Rattle.cq_theory.specs.declared.constant.Con.{Con}
+use Rattle.cq_theory.specs.declared.lookup.SizeRefusal.{SizeRefusal}
 use Rattle.cq_theory.specs.declared.presentation.Presentation.{Presentation}
 use Rattle.cq_theory.specs.declared.presentation.Sort.{Sort}
 use Rattle.cq_theory.specs.declared.presentation.Sort.TheVariants.{Plain, Entity}
@@ -203,3 +204,14 @@ module _ (Q : Query) (query : IsQuery Q) (h : Transform) (i a j d : InstanceData
             (λ e row inside. across'.each_row e row inside ∙ ap (λ (l : List ℕ). Some l) (copies_are e row inside))
             (λ label within. across'.each_null label within ∙ null_meant label within) in
         (same.0 ∙ are_one.0, same.1 ∙ are_one.1)
+
+  -- so for what a call answers
+  pub all_transposed : (result : Result Transform SizeRefusal) → IfOk result (λ made. made.images ≡ images) → IfOk result (λ made. GoesFrom made i d)
+      → IfOk result (λ made. AreTransposed Q h i a j d answers made.rows made.nulls)
+  all_transposed (Ok made) same there = transposed made same there
+  all_transposed (Err refusal) same there = same
+
+  pub all_one : (result : Result Transform SizeRefusal) → IfOk result (λ made. made.images ≡ images) → IfOk result (λ made. GoesFrom made i d)
+      → IfOk result (λ made. (rows : List (List ℕ)) (nulls : List Value) → IsHomomorphism i.schema M D rows nulls → AreTransposed Q h i a j d answers rows nulls → (rows ≡ made.rows) × (nulls ≡ made.nulls))
+  all_one (Ok made) same there = one made same there
+  all_one (Err refusal) same there = same

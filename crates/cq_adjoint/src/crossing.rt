@@ -47,7 +47,7 @@ pub(crate) struct Crossing<'a> {
 }
 
 /// The row to which a row of an entity goes.
-fn row_at(rows: &[Seq<u32>], entity: u32, row: u32) -> u32
+pub(crate) fn row_at(rows: &[Seq<u32>], entity: u32, row: u32) -> u32
     ensures { result ≡ slice_index (slice_index_or rows.now entity []) row }
 {
     match rows.get(entity as usize) {
@@ -70,7 +70,7 @@ fn sent_row(alloc: Global, crossing: &Crossing, entity: u32, generator: u32) -> 
 }
 
 /// The variables of an entity's block.
-fn variables(query: &Query, entity: u32) -> &[(Name, u32)]
+pub(crate) fn variables(query: &Query, entity: u32) -> &[(Name, u32)]
     ensures { result.now ≡ variables_at query.now entity }
 {
     match query.block(entity) {
@@ -121,27 +121,24 @@ fn first_copy(crossing: &Crossing, entity: u32, row: u32) -> u32
     start + row * count
 }
 
-/// The generator of the answer that has these rows.
-fn answer_term(
+/// The generator of the answer that has these rows, in an instance of the answers at these places.
+pub(crate) fn answer_term(
     alloc: Global,
-    crossing: &Crossing,
+    evaluated: &Instance,
+    places: &[Places],
     entity: u32,
     rows: Vec<u32>,
 ) -> Result<EntTerm, AllocError>
-    requires entity { entity < length crossing.now.places.now }
-    requires few { length (answers_at crossing.now.places.now entity) < 2 ^ 32 }
-    requires place { place_of (answers_at crossing.now.places.now entity) rows.items
-        < count_of crossing.now.evaluated.now.tables entity }
-    requires given { crossing.now.evaluated.now
-        ≡ given crossing.now.evaluated.now.schema crossing.now.evaluated.now.tables }
-    ensures { IfOk result (λ made. made ≡ row_term crossing.now.evaluated.now.schema
-        crossing.now.evaluated.now.tables entity
-        (place_of (answers_at crossing.now.places.now entity) rows.items)) }
+    requires entity { entity < length places.now }
+    requires few { length (answers_at places.now entity) < 2 ^ 32 }
+    requires place { place_of (answers_at places.now entity) rows.items < count_of evaluated.now.tables entity }
+    requires given { evaluated.now ≡ given evaluated.now.schema evaluated.now.tables }
+    ensures { IfOk result (λ made. made ≡ row_term evaluated.now.schema evaluated.now.tables entity
+        (place_of (answers_at places.now entity) rows.items)) }
 {
-    let evaluated = crossing.evaluated;
     evaluated.is_instance();
-    let places = places_at(crossing.places, entity);
-    let place = places.place_of(&Rows::from_vec(rows));
+    let answers = places_at(places, entity);
+    let place = answers.place_of(&Rows::from_vec(rows));
     copy_entity_term(alloc, evaluated.name_of(entity, place))
 }
 
@@ -168,7 +165,7 @@ fn row_image(
     evaluated.is_instance();
     let first = first_copy(crossing, entity, row);
     let rows = sent_rows(alloc, crossing, entity, first)?;
-    let name = answer_term(alloc, crossing, entity, rows)?;
+    let name = answer_term(alloc, evaluated, crossing.places, entity, rows)?;
     Ok(Image::Row(name))
 }
 
@@ -196,7 +193,7 @@ fn sent_value(alloc: Global, crossing: &Crossing, term: &TypeTerm) -> Result<Val
 }
 
 /// A value as a term over the generators of an instance of tables.
-fn spelled(alloc: Global, evaluated: &Instance, value: &Value) -> Result<TypeTerm, AllocError>
+pub(crate) fn spelled(alloc: Global, evaluated: &Instance, value: &Value) -> Result<TypeTerm, AllocError>
     requires given { evaluated.now ≡ given evaluated.now.schema evaluated.now.tables }
     requires typed { (type : ℕ)
         × (value_type evaluated.now.schema evaluated.now.tables.algebra.nulls value.now ≡ Some type) }

@@ -54,9 +54,13 @@ pub fn to_eval(
 {
     query.is_well_sorted();
     copies.is_instance();
+    target.is_instance();
     let sheet = source.sheet();
-    let layout = find_layout(alloc, query, sheet.counts.as_slice())?;
-    let places = all_places(alloc, answers)?;
+    let counts = sheet.counts.as_slice();
+    let layout = find_layout(alloc, query, counts)?;
+    let found = all_places(alloc, answers)?;
+    let places = found.as_slice();
+    let starts = layout.starts.as_slice();
     let crossing = Crossing {
         query,
         moved,
@@ -64,15 +68,15 @@ pub fn to_eval(
         copies,
         target,
         evaluated,
-        places: places.as_slice(),
-        starts: layout.starts.as_slice(),
+        places,
+        starts,
         first_null: layout.first_null,
     };
     crossed(alloc, &crossing)
 }
 
 /// Whether some image has over 1,024 symbols.
-fn has_long(images: &[Image]) -> bool
+pub(crate) fn has_long(images: &[Image]) -> bool
     ensures { result ≡ have_long images.now }
 {
     images.iter().any(|image| is_long(image))

@@ -1,5 +1,5 @@
 //! The places of answers.
-ghost use Rattle.std.specs.Prelude.{◌≡◌, ◌<◌, ◌^◌, [], All, IfOk, length, map, slice_index_or};
+ghost use Rattle.std.specs.Prelude.{◌≡◌, ◌<◌, ◌^◌, [], All, IfOk, Some, length, map, slice_get, slice_index_or};
 ghost use Rattle.cq_adjoint.specs.Copies.{place_of as place_among, StandOnce};
 
 use crate::rows::Rows;
@@ -37,6 +37,17 @@ impl Places {
             places.insert(copied_rows(alloc, rows)?)?;
         }
         Ok(Places { rows: places })
+    }
+
+    /// The answer at a place.
+    pub(crate) fn at(&self, place: u32) -> &[u32]
+        requires { place < length self.now }
+        ensures { slice_get self.now place ≡ Some result.now }
+    {
+        match self.rows.get_index(place as usize) {
+            Some(rows) => rows.as_slice(),
+            None => unreachable!(),
+        }
     }
 
     /// The place of an answer, and 0 of a list that is none.
