@@ -1,5 +1,5 @@
 -- The images of a transform between instances of answers are sorted and keep the equations.
-use Rattle.std.proofs.Common.{ℕ, List, [], Some, ◌≡◌, ◌<◌, sym, ap, subst, ◌∙◌}
+use Rattle.std.proofs.Common.{ℕ, List, [], Some, ◌≡◌, ◌<◌, length, sym, ap, subst, ◌∙◌, arith}
 use Rattle.std.specs.Prelude.{slice_index_or}
 use Rattle.cq_base.specs.declared.name.Name.{Name}
 use Rattle.cq_theory.specs.declared.presentation.Sort.{Sort}
@@ -15,6 +15,7 @@ use Rattle.cq_instance.specs.declared.transform.Image.TheVariants.{Row, Value as
 use Rattle.cq_instance.specs.declared.transform.Transform.{Transform}
 use Rattle.cq_transform.specs.Transforming.{AreKept, AreSorted}
 use Rattle.cq_transform.specs.Transforms.{GoesFrom}
+use Rattle.cq_transform.proofs.ExactlyOne.{within_counts}
 use Rattle.cq_query.specs.QueryData.{QueryData as Query}
 use Rattle.cq_query.specs.IsQuery.{IsQuery}
 use Rattle.cq_query.proofs.Evaluated as evaluated
@@ -54,6 +55,13 @@ module _ (Q : Query) (query : IsQuery Q) (h : Transform) (i j a b : InstanceData
 
   tables : IsWellFormed T M
   tables = subst (λ (S : Schema). IsWellFormed S M) over there.well_formed
+
+  pub known : (e row : ℕ) → row < count_of M e → e < length T.entities
+  known e row inside = omega (arith, within_counts M.sheet.counts e row inside, tables.entities)
+
+  -- each row has an answer
+  pub row_counted : (e row : ℕ) → row < count_of M e → row < length (answers_at from e)
+  row_counted e row inside = subst (λ m. row < m) (maps.count_is Q L M are.source.tables from are.answered e (known e row inside)) inside
 
   abbrev rows_at : ℕ → ℕ → List ℕ
   rows_at = maps.rows_at Q query L N well satisfies h.rows h.nulls homomorphism M are.source.tables tables from are.answered

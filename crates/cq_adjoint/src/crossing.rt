@@ -28,7 +28,7 @@ use cq_query::Query;
 use cq_terms::copy_entity_term;
 use cq_terms::values::value_term;
 use cq_theory::{EntTerm, Sort, TypeTerm, Value, alone};
-use cq_transform::composing::value_then;
+use cq_transform::value_then;
 use std::alloc::{AllocError, Global};
 
 /// The transform `moved` from `copies`, which is coeval of `source`, to `target`, of which `evaluated` is eval, with

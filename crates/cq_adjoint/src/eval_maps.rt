@@ -20,7 +20,7 @@ use cq_base::number_at;
 use cq_instance::{Image, Instance, Transform};
 use cq_query::Query;
 use cq_theory::{SizeRefusal, Sort, TypeTerm, alone};
-use cq_transform::composing::value_then;
+use cq_transform::value_then;
 use cq_transform::transform_of_images;
 use std::alloc::{AllocError, Global};
 
@@ -69,10 +69,9 @@ pub fn eval_map(
         (map (λ list. map (λ rows. rows.items) list.items) to.now)) ≡ true))) }
 {
     query.is_well_sorted();
-    target.is_instance();
     let before = all_places(alloc, from)?;
     let after = all_places(alloc, to)?;
-    let from = before.as_slice();
+    let listed = before.as_slice();
     let places = after.as_slice();
     let evaluating = Evaluating {
         query,
@@ -81,7 +80,7 @@ pub fn eval_map(
         target,
         evaluated,
         there,
-        from,
+        from: listed,
         places,
     };
     mapped(alloc, &evaluating)

@@ -101,7 +101,7 @@ fn images_of(
 }
 
 /// The rows at a place, and none past the end.
-fn rows_at(rows: &[Seq<u32>], place: usize) -> &[u32]
+pub fn rows_at(rows: &[Seq<u32>], place: usize) -> &[u32]
     ensures { result.now ≡ slice_index_or rows.now place [] }
 {
     match rows.get(place) {

@@ -24,7 +24,7 @@ pub mod scope;
 pub mod sizes;
 pub mod transforming;
 
-pub use composing::compose;
+pub use composing::{compose, rows_at, value_then};
 pub use identities::identity;
 pub use refusal::TransformRefusal;
 pub use sizes::is_long;
