@@ -86,7 +86,7 @@ module _ (F : Mapping) (is : IsMapping F) (M : Tables) (well : IsWellFormed F.ta
       ap (λ (column : List ℕ). slice_index column row) (mapped_edge (key_column F M) S.keys k edge [] h)
       ∙ get_or-map-range_with_len (λ r. row_from M r (key_image F k)) 0 (count_of M (entity_image F edge.from)) row row 0 inside here
 
-  cell_is : (a row : ℕ) (edge : Edge) → slice_get S.attributes a ≡ Some edge → row < count_of M (entity_image F edge.from) → cell_at D a row ≡ value_of M (AtRow row ∷ []) (attribute_image F a)
+  pub cell_is : (a row : ℕ) (edge : Edge) → slice_get S.attributes a ≡ Some edge → row < count_of M (entity_image F edge.from) → cell_at D a row ≡ value_of M (AtRow row ∷ []) (attribute_image F a)
   cell_is a row edge h inside =
       let here : 0 + row ≡ row = omega arith in
       ap (λ (column : List Value). slice_index_or column row (Const (Named 0))) (mapped_edge (cell_column F M) S.attributes a edge [] h)

@@ -1,0 +1,45 @@
+//! Laws of transforms along mappings. Each is the contract of a function that does nothing.
+ghost use Rattle.std.specs.Prelude.{ℕ, ◌≡◌, map};
+ghost use Rattle.cq_theory.specs.Schema.{IsSchema};
+ghost use Rattle.cq_theory.specs.Sorts.{Generators};
+ghost use Rattle.cq_theory.specs.Tables.{Holds};
+ghost use Rattle.cq_theory.specs.declared.term.TypeTerm.{TypeTerm};
+ghost use Rattle.cq_mapping.specs.Images.{generator_images};
+ghost use Rattle.cq_mapping.specs.MappingData.{MappingData as Mapping};
+ghost use Rattle.cq_mapping.specs.Mapping.{IsMapping};
+ghost use Rattle.cq_instance.specs.InstanceData.{InstanceData};
+ghost use Rattle.cq_instance.specs.declared.transform.Transform.{Transform};
+ghost use Rattle.cq_transform.specs.Nulls.{IsInitial};
+ghost use Rattle.cq_transform.specs.Transforms.{GoesFrom};
+ghost use Rattle.cq_adjoint.specs.Moved.{IsSigmaOf};
+ghost use Rattle.cq_transform.specs.Identities.{identity_images};
+ghost use Rattle.cq_adjoint.specs.Moves.{image_along, to_delta_images, from_delta_images};
+ghost use Rattle.cq_adjoint.specs.Units.{identity_of, unit_images, counit_images};
+ghost use Rattle.cq_adjoint.specs.Transposed.{Transposed};
+
+/// There and back is the identity, both ways: two transforms into delta that are transposed to one out of sigma send
+/// rows and nulls alike, and so do two out of sigma to which one into delta is transposed. So transforms out of sigma
+/// correspond one to one to transforms into delta.
+pub fn there_and_back()
+    ensures into { (F : Mapping) (i a j d : InstanceData) (h k k' : Transform) → IsSchema i.schema → IsInitial i
+        → GoesFrom k i d → GoesFrom k' i d → Transposed F i a j d h k → Transposed F i a j d h k'
+        → (k.rows ≡ k'.rows) × (k.nulls ≡ k'.nulls) }
+    ensures out_of { (F : Mapping) (i a j d : InstanceData) (h h' k : Transform) → IsMapping F → IsSigmaOf F i a
+        → GoesFrom h a j → GoesFrom h' a j → Transposed F i a j d h k → Transposed F i a j d h' k
+        → (h.rows ≡ h'.rows) × (h.nulls ≡ h'.nulls) }
+{}
+
+/// The unit is the transform into delta of an identity, and the counit the one out of sigma of an identity.
+pub fn units_of_identities()
+    ensures unit { (F : Mapping) (i x b : InstanceData) → IsSigmaOf F i x
+        → to_delta_images F (identity_of x) i x x b ≡ unit_images i x b }
+    ensures counit { (F : Mapping) (null_term : ℕ → TypeTerm) (i x : InstanceData)
+        → Holds x.schema x.presentation x.tables x.assignment
+        → from_delta_images F (identity_of x) null_term x i x ≡ counit_images F null_term i x }
+{}
+
+/// Along a mapping's sigma the images of an identity are those of one.
+pub fn sigma_keeps_identities()
+    ensures { (F : Mapping) (G : Generators) → map (image_along F) (identity_images G)
+        ≡ identity_images (generator_images F G) }
+{}
