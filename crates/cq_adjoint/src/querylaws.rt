@@ -1,6 +1,0 @@
-//! Laws.
-ghost use Rattle.std.specs.Prelude.{ℕ, ◌≡◌};
-
-pub fn scratch()
-    ensures { (n : ℕ) → n ≡ n }
-{}
