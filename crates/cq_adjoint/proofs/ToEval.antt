@@ -201,8 +201,8 @@ module _ (Q : Query) (query : IsQuery Q) (h : Transform) (i a j d : InstanceData
     pub one : (rows : List (List ℕ)) (nulls : List Value) → IsHomomorphism i.schema M D rows nulls → AreTransposed Q h i a j d answers rows nulls → (rows ≡ made.rows) × (nulls ≡ made.nulls)
     one rows nulls sends across' =
         let same = into.one Q i d N answers is_into rows_at value_at are rows nulls sends
-            (λ e row inside. across'.each_row e row inside ∙ ap (λ (l : List ℕ). Some l) (copies_are e row inside))
-            (λ label within. across'.each_null label within ∙ null_meant label within) in
+        (λ e row inside. across'.each_row e row inside ∙ ap (λ (l : List ℕ). Some l) (copies_are e row inside))
+        (λ label within. across'.each_null label within ∙ null_meant label within) in
         (same.0 ∙ are_one.0, same.1 ∙ are_one.1)
 
   -- so for what a call answers

@@ -143,12 +143,7 @@ pub(crate) fn answer_term(
 }
 
 /// The image of a generator that stands for a row.
-fn row_image(
-    alloc: Global,
-    crossing: &Crossing,
-    entity: u32,
-    row: u32,
-) -> Result<Image, AllocError>
+fn row_image(alloc: Global, crossing: &Crossing, entity: u32, row: u32) -> Result<Image, AllocError>
     requires crossing { IsCrossing crossing.now }
     requires row { row < count_of crossing.now.source.now.tables entity }
     ensures { IfOk result (λ made. made ≡ to_eval_row crossing.now.query.now crossing.now.moved.now
@@ -193,7 +188,11 @@ fn sent_value(alloc: Global, crossing: &Crossing, term: &TypeTerm) -> Result<Val
 }
 
 /// A value as a term over the generators of an instance of tables.
-pub(crate) fn spelled(alloc: Global, evaluated: &Instance, value: &Value) -> Result<TypeTerm, AllocError>
+pub(crate) fn spelled(
+    alloc: Global,
+    evaluated: &Instance,
+    value: &Value,
+) -> Result<TypeTerm, AllocError>
     requires given { evaluated.now ≡ given evaluated.now.schema evaluated.now.tables }
     requires typed { (type : ℕ)
         × (value_type evaluated.now.schema evaluated.now.tables.algebra.nulls value.now ≡ Some type) }

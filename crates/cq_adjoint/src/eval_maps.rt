@@ -20,8 +20,7 @@ use cq_base::number_at;
 use cq_instance::{Image, Instance, Transform};
 use cq_query::Query;
 use cq_theory::{SizeRefusal, Sort, TypeTerm, alone};
-use cq_transform::value_then;
-use cq_transform::transform_of_images;
+use cq_transform::{transform_of_images, value_then};
 use std::alloc::{AllocError, Global};
 
 /// The transform `moved` from `source` to `target`, and the instances of the query's answers there: `from` has the
@@ -137,11 +136,7 @@ fn answer_image(
 }
 
 /// The image of a generator that stands for a value.
-fn value_image(
-    alloc: Global,
-    evaluating: &Evaluating,
-    generator: u32,
-) -> Result<Image, AllocError>
+fn value_image(alloc: Global, evaluating: &Evaluating, generator: u32) -> Result<Image, AllocError>
     requires evaluating { IsEvaluating evaluating.now }
     requires typed { (type : ℕ) × (type_of evaluating.now.evaluated.now.schema
         evaluating.now.evaluated.now.presentation.generators (Gen generator) ≡ Some type) }

@@ -26,7 +26,11 @@ pub(crate) fn width(query: &Query, entity: u32) -> u32
 }
 
 /// Where the generators of coeval stand, of which there are few.
-pub(crate) fn find_layout(alloc: Global, query: &Query, counts: &[u32]) -> Result<Layout, AllocError>
+pub(crate) fn find_layout(
+    alloc: Global,
+    query: &Query,
+    counts: &[u32],
+) -> Result<Layout, AllocError>
     requires { null_start query.now counts.now ≤ 16000000 }
     ensures starts { IfOk result (λ made. made.starts.items ≡ starts_of query.now counts.now) }
     ensures first { IfOk result (λ made. made.first_null ≡ null_start query.now counts.now) }

@@ -19,7 +19,7 @@ generator_image-requires c =
 pub loop-number-preserved : goal.loop-number-preserved
 loop-number-preserved c =
     let f : ℕ × (Name × Sort) → Image = to_eval_image c.args.crossing.now.query.now c.args.crossing.now.moved.now c.args.crossing.now.source.now c.args.crossing.now.copies.now c.args.crossing.now.target.now
-        c.args.crossing.now.evaluated.now c.args.crossing.now.places.now in
+    c.args.crossing.now.evaluated.now c.args.crossing.now.places.now in
     let generators : List (Name × Sort) = c.as_slice-generators.result.now in
     let made : c.in_ok-generator_image.field-0 ≡ f (c.loop-number.number, get_or generators c.loop-number.number c.index-generators-number.result) =
     c.in_ok-generator_image.ensures c.index-generators-number.result.0 ∙ ap (λ (g : Name × Sort). f (c.loop-number.number, g)) c.index-generators-number.is in

@@ -50,8 +50,11 @@ answer_term-requires c =
     let within : e < length Q.target.entities = known Q c.is_well_sorted.ensures i a across.coeval c.is_instance.ensures e c.args.row c.requires.row in
     record {
       entity = omega (arith, across.answered.count, within);
-      few = omega (arith, count_is Q j.tables d.tables across.evaluated.tables answers across.answered e within,
-          few_rows Q.target d across.evaluated.given (well Q c.is_well_sorted.ensures h i a j d answers across c.requires.crossing.goes c.is_instance.ensures c.is_instance-2.ensures) c.is_instance-3.ensures e);
+      few = omega (
+        arith,
+        count_is Q j.tables d.tables across.evaluated.tables answers across.answered e within,
+        few_rows Q.target d across.evaluated.given (well Q c.is_well_sorted.ensures h i a j d answers across c.requires.crossing.goes c.is_instance.ensures c.is_instance-2.ensures) c.is_instance-3.ensures e,
+      );
       place = subst (λ (l : List ℕ). place_of (answers_at answers e) l < count_of d.tables e) (sym rows)
           (place_inside Q c.is_well_sorted.ensures h i a j d answers across c.requires.crossing.goes c.is_instance.ensures c.is_instance-2.ensures e c.args.row c.requires.row);
       given = across.evaluated.given ∙ ap (λ (S : Schema). given S d.tables) (sym (ap (λ (x : InstanceData). x.schema) across.evaluated.given));

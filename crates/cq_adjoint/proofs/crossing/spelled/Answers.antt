@@ -19,14 +19,26 @@ overflow_cast-nulls c =
 
 pub overflow_sub-generators : goal.overflow_sub-generators
 overflow_sub-generators c =
-    omega (arith, c.len-nulls.ensures, ap (λ (g : Algebra). length g.nulls) c.algebra.ensures.algebra, c.len-generators.ensures,
-    ap (λ (P : Presentation). length P.generators) c.presentation.ensures.presentation, generators_are c.args.evaluated.now.schema c.args.evaluated.now c.requires.given c.algebra.ensures.instance.well_formed)
+    omega (
+      arith,
+      c.len-nulls.ensures,
+      ap (λ (g : Algebra). length g.nulls) c.algebra.ensures.algebra,
+      c.len-generators.ensures,
+      ap (λ (P : Presentation). length P.generators) c.presentation.ensures.presentation,
+      generators_are c.args.evaluated.now.schema c.args.evaluated.now c.requires.given c.algebra.ensures.instance.well_formed,
+    )
 
 pub value_term-requires : goal.value_term-requires
 value_term-requires c =
-    omega (arith, c.len-nulls.ensures, ap (λ (g : Algebra). length g.nulls) c.algebra.ensures.algebra, c.len-generators.ensures,
-    ap (λ (P : Presentation). length P.generators) c.presentation.ensures.presentation, generators_are c.args.evaluated.now.schema c.args.evaluated.now c.requires.given c.algebra.ensures.instance.well_formed,
-    few c.args.evaluated.now c.requires.given c.algebra.ensures.instance)
+    omega (
+      arith,
+      c.len-nulls.ensures,
+      ap (λ (g : Algebra). length g.nulls) c.algebra.ensures.algebra,
+      c.len-generators.ensures,
+      ap (λ (P : Presentation). length P.generators) c.presentation.ensures.presentation,
+      generators_are c.args.evaluated.now.schema c.args.evaluated.now c.requires.given c.algebra.ensures.instance.well_formed,
+      few c.args.evaluated.now c.requires.given c.algebra.ensures.instance,
+    )
 
 pub returns : goal.returns
 returns c =

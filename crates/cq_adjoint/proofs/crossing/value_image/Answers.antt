@@ -34,8 +34,11 @@ value_of-requires c = (Plain c.requires.typed.0, ap (option_map Plain) c.require
 
 pub copied_value-requires : goal.copied_value-requires
 copied_value-requires c =
-    omega (arith, c.requires.crossing.first,
-    few_generators c.args.crossing.now.query.now c.is_well_sorted.ensures c.args.crossing.now.source.now c.args.crossing.now.copies.now c.requires.crossing.across.coeval c.is_instance.ensures c.is_instance-2.ensures)
+    omega (
+      arith,
+      c.requires.crossing.first,
+      few_generators c.args.crossing.now.query.now c.is_well_sorted.ensures c.args.crossing.now.source.now c.args.crossing.now.copies.now c.requires.crossing.across.coeval c.is_instance.ensures c.is_instance-2.ensures,
+    )
 
 pub sent_value-requires : goal.sent_value-requires
 sent_value-requires c =

@@ -19,9 +19,12 @@ use Rattle.cq_adjoint.proofs.eval_maps.answer_image.Goals as goal
 pub places_at-answers-requires : goal.places_at-answers-requires
 places_at-answers-requires c =
     let m = c.args.evaluating.now in
-    omega (arith, c.requires.evaluating.are.answered.count,
-    known m.query.now c.is_well_sorted.ensures m.moved.now m.source.now m.target.now m.evaluated.now m.there.now m.from.now m.places.now c.requires.evaluating.are c.requires.evaluating.goes
-    c.is_instance.ensures c.is_instance-2.ensures c.is_instance-3.ensures c.args.entity c.args.row c.requires.row)
+    omega (
+      arith,
+      c.requires.evaluating.are.answered.count,
+      known m.query.now c.is_well_sorted.ensures m.moved.now m.source.now m.target.now m.evaluated.now m.there.now m.from.now m.places.now c.requires.evaluating.are c.requires.evaluating.goes
+          c.is_instance.ensures c.is_instance-2.ensures c.is_instance-3.ensures c.args.entity c.args.row c.requires.row,
+    )
 
 pub at-requires : goal.at-requires
 at-requires c =
@@ -49,9 +52,12 @@ answer_term-requires c =
     known Q c.is_well_sorted.ensures h i j m.evaluated.now b from to are c.requires.evaluating.goes c.is_instance.ensures c.is_instance-2.ensures c.is_instance-3.ensures e c.args.row c.requires.row in
     record {
       entity = omega (arith, are.answered_there.count, within);
-      few = omega (arith, count_is Q j.tables b.tables are.target.tables to are.answered_there e within,
-          few_rows Q.target b are.target.given (well_there Q c.is_well_sorted.ensures h i j m.evaluated.now b from to are c.requires.evaluating.goes c.is_instance.ensures c.is_instance-2.ensures c.is_instance-3.ensures)
-          c.is_instance-4.ensures e);
+      few = omega (
+        arith,
+        count_is Q j.tables b.tables are.target.tables to are.answered_there e within,
+        few_rows Q.target b are.target.given (well_there Q c.is_well_sorted.ensures h i j m.evaluated.now b from to are c.requires.evaluating.goes c.is_instance.ensures c.is_instance-2.ensures c.is_instance-3.ensures)
+            c.is_instance-4.ensures e,
+      );
       place = subst (λ (l : List ℕ). place_of (answers_at to e) l < count_of b.tables e) (sym rows)
           (place_inside Q c.is_well_sorted.ensures h i j m.evaluated.now b from to are c.requires.evaluating.goes c.is_instance.ensures c.is_instance-2.ensures c.is_instance-3.ensures e c.args.row c.requires.row);
       given = are.target.given ∙ ap (λ (S : Schema). given S b.tables) (sym (ap (λ (x : InstanceData). x.schema) are.target.given));
