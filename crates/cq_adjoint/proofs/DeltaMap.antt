@@ -64,7 +64,7 @@ module _ (F : Mapping) (is : IsMapping F) (i j a b : InstanceData) (first : IsIn
   presented = subst (λ (x : Schema). IsPresentation x a.presentation) over start.presented
 
   -- the presentation of a, along F, holds in i
-  holds : Holds F.target (sigma F a.presentation) i.tables a.assignment
+  pub holds : Holds F.target (sigma F a.presentation) i.tables a.assignment
   holds = holds_pushed F is i.tables first_formed a.presentation presented a.assignment first_satisfies
       (subst (λ (x : Schema × Tables). Holds x.0 a.presentation x.1 a.assignment)
       (λ k. (over k, ap (λ (x : InstanceData). x.tables) from_pulled.instance k)) start_initial.0.holds)

@@ -16,6 +16,7 @@ pub mod FromDelta
 pub mod Within
 pub mod ThereAndBack
 pub mod IdentityMoves
+pub mod DeltaIdentities
 pub mod Copied
 pub mod CopiesMean
 pub mod AnswerPlaces

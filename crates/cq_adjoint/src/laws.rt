@@ -7,13 +7,13 @@ ghost use Rattle.cq_theory.specs.declared.term.TypeTerm.{TypeTerm};
 ghost use Rattle.cq_mapping.specs.Images.{generator_images};
 ghost use Rattle.cq_mapping.specs.MappingData.{MappingData as Mapping};
 ghost use Rattle.cq_mapping.specs.Mapping.{IsMapping};
-ghost use Rattle.cq_instance.specs.InstanceData.{InstanceData};
+ghost use Rattle.cq_instance.specs.InstanceData.{InstanceData, IsInstance};
 ghost use Rattle.cq_instance.specs.declared.transform.Transform.{Transform};
 ghost use Rattle.cq_transform.specs.Nulls.{IsInitial};
 ghost use Rattle.cq_transform.specs.Transforms.{GoesFrom};
-ghost use Rattle.cq_adjoint.specs.Moved.{IsSigmaOf};
+ghost use Rattle.cq_adjoint.specs.Moved.{IsSigmaOf, IsDeltaOf};
 ghost use Rattle.cq_transform.specs.Identities.{identity_images};
-ghost use Rattle.cq_adjoint.specs.Moves.{image_along, to_delta_images, from_delta_images};
+ghost use Rattle.cq_adjoint.specs.Moves.{image_along, delta_images, to_delta_images, from_delta_images};
 ghost use Rattle.cq_adjoint.specs.Units.{identity_of, unit_images, counit_images};
 ghost use Rattle.cq_adjoint.specs.Transposed.{Transposed};
 
@@ -42,4 +42,11 @@ pub fn units_of_identities()
 pub fn sigma_keeps_identities()
     ensures { (F : Mapping) (G : Generators) → map (image_along F) (identity_images G)
         ≡ identity_images (generator_images F G) }
+{}
+
+/// Along a mapping's delta the images of an identity are those of one.
+pub fn delta_keeps_identities()
+    ensures { (F : Mapping) (i a : InstanceData) → IsMapping F → IsInstance i → IsInstance a → IsDeltaOf F i a
+        → Holds i.schema i.presentation i.tables i.assignment
+        → delta_images F (identity_of i) i i a a ≡ identity_images a.presentation.generators }
 {}
