@@ -5,3 +5,8 @@ pub mod Spelling
 pub mod Spellable
 pub mod Nameable
 pub mod Units
+pub mod Copies
+pub mod QueryMoves
+pub mod TransposedQueries
+pub mod Crossing
+pub mod Evaluating

@@ -5,19 +5,31 @@
 //! mapping (`along`); `delta_map` and `to_delta` spell where generators go (`spelled`, `pulled`), and `from_delta_by`
 //! names it (`named`, `pushed`). Each makes the transform by its images, which are known to be right, so that no
 //! equation is tested again.
+//!
+//! Along a query, answers have places in tables (`rows`, `places`), and the generators of coeval stand in order
+//! (`layout`). `to_eval` sends rows to the answers that their copies name (`crossing`, `into_eval`), and `eval_map`
+//! applies a transform to each row of an answer (`eval_maps`).
 #![tactic(auto)]
 
 mod along;
+mod crossing;
+pub mod eval_maps;
+pub mod into_eval;
 pub mod laws;
+mod layout;
 mod limits;
 pub mod named;
+mod places;
 mod pulled;
 mod pushed;
+mod rows;
 mod sending;
 mod spelled;
 mod spelling;
 
 pub use along::sigma_map;
+pub use eval_maps::eval_map;
+pub use into_eval::to_eval;
 pub use named::Naming;
 pub use pulled::{delta_map, to_delta};
 pub use pushed::from_delta_by;
