@@ -96,8 +96,8 @@ returns-in-Composite-clause-withholds c =
     (λ j. a_composite c.in-Composite.source c.in-Composite.target (c.deref-in-Composite.ensures j) (c.deref-in-Composite-2.ensures j)) ∙ sym (ap posed_as c.in-Composite.is) in
     subst (λ (p : Posed). IfErr c.composed.result (Withholds c.args.depth c.args.place p)) posed (c.composed.ensures.withholds c.args.depth)
 
-pub of_mapping-requires-clause-preserves : goal.of_mapping-requires-clause-preserves
-of_mapping-requires-clause-preserves c =
+pub of_mapping-requires : goal.of_mapping-requires
+of_mapping-requires c =
     let posed = subst IsPosed c.in-MappingQuery.is c.requires.posed in
     subst (λ (F : MappingData). Preserves F) (sym c.deref-in-MappingQuery.ensures) posed
 
