@@ -99,7 +99,7 @@ returns-in-Composite-clause-withholds c =
 pub of_mapping-requires : goal.of_mapping-requires
 of_mapping-requires c =
     let posed = subst IsPosed c.in-MappingQuery.is c.requires.posed in
-    subst (λ (F : MappingData). Preserves F) (sym c.deref-in-MappingQuery.ensures) posed
+    record { preserves = subst (λ (F : MappingData). Preserves F) (sym c.deref-in-MappingQuery.ensures) posed }
 
 pub returns-in-MappingQuery-clause-stands : goal.returns-in-MappingQuery-clause-stands
 returns-in-MappingQuery-clause-stands c =
