@@ -19,3 +19,4 @@ pub mod SortedValues
 pub mod Composed
 pub mod Composites
 pub mod Placed
+pub mod BothWays
