@@ -26,6 +26,7 @@ mod groups;
 mod instance;
 mod key_index;
 pub mod laws;
+mod null_terms;
 mod standing;
 mod terms;
 mod transform;
