@@ -37,7 +37,7 @@ pub unmoved : (v : Value) (t : TypeTerm) (known : List (Option TypeTerm)) → ((
 unmoved v t known none = unmoved_from v t none 0 known
 
 module _ (n : ℕ) (t : TypeTerm) where
-  Settled : ℕ → List (Option TypeTerm) → Type 0
+  abbrev Settled : ℕ → List (Option TypeTerm) → Type 0
   Settled s known = (k : ℕ) → s + k ≡ n → slice_get known k ≡ Some None → ⊥
 
   settled_one : (s : ℕ) (x : Option TypeTerm) → ((s ≡ n) → x ≡ None → ⊥) → (b : Bool) → (n == s) ≡ b → or_else x (if b then Some t else None) ≡ x

@@ -1,8 +1,10 @@
 -- What equations teach of the terms of nulls.
-use Rattle.std.proofs.Common.{ℕ, zero, suc, List, [], ◌∷◌, ◌++◌, Option, Some, None, ◌≡◌, ◌<◌, ◌==◌, map, length, take, get_or, refl, sym, ap, subst, ◌∙◌, arith}
+use Rattle.std.proofs.Common.{ℕ, zero, suc, List, [], ◌∷◌, ◌++◌, Option, Some, None, ◌≡◌, ◌<◌, ◌+◌, ◌==◌, map, length, take, get_or, refl, sym, ap, subst, ◌∙◌, arith}
 use Rattle.std.specs.Prelude.{filter, slice_get, slice_index_or}
 use Rattle.std.specs.List.{flat_map}
-use Rattle.std.proofs.lemmas.Option.{slice_get-get_or}
+use Rattle.std.proofs.lemmas.List.{append-nil}
+use Rattle.std.proofs.lemmas.Grind.{flat_map-append}
+use Rattle.std.proofs.lemmas.Option.{slice_get-get_or, slice_get_within}
 use Rattle.cq_base.specs.declared.name.Name.{Name}
 use Rattle.cq_theory.specs.declared.presentation.Sort.{Sort}
 use Rattle.cq_theory.specs.declared.presentation.Sort.TheVariants.{Plain, Entity}
@@ -27,8 +29,9 @@ use Rattle.cq_instance.specs.InstanceData.{InstanceData, IsInstance, IsNameOf, n
 use Rattle.cq_instance.specs.Learning.{learned, learned_from, node_at, nodes_in, observed, side_nodes, IsReadable}
 use Rattle.cq_instance.specs.Terms.{AreStandings, IsTypeTermOf}
 use Rattle.cq_instance.proofs.CellsLearnt.{at_positions}
-use Rattle.cq_instance.proofs.FoundEquations.{found_at, found_group}
-use Rattle.cq_instance.proofs.Lists.{get-map_from, map-append, map-flat_map, flat_map_same}
+use Rattle.cq_instance.proofs.FoundEquations.{found_at, found_more}
+use Rattle.cq_instance.proofs.Learnt.{learned_then}
+use Rattle.cq_instance.proofs.Lists.{get-map_from, map-append, map-flat_map}
 use Rattle.cq_instance.proofs.OnWay.{ground_type}
 use Rattle.cq_instance.proofs.SubstitutedTerms.{value_of-substituted}
 use Rattle.cq_instance.proofs.TypedTerms.{IsTyped, EachTyped, args_typed}
@@ -137,11 +140,11 @@ module _ (i : InstanceData) (is : IsInstance i) where
     }
 
 -- the equation with one of the numbers of an entity's equations
-pub equation_at : (equations : List ObsEq) (entity : ℕ) (numbers : List ℕ) (k n : ℕ) → numbers ≡ positions (obs_eq_sources equations) entity → k < length numbers → n ≡ get_or numbers k n
-    → (e : ObsEq) × (slice_get equations n ≡ Some e) × (e.entity ≡ entity)
-equation_at equations entity numbers k n are within is =
-    let at : slice_get numbers k ≡ Some n = slice_get-get_or numbers k n within ∙ ap (λ m. Some m) (sym is) in
-    get-map_from (λ (e : ObsEq). e.entity) equations n entity (at_positions (obs_eq_sources equations) entity k n (ap (λ l. slice_get l k) (sym are) ∙ at))
+pub equation_at : (equations : List ObsEq) (entity : ℕ) (numbers : List ℕ) (k : ℕ) → numbers ≡ positions (obs_eq_sources equations) entity → k < length numbers
+    → (e : ObsEq) × (slice_get equations (get_or numbers k 0) ≡ Some e) × (e.entity ≡ entity)
+equation_at equations entity numbers k are within =
+    get-map_from (λ (e : ObsEq). e.entity) equations (get_or numbers k 0) entity
+    (at_positions (obs_eq_sources equations) entity k (get_or numbers k 0) (ap (λ l. slice_get l k) (sym are) ∙ slice_get-get_or numbers k 0 within))
 
 -- the parts of a term that is read are read there
 module _ (i : InstanceData) (standings : Assignment) (name : Option EntTerm) (t : TypeTerm) (h : IsReadable i standings name t) where
@@ -156,3 +159,53 @@ module _ (i : InstanceData) (standings : Assignment) (name : Option EntTerm) (t 
 
   pub part_readable : (u : TypeTerm) → IsTyped i.schema h.generators u → IsReadable i standings name u
   part_readable u typed = record { generators = h.generators; stand = h.stand; means = h.means; type = typed.0; typed = typed.1 }
+
+-- An equation of the schema that has one of the numbers of an entity's equations, at a row of the entity.
+module _ (i : InstanceData) (schema : IsSchema i.schema) (is : IsInstance i) (entity row : ℕ) (inside : row < count_of i.tables entity)
+    (numbers : List ℕ) (are : numbers ≡ positions (obs_eq_sources i.schema.obs_eqs) entity) (k : ℕ) (within : k < length numbers)
+    (equations : List ObsEq) (same : equations ≡ i.schema.obs_eqs) where
+  abbrev n : ℕ
+  n = get_or numbers k 0
+
+  pub number_within : n < length equations
+  number_within =
+      let e = equation_at i.schema.obs_eqs entity numbers k are within in
+      subst (λ (l : List ObsEq). n < length l) (sym same) (slice_get_within i.schema.obs_eqs n e.0 e.1)
+
+  module _ (e : ObsEq) (item : e ≡ get_or equations n e) where
+    pub equation_there : slice_get i.schema.obs_eqs n ≡ Some e
+    equation_there = ap (λ (l : List ObsEq). slice_get l n) (sym same) ∙ slice_get-get_or equations n e number_within ∙ ap (λ (x : ObsEq). Some x) (sym item)
+
+    of_entity : e.entity ≡ entity
+    of_entity =
+        let other = equation_at i.schema.obs_eqs entity numbers k are within in
+        let both : Some e ≡ Some other.0 = sym equation_there ∙ other.1 in
+        let one : e ≡ other.0 = cc in
+        ap (λ (x : ObsEq). x.entity) one ∙ other.2
+
+    module _ (name : EntTerm) (named : name ≡ name_at i.names entity row) where
+      row_named : IsNameOf i entity row name
+      row_named = subst (IsNameOf i entity row) (sym named) (is.meant entity row inside)
+
+      pub left_readable : IsReadable i (AtRow row ∷ []) (Some name) e.left
+      left_readable =
+          let sides : IsObsEq i.schema e = schema.obs_eqs n e equation_there in
+          observed_readable i is entity row inside name e.left sides.type row_named (ap (λ m. type_of i.schema (one_of m) e.left) (sym of_entity) ∙ sides.left)
+
+      pub right_readable : IsReadable i (AtRow row ∷ []) (Some name) e.right
+      right_readable =
+          let sides : IsObsEq i.schema e = schema.obs_eqs n e equation_there in
+          observed_readable i is entity row inside name e.right sides.type row_named (ap (λ m. type_of i.schema (one_of m) e.right) (sym of_entity) ∙ sides.right)
+
+      -- one equation more is learned from at the row
+      pub observed_more : (start now next : List (Option TypeTerm))
+          → now ≡ learned_from i start (flat_map (observed (name_at i.names entity row)) (found_at i.schema.obs_eqs (take k numbers)))
+          → next ≡ learned_from i now (side_nodes (Some name) e.left e.right)
+          → next ≡ learned_from i start (flat_map (observed (name_at i.names entity row)) (found_at i.schema.obs_eqs (take (k + 1) numbers)))
+      observed_more start now next before here =
+          let f : ObsEq → List TypeTerm = observed (name_at i.names entity row) in
+          let all : List ObsEq = found_at i.schema.obs_eqs (take k numbers) in
+          let nodes : side_nodes (Some name) e.left e.right ≡ f e = moved_sides name e ∙ ap (λ (t : EntTerm). observed t e) named in
+          let last : flat_map f (found_at i.schema.obs_eqs (take (k + 1) numbers)) ≡ flat_map f all ++ f e =
+          ap (flat_map f) (found_more i.schema.obs_eqs numbers k n e within refl equation_there) ∙ flat_map-append f all (e ∷ []) ∙ ap (λ l. flat_map f all ++ l) (append-nil (f e)) in
+          learned_then i start now next (flat_map f all) (f e) before (here ∙ ap (learned_from i now) nodes) ∙ ap (learned_from i start) (sym last)

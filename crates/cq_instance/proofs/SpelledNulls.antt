@@ -1,5 +1,5 @@
 -- The term of each null has the null's type and means it.
-use Rattle.std.proofs.Common.{ℕ, zero, suc, Bool, true, false, not, cond, List, [], ◌∷◌, Option, Some, None, ◌≡◌, ◌<◌, map, filter, length, find, refl, sym, ap, subst, ◌∙◌, arith, eq-eqb}
+use Rattle.std.proofs.Common.{ℕ, zero, suc, Bool, true, false, not, cond, List, [], ◌∷◌, Option, Some, None, ◌≡◌, ◌<◌, ◌+◌, map, filter, length, find, refl, sym, ap, subst, ◌∙◌, arith, eq-eqb}
 use Rattle.std.specs.Prelude.{slice_get, slice_index_or, nat_eq, if◌then◌else◌}
 use Rattle.std.specs.Option.{unwrap_or}
 use Rattle.std.specs.List.{filter_map, cons_option}
@@ -99,8 +99,7 @@ module _ (i : InstanceData) (schema : IsSchema i.schema) (is : IsInstance i) whe
       let within : label < length i.tables.algebra.nulls = slice_get_within i.tables.algebra.nulls label type at in
       let here : null_term_of i label ≡ own_term i label = term_at label within ∙ ap (λ b. if b then own_term i label else first_node i label) given in
       let n : ℕ = null_generator i.schema i.tables label in
-      let count = is.well_formed.entities in
-      (
+      let count = is.well_formed.entities in (
         ap (type_of i.schema i.presentation.generators) here ∙ fold-Gen (Option ℕ) (type_step i.schema i.presentation.generators) n
             ∙ ap (λ (P : Presentation). type_at (slice_get P.generators n)) canonical.presentation ∙ null_type i.schema i.tables count label ∙ at,
         ap (value_of i.tables i.assignment) here ∙ fold-Gen Value (value_step i.tables i.assignment) n
@@ -154,8 +153,7 @@ module _ (i : InstanceData) (schema : IsSchema i.schema) (is : IsInstance i) whe
         let means : value_of i.tables i.assignment first.member ≡ Null label = is_null_is (value_of i.tables i.assignment first.member) label first.passes in
         let there : slice_get i.tables.algebra.nulls label ≡ Some typed.0 =
         sym (values.fold-Null (Option ℕ) (value_type_step i.schema i.tables.algebra.nulls) label) ∙ ap (value_type i.schema i.tables.algebra.nulls) (sym means)
-        ∙ value_typed i.schema i.presentation i.tables i.assignment listed.lists.initial.holds first.member typed.0 typed.1 in
-        (
+        ∙ value_typed i.schema i.presentation i.tables i.assignment listed.lists.initial.holds first.member typed.0 typed.1 in (
           ap (type_of i.schema i.presentation.generators) here ∙ typed.1 ∙ ap (λ n. Some n) (same_type (slice_get i.tables.algebra.nulls label) typed.0 type there at),
           ap (value_of i.tables i.assignment) here ∙ means,
         )

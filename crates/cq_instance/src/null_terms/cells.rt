@@ -1,5 +1,5 @@
 //! The cells and the generators of types, as terms of nulls.
-ghost use Rattle.std.specs.Prelude.{◌≡◌, ◌<◌, IfSome, OnOk, length, map, slice_get};
+ghost use Rattle.std.specs.Prelude.{◌≡◌, ◌<◌, ◌∷◌, [], IfSome, OnOk, length, map, slice_get};
 ghost use Rattle.std.specs.List.{enumerate_from, filter_map, flat_map};
 ghost use Rattle.cq_theory.specs.Canonical.{below, edges_from};
 ghost use Rattle.cq_theory.specs.Groups.{positions, edge_sources};
@@ -57,6 +57,7 @@ fn learn_row(
         (map (λ a. Att a.0 (name_at instance.now.names entity row))
         (edges_from entity instance.now.schema.attributes))) }
 {
+    instance.is_instance();
     let name = instance.name_of(entity, row);
     for number in numbers {
         learn_cell(alloc, instance, known, name, row, *number)?;
@@ -77,6 +78,7 @@ fn learn_entity(
     ensures { OnOk result (known.new.items ≡ learned_from instance.now known.old.items
         (cell_nodes instance.now.schema instance.now.presentation instance.now.names entity)) }
 {
+    instance.is_instance();
     for row in 0..instance.count(entity) {
         learn_row(alloc, instance, known, entity, row, numbers)?;
     }
@@ -120,7 +122,13 @@ pub fn learn_generators(instance: &Instance, known: &mut Vec<Option<TypeTerm>>)
         (enumerate_from 0 instance.now.presentation.generators)) }
 {
     let standings = instance.standings();
-    for (number, generator) in instance.presentation().generators.as_slice().iter().enumerate() {
+    for (number, generator) in instance
+        .presentation()
+        .generators
+        .as_slice()
+        .iter()
+        .enumerate()
+    {
         match generator.1 {
             Sort::Plain(_) => learn_generator(known, &standings[number], number as u32),
             Sort::Entity(_) => (),

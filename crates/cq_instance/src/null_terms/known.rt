@@ -40,16 +40,15 @@ pub fn learn(known: &mut Vec<Option<TypeTerm>>, value: &Value, term: TypeTerm)
     requires { lacks known.old.items value.now ≡ true }
     ensures { known.new.items ≡ learned value.now term known.old.items }
 {
-    if let Value::Null(label) = value {
-        known[*label as usize] = Some(term);
+    match value {
+        Value::Const(_) => (),
+        Value::Null(label) => known[*label as usize] = Some(term),
+        Value::Fun(_, _) => (),
     }
 }
 
 /// The terms, with the first constant for a null of which none is known.
-pub fn terms_of(
-    alloc: Global,
-    known: Vec<Option<TypeTerm>>,
-) -> Result<Vec<TypeTerm>, AllocError>
+pub fn terms_of(alloc: Global, known: Vec<Option<TypeTerm>>) -> Result<Vec<TypeTerm>, AllocError>
     ensures { IfOk result (λ terms. terms.items ≡ map (λ term. unwrap_or term (any_term.Const (Named 0)))
         known.items) }
 {

@@ -13,9 +13,7 @@ use crate::instance::Instance;
 use crate::null_terms::known::{is_unknown, learn};
 use crate::standing::Standing;
 use cq_terms::copy_type_term;
-use cq_theory::{
-    EntTerm, Equation, TypeTerm, Value, observation_equations_by_entity, substitute,
-};
+use cq_theory::{EntTerm, Equation, TypeTerm, Value, observation_equations_by_entity, substitute};
 use std::alloc::{AllocError, Global};
 
 /// Where terms are read: the generators stand for these rows and values, and where they are one variable, a row's name
@@ -29,7 +27,7 @@ struct Site<'a> {
 
 /// The node of a term.
 fn node(alloc: Global, name: Option<&EntTerm>, term: &TypeTerm) -> Result<TypeTerm, AllocError>
-    ensures { IfOk result (λ made. made ≡ node_at (option_copied name) term.now) }
+    ensures { IfOk result (λ made. made ≡ node_at (option_copied name.entry) term.now) }
 {
     match name {
         Some(name) => substitute(alloc, term, name),
@@ -45,7 +43,7 @@ fn learn_node(
     value: &Value,
     term: &TypeTerm,
 ) -> Result<(), AllocError>
-    ensures { OnOk result (known.new.items ≡ learned value.now (node_at (option_copied name) term.now)
+    ensures { OnOk result (known.new.items ≡ learned value.now (node_at (option_copied name.entry) term.now)
         known.old.items) }
 {
     if is_unknown(known.as_slice(), value) {
@@ -164,7 +162,10 @@ fn learn_row(
         (flat_map (observed (name_at instance.now.names entity row))
         (filter (λ e. e.entity == entity) instance.now.schema.obs_eqs))) }
 {
-    let equations = instance.schema().obs_eqs.as_slice();
+    instance.is_instance();
+    let schema = instance.schema();
+    schema.is_well_sorted();
+    let equations = schema.obs_eqs.as_slice();
     let standings = [Standing::Row(row)];
     let site = Site {
         instance,
@@ -191,6 +192,7 @@ fn learn_entity(
     ensures { OnOk result (known.new.items ≡ learned_from instance.now known.old.items
         (observation_nodes instance.now.schema instance.now.presentation instance.now.names entity)) }
 {
+    instance.is_instance();
     for row in 0..instance.count(entity) {
         learn_row(alloc, instance, known, entity, row, numbers)?;
     }
