@@ -1,5 +1,6 @@
 pub mod Lines
 pub mod Images
+pub mod Moves
 pub mod Meanings
 pub mod Checks
 pub mod Folders

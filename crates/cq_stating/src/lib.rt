@@ -19,6 +19,7 @@ mod colimits;
 mod environment;
 mod gluing;
 mod line;
+mod moved;
 mod moves;
 mod posing;
 mod queries;
