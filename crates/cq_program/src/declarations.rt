@@ -12,7 +12,7 @@ use crate::models::meaning_of;
 use cq_base::{Hashing, Name};
 use cq_io::Folder;
 use cq_model::Instance;
-use cq_stating::{Environment, Meaning, ProgramRefusal, read_stated, state};
+use cq_stating::{Bound, Environment, Meaning, ProgramRefusal, moved_of, read_stated, state};
 use cq_syntax::{Decl, Program};
 use indexmap::IndexMap;
 use std::alloc::{AllocError, Global};
@@ -116,8 +116,9 @@ fn declare<F: Folder>(
         (environment_of env.old.names.entries) decl.now) }
 {
     let name = decl.name.clone()?;
+    let moved = moved_of(&decl.body)?;
     let meaning = judge(alloc, env, decl, folder, depth)?;
-    env.add(alloc, name, meaning)?;
+    env.add(alloc, name, Bound { meaning, moved })?;
     Ok(())
 }
 
@@ -156,13 +157,13 @@ fn instances_of(alloc: Global, env: Environment) -> Result<Vec<Named>, AllocErro
 
 fn instances_in(
     alloc: Global,
-    names: IndexMap<Name, Box<Meaning>, Hashing>,
+    names: IndexMap<Name, Box<Bound>, Hashing>,
 ) -> Result<Vec<Named>, AllocError>
     ensures { IfOk result (λ named. map listed_as named.items ≡ flat_map listings_in names.entries) }
 {
     let mut named = Vec::new(alloc);
-    for (name, meaning) in names {
-        push_instance(&mut named, name, meaning)?;
+    for (name, bound) in names {
+        push_instance(&mut named, name, bound)?;
     }
     Ok(named)
 }
@@ -170,12 +171,13 @@ fn instances_in(
 fn push_instance(
     named: &mut Vec<Named>,
     name: Name,
-    meaning: Box<Meaning>,
+    bound: Box<Bound>,
 ) -> Result<(), AllocError>
     ensures { OnOk result (map listed_as named.new.items
-        ≡ map listed_as named.old.items ++ listings_in (name, meaning)) }
+        ≡ map listed_as named.old.items ++ listings_in (name, bound)) }
 {
-    match Box::into_inner(meaning) {
+    let bound = Box::into_inner(bound);
+    match bound.into_meaning() {
         Meaning::Instance(schema, instance) => {
             named.push(Named {
                 name,

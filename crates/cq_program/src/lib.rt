@@ -9,13 +9,17 @@
 //! function each.
 #![tactic(auto)]
 
+mod carrying;
 mod declarations;
 mod duties;
 mod gluing;
 pub mod laws;
 mod made;
+mod mapped;
 mod models;
+mod movements;
 mod moves;
+mod queried;
 mod queries;
 
 pub use cq_parts::has_few_parts;

@@ -8,3 +8,4 @@ pub mod ColimitsPosed
 pub mod ToldParts
 pub mod ImagesPosed
 pub mod Readings
+pub mod Known

@@ -20,6 +20,7 @@ mod environment;
 mod gluing;
 mod line;
 mod moved;
+mod movements;
 mod moves;
 mod posing;
 mod queries;
@@ -29,10 +30,12 @@ mod transforms;
 mod used;
 
 pub use environment::{
-    Environment, Meaning, NamedColimit, NamedEnds, NamedInstance, NamedPart, NamedSchema,
+    Bound, Environment, Meaning, NamedColimit, NamedEnds, NamedInstance, NamedPart, NamedSchema,
     NamedTransform,
 };
 pub use line::{numbered_line, refusal_line};
+pub use moved::{Moved, Operation, moved_of};
+pub use movements::{Movement, Moving, Route};
 pub use posing::Statement;
 pub use reason::{ProgramRefusal, ReadCause, Reason};
 pub use stating::{FolderImport, Format, Stated, read_stated, state};

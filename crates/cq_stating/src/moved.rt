@@ -1,7 +1,7 @@
 //! By what an instance is declared that an operation makes of another one.
 ghost use Rattle.std.specs.Prelude.{◌≡◌, IfOk};
 ghost use Rattle.cq_syntax.specs.declared.program.Body.TheVariants.{Instance as Instanced};
-ghost use Rattle.cq_stating.specs.Moves.{moved_of as declared_by, same_operation};
+ghost use Rattle.cq_stating.specs.Moves.{back, moved_of as declared_by, same_operation};
 
 use cq_base::Name;
 use cq_syntax::{Body, InstanceExp, Spot};
@@ -17,9 +17,21 @@ pub enum Operation {
 }
 
 impl Operation {
+    /// The operation that goes the other way along the same mapping or query.
+    pub fn back(self) -> Operation
+        ensures { result ≡ back self }
+    {
+        match self {
+            Operation::Sigma => Operation::Delta,
+            Operation::Delta => Operation::Sigma,
+            Operation::Eval => Operation::Coeval,
+            Operation::Coeval => Operation::Eval,
+        }
+    }
+
     /// Whether this is the other operation.
     pub fn is(self, other: Operation) -> bool
-        ensures { result ≡ same_operation self.entry other }
+        ensures { result ≡ same_operation self other }
     {
         match self {
             Operation::Sigma => matches!(other, Operation::Sigma),
