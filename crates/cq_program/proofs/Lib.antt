@@ -10,6 +10,7 @@ pub mod OneReading
 pub mod OneMove
 pub mod OneMeaning
 pub mod Known
+pub mod Moving
 pub mod Breaches
 pub mod GluedPresentations
 pub mod Answered

@@ -12,6 +12,8 @@ use crate::carrying::Carrying;
 use cq_adjoint::{delta_map, from_delta, sigma_map, to_delta};
 use cq_mapping::Mapping;
 use cq_model::{Instance, Transform};
+use cq_instance::laws::null_terms_spell;
+use cq_stating::is_over_schema;
 use cq_theory::SizeRefusal;
 use cq_transform::identity;
 use std::alloc::{AllocError, Global};
@@ -109,7 +111,8 @@ pub fn counit(
     let Ok(itself) = own(alloc, there) else {
         return Err(SizeRefusal::Memory);
     };
-    mapping.is_well_sorted();
+    is_over_schema(finish);
     finish.is_instance();
+    null_terms_spell();
     from_delta(alloc, mapping, &itself, there, start, finish, there)
 }

@@ -12,6 +12,8 @@ use cq_adjoint::{coeval_map, eval_map, from_eval, to_eval};
 use cq_eval::answers;
 use cq_model::{Instance, Transform};
 use cq_query::Query;
+use cq_instance::laws::null_terms_spell;
+use cq_stating::is_over_schema;
 use cq_theory::SizeRefusal;
 use std::alloc::{AllocError, Global};
 
@@ -133,7 +135,8 @@ pub fn query_counit(
     let Ok(found) = all_answers(alloc, query, finish) else {
         return Err(SizeRefusal::Memory);
     };
-    query.is_well_sorted();
+    is_over_schema(finish);
     finish.is_instance();
+    null_terms_spell();
     from_eval(alloc, query, &itself, there, start, finish, there, found.as_slice())
 }
