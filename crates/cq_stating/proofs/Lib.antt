@@ -9,3 +9,4 @@ pub mod ToldParts
 pub mod ImagesPosed
 pub mod Readings
 pub mod Known
+pub mod Fitting
