@@ -28,7 +28,7 @@ use std::io;
 use std::process::ExitCode;
 
 /// The tables, by the names of their files.
-const TABLES: [&str; 20] = [
+const TABLES: [&str; 21] = [
     "syntax",
     "statuses",
     "models",
@@ -36,6 +36,7 @@ const TABLES: [&str; 20] = [
     "imports",
     "entries",
     "transforms",
+    "forms",
     "mappings",
     "mapping_parts",
     "query_parts",

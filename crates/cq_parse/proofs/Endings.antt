@@ -12,7 +12,7 @@ use Rattle.cq_rules.specs.Rule.{Spells, Refuses, Before, seq, many}
 use Rattle.cq_rules.proofs.Absent.{NoEnd, no_end}
 use Rattle.cq_syntax.specs.declared.part.TermSyn.{TermSyn}
 use Rattle.cq_syntax.specs.Grammar as grammar
-use Rattle.cq_syntax.specs.Grammar.{name, text, spot, value, setting, options, placed_path, placed_term, group, constants, functions, edge, equation, path_equation, of_entity, observation, member, pair, bind, open_type, typeside, schema_literal, schema, colimit, key_image, att_value, att_image, map_block, mapping_literal, mapping, query_key, query_block, query_literal, query, instance_literal, coproduct, instance, transform_literal, transform, declaration, lone_term, program}
+use Rattle.cq_syntax.specs.Grammar.{name, text, spot, value, setting, options, placed_path, placed_term, group, constants, functions, edge, equation, path_equation, of_entity, observation, member, pair, bind, open_type, typeside, schema_literal, schema, colimit, key_image, att_value, att_image, map_block, mapping_literal, mapping, query_key, query_block, query_literal, query, instance_literal, coproduct, instance, transform_literal, move_form, transform, declaration, lone_term, program}
 use Rattle.cq_parse.specs.declared.refusal.ParseRefusal.{ParseRefusal}
 use Rattle.cq_parse.specs.declared.refusal.ParseRefusal.TheVariants as refusals
 use Rattle.cq_parse.specs.Parsed.{EndsAtEnd, IsRefusedBy, IsTermRefused, RefusedBy, refusal_for}
@@ -36,7 +36,7 @@ before_end R s us e tail a none is r =
     last_end us e tail b.0 b.4.0 (none b.0 r.0.0 b.3) (ap (λ z. same (kind_class z) classes.End) is) (b.2 ∙ ap (λ z. b.0 ++ z) b.4.1)
 
 body_no_end : (us : List Token) (x : _) → Spells (seq options (many declaration)) us x → NoEnd us
-unfolding name text spot value setting options placed_path placed_term group constants functions edge equation path_equation of_entity observation member pair bind open_type typeside schema_literal schema colimit key_image att_value att_image map_block mapping_literal mapping query_key query_block query_literal query instance_literal coproduct grammar.import instance transform_literal transform declaration
+unfolding name text spot value setting options placed_path placed_term group constants functions edge equation path_equation of_entity observation member pair bind open_type typeside schema_literal schema colimit key_image att_value att_image map_block mapping_literal mapping query_key query_block query_literal query instance_literal coproduct grammar.import instance transform_literal move_form transform declaration
 body_no_end us x h = no_end (seq options (many declaration)) refl us x h
 
 pub program_ends : EndsAtEnd program

@@ -147,6 +147,7 @@ fn has_few_in_transform(expression: &TransformExp) -> bool
     match expression {
         TransformExp::Literal(literal) => room_after(u32::MAX, literal.images.len()).is_some(),
         TransformExp::Identity(_) => true,
+        TransformExp::Move(_, _, _, _, _) => true,
     }
 }
 

@@ -6,7 +6,7 @@ use Rattle.cq_productions.specs.Rules.{comma_name, plus_spot}
 use Rattle.cq_syntax.specs.Grammar.{name, spot, value, setting, placed_path, placed_term, group, edge, equation, path_equation, of_entity}
 use Rattle.cq_syntax.specs.Grammar.{observation, member, pair, bind, key_image, att_value, att_image, map_block, query_key, query_block}
 use Rattle.cq_syntax.specs.Grammar.{open_type, typeside, options, schema, schema_literal, colimit, mapping, mapping_literal, query, query_literal}
-use Rattle.cq_syntax.specs.Grammar.{instance, instance_literal, coproduct, text, transform, transform_literal, declaration}
+use Rattle.cq_syntax.specs.Grammar.{instance, instance_literal, coproduct, text, transform, transform_literal, move_form, declaration}
 
 pub spots : decides (many spot) ≡ true
 unfolding spot
@@ -88,5 +88,5 @@ pub declarations : decides (many declaration) ≡ true
 unfolding name text spot value setting options placed_path placed_term group grammar.constants grammar.functions edge equation path_equation
     of_entity observation member pair bind open_type typeside schema_literal schema colimit key_image att_value att_image map_block
     mapping_literal mapping query_key query_block query_literal query instance_literal coproduct grammar.import instance transform_literal
-    transform declaration
+    move_form transform declaration
 declarations = refl

@@ -113,6 +113,18 @@ from_generators = seq (section (is classes.Generators) group) from_equations
 abbrev pub images : Rule (List Bind × List Opt)
 images = seq (section (is classes.Generators) bind) options
 
+-- what moves a transform, and what is moved
+abbrev pub operands : Rule (Spot × Spot)
+operands = seq spot spot
+
+-- NAME "->" NAME
+abbrev pub two_ends : Rule (Spot × Spot)
+two_ends = seq spot (skip (is classes.Arrow) spot)
+
+-- NAME NAME ":" NAME "->" NAME
+abbrev pub moved_between : Rule ((Spot × Spot) × (Spot × Spot))
+moved_between = seq operands (skip (is classes.Colon) two_ends)
+
 -- the sections of a block of a mapping, from its attributes and its keys on, and behind the entity's name
 abbrev pub attribute_images : Rule (List AttImage)
 attribute_images = section (is classes.Attributes) att_image

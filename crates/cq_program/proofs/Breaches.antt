@@ -15,15 +15,18 @@ use Rattle.cq_instance.specs.Given.{is_oversized}
 use Rattle.cq_mapping.specs.Moved.{delta_tables}
 use Rattle.cq_compose.specs.Composite.{composite, is_large}
 use Rattle.cq_stating.specs.declared.reason.Reason.{Reason}
-use Rattle.cq_stating.specs.Meanings.{Meant, Environment, Checked}
-use Rattle.cq_stating.specs.Checks.{Posed, a_typeside, a_schema, a_mapping, an_identity, a_colimit, an_inclusion, a_query, a_composite, a_mapping_query, a_presentation, a_made, a_delta, an_eval, a_transform, Stated, stated_by}
+use Rattle.cq_stating.specs.Meanings.{Meant, Environment, Checked, binding}
+use Rattle.cq_stating.specs.Checks.{Posed, a_typeside, a_schema, a_mapping, an_identity, a_colimit, an_inclusion, a_query, a_composite, a_mapping_query, a_presentation, a_made, a_delta, an_eval, a_transform, a_move, Stated, stated_by}
 use Rattle.cq_stating.specs.declared.reason.ReadCause.{ReadCause}
 use Rattle.cq_stating.specs.declared.reason.ReadCause.TheVariants.{Failed}
 use Rattle.cq_stating.specs.Folders.{Reads, TellsFault, LacksFile}
 use Rattle.cq_program.specs.Program.{IsModelOf, Stands, TellsMade, Fails, ExceedsAtDuty, ExceedsAtQueryDuty, ExceedsAtModel, Exceeds, IsLimit, IsWithinLimits, Declares, Breach, by_rule, by_fault, by_failure, by_limit, Follow, Listing, Means, Breaks, Lacks}
 use Rattle.cq_program.proofs.Constants.{one_clash}
 use Rattle.cq_program.proofs.Unkept.{kept, one_unkept, kept_query, one_unsound}
+use Rattle.cq_instance.specs.declared.transform.Image.{Image}
+use Rattle.cq_transform.specs.Composing.{has_long}
 use Rattle.cq_program.proofs.OneEval.{within_answers, one_answer_told}
+use Rattle.cq_program.proofs.OneMove.{one_images}
 use Rattle.cq_program.proofs.OneTransform.{none_broken, one_broken}
 use Rattle.cq_program.proofs.Limits.{none_exceeded}
 use Rattle.cq_program.proofs.OneReading.{reads_one, tells_one, reads_unfaulted, reads_there}
@@ -43,7 +46,7 @@ follows_to : (files : List File) (env : Environment) (before : List Decl) (d : D
     → Follow (Some files) env (before ++ d ∷ rest) after → FollowsTo files env before d
 follows_to files env [] d rest after follow = record { mid = env; m = follow.0; follow = refl; declares = follow.1 }
 follows_to files env (x ∷ before) d rest after follow =
-    let to = follows_to files (env ++ (x.name, follow.0) ∷ []) before d rest after follow.2 in
+    let to = follows_to files (env ++ binding x follow.0 ∷ []) before d rest after follow.2 in
     record { mid = to.mid; m = to.m; follow = (follow.0, follow.1, to.follow); declares = to.declares }
 
 exceeds_at_duty : (depth : ℕ) (F : MappingData) (reason : Reason) (duty : ℕ) → ExceedsAtDuty depth F reason duty → IsLimit reason
@@ -76,6 +79,7 @@ exceeds_limit depth (a_made n S P) reason exceeds = exceeds_at_model depth S P r
 exceeds_limit depth (a_delta n F M) reason exceeds = absurd exceeds
 exceeds_limit depth (an_eval n Q M) reason exceeds = absurd exceeds
 exceeds_limit depth (a_transform e images) reason exceeds = absurd exceeds
+exceeds_limit depth (a_move v) reason exceeds = absurd exceeds
 
 -- a limit that is kept isn't passed
 not_passed : (b : Bool) → b ≡ false → b ≡ true → ⊥
@@ -115,6 +119,9 @@ no_failure (a_made n S P) m reason stands fails = none_made S P reason stands.0 
 no_failure (a_delta n F M) m reason stands fails = not_passed (is_oversized (delta_tables F M)) stands.1 fails.1
 no_failure (an_eval n Q M) m reason stands fails = within_answers Q M stands.0 reason stands.2 fails
 no_failure (a_transform e images) m reason stands fails = none_broken e images stands.0 reason stands.2 fails
+no_failure (a_move v) m reason stands fails =
+    let same : fails.1.0 ≡ stands.0.images = one_images v.movement v.ends fails.1.0 stands.0.images fails.1.1 stands.3 in
+    not_passed (has_long stands.0.images) stands.4 (subst (λ (l : List Image). has_long l ≡ true) same fails.1.2)
 
 one_failure : (posed : Posed) (reason other : Reason) → Fails posed reason → Fails posed other → reason ≡ other
 one_failure (a_typeside T) reason other fails fails' = absurd fails
@@ -131,6 +138,7 @@ one_failure (a_made n S P) reason other fails fails' = one_made S P reason other
 one_failure (a_delta n F M) reason other fails fails' = fails.0 ∙ sym fails'.0
 one_failure (an_eval n Q M) reason other fails fails' = one_answer_told Q M reason other fails fails'
 one_failure (a_transform e images) reason other fails fails' = one_broken e images reason other fails fails'
+one_failure (a_move v) reason other fails fails' = fails.0 ∙ sym fails'.0
 
 no_rule : (check : Checked Stated) (stated : Stated) (at : Place × Reason) → check ≡ Ok stated → check ≡ Err at → ⊥
 no_rule check stated at is is' = cc
@@ -272,8 +280,8 @@ module _ (files : List File) (rest rest' : List Decl) (d d' : Decl) (place place
       let tails : before ++ d ∷ rest ≡ before' ++ d' ∷ rest' = cc in
       let declares' : Declares (Some files) env x follow'.0 = subst (λ (y : Decl). Declares (Some files) env y follow'.0) (sym decl) follow'.1 in
       let one : follow.0 ≡ follow'.0 = declares_one files env x follow.0 follow'.0 follow.1 declares' in
-      let more : env ++ (x'.name, follow'.0) ∷ [] ≡ env ++ (x.name, follow.0) ∷ [] = λ i. env ++ ((sym decl i).name, sym one i) ∷ [] in
-      one_fault_from before before' (env ++ (x.name, follow.0) ∷ []) mid mid' tails follow.2 (subst (λ (e : Environment). Follow (Some files) e before' mid') more follow'.2) broken broken'
+      let more : env ++ binding x' follow'.0 ∷ [] ≡ env ++ binding x follow.0 ∷ [] = λ i. env ++ binding (sym decl i) (sym one i) ∷ [] in
+      one_fault_from before before' (env ++ binding x follow.0 ∷ []) mid mid' tails follow.2 (subst (λ (e : Environment). Follow (Some files) e before' mid') more follow'.2) broken broken'
 
 -- over some files a program breaks one rule first, and else only a limit is told
 pub one_refusal : (depth : ℕ) (files : List File) (program : Program) (place place' : Place) (reason reason' : Reason)

@@ -12,7 +12,7 @@ use Rattle.cq_stating.specs.declared.reason.ProgramRefusal.{ProgramRefusal}
 use Rattle.cq_stating.specs.declared.reason.ProgramRefusal.TheVariants as program_refusal
 use Rattle.cq_stating.specs.declared.reason.ReadCause.{ReadCause}
 use Rattle.cq_stating.specs.declared.reason.ReadCause.TheVariants.{Absent, TooLong, Failed}
-use Rattle.cq_stating.specs.Meanings.{Environment, Meant}
+use Rattle.cq_stating.specs.Meanings.{Environment, Meant, binding}
 use Rattle.cq_stating.specs.Checks.{Posed, Stated, stated_by}
 use Rattle.cq_stating.specs.Folders.{Told, Reads, LacksFile, Raised}
 use Rattle.cq_stating.specs.Environment.{Refuses}
@@ -23,7 +23,7 @@ use Rattle.cq_program.specs.Judging.{AddsDecl, RefusesDecl, RefusesProgram, With
 pub Follow-more : (told : Told) (env : Environment) (ds : List Decl) (d : Decl) (mid after : Environment)
     → Follow told env ds mid → AddsDecl told mid d after → Follow told env (ds ++ d ∷ []) after
 Follow-more told env [] d mid after is adds = subst (λ (e : Environment). AddsDecl told e d after) is adds
-Follow-more told env (x ∷ ds) d mid after follow adds = (follow.0, follow.1, Follow-more told (env ++ (x.name, follow.0) ∷ []) ds d mid after follow.2 adds)
+Follow-more told env (x ∷ ds) d mid after follow adds = (follow.0, follow.1, Follow-more told (env ++ binding x follow.0 ∷ []) ds d mid after follow.2 adds)
 
 rose_before : (a b c : ℕ) → a ≤ b → Rose b c → Rose a c
 rose_before a b c le rose = omega (arith, le, rose)

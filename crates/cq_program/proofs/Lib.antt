@@ -7,7 +7,10 @@ pub mod Limits
 pub mod OneEval
 pub mod OneTransform
 pub mod OneReading
+pub mod OneMove
 pub mod OneMeaning
+pub mod Known
+pub mod Moving
 pub mod Breaches
 pub mod GluedPresentations
 pub mod Answered

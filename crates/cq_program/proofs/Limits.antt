@@ -15,7 +15,7 @@ use Rattle.cq_query.specs.QueryData.{QueryData}
 use Rattle.cq_query.specs.Duties.{all_duties}
 use Rattle.cq_check.specs.Answers.{IsTooDeep, IsTooWide, IsFirstTooDeep, IsFirstTooWide, over, equation_of, frozen_over, duty_equation}
 use Rattle.cq_stating.specs.declared.reason.Reason.{Reason}
-use Rattle.cq_stating.specs.Checks.{Posed, a_typeside, a_schema, a_mapping, an_identity, a_colimit, an_inclusion, a_query, a_composite, a_mapping_query, a_presentation, a_made, a_delta, an_eval, a_transform}
+use Rattle.cq_stating.specs.Checks.{Posed, a_typeside, a_schema, a_mapping, an_identity, a_colimit, an_inclusion, a_query, a_composite, a_mapping_query, a_presentation, a_made, a_delta, an_eval, a_transform, a_move}
 use Rattle.cq_program.specs.Program.{IsDecided, IsDecidedOver, IsQueryDutyDecided, ClosesWithin, KeepsLimits, Exceeds, ExceedsAtDuty, ExceedsAtQueryDuty, ExceedsAtModel}
 
 not_deep : (depth : ℕ) (S : SchemaData) (P : Presentation) (e : Equation) → IsDecidedOver depth S P e → IsTooDeep S P e depth → ⊥
@@ -71,3 +71,4 @@ none_exceeded depth (a_made n S P) reason keeps exceeds = none_at_model depth S 
 none_exceeded depth (a_delta n F M) reason keeps exceeds = exceeds
 none_exceeded depth (an_eval n Q M) reason keeps exceeds = exceeds
 none_exceeded depth (a_transform e images) reason keeps exceeds = exceeds
+none_exceeded depth (a_move v) reason keeps exceeds = exceeds

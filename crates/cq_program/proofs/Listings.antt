@@ -13,5 +13,5 @@ one_more (Some listing) rest = refl
 pub listings_all : (entries : List Entry) → flat_map listings_in entries ≡ filter_map listing_of (environment_of entries)
 listings_all [] = refl
 listings_all (entry ∷ entries) =
-    one_more (listing_named entry.0 (meant entry.1.value)) (flat_map listings_in entries)
-    ∙ ap (cons_option (listing_named entry.0 (meant entry.1.value))) (listings_all entries)
+    one_more (listing_named entry.0 (meant entry.1.value.meaning)) (flat_map listings_in entries)
+    ∙ ap (cons_option (listing_named entry.0 (meant entry.1.value.meaning))) (listings_all entries)

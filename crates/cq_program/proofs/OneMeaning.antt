@@ -11,10 +11,13 @@ use Rattle.cq_theory.specs.Listed.{Lists}
 use Rattle.cq_theory.proofs.OneModel.{same_models, same_assignments, same_lists_of_names}
 use Rattle.cq_instance.specs.InstanceData.{InstanceData}
 use Rattle.cq_instance.specs.Given.{given}
-use Rattle.cq_stating.specs.Meanings.{Meant, instance, transform, Environment}
-use Rattle.cq_stating.specs.Checks.{Posed, a_typeside, a_schema, a_mapping, an_identity, a_colimit, an_inclusion, a_query, a_composite, a_mapping_query, a_presentation, a_made, a_delta, an_eval, a_transform, Stated}
+use Rattle.cq_stating.specs.Meanings.{Meant, binding, instance, transform, Environment}
+use Rattle.cq_stating.specs.Checks.{Posed, a_typeside, a_schema, a_mapping, an_identity, a_colimit, an_inclusion, a_query, a_composite, a_mapping_query, a_presentation, a_made, a_delta, an_eval, a_transform, a_move, Stated}
 use Rattle.cq_stating.specs.Folders.{Reads}
+use Rattle.cq_instance.specs.declared.transform.Image.{Image}
+use Rattle.cq_stating.specs.Posing.{IsTransformOf}
 use Rattle.cq_program.proofs.OneEval.{one_eval}
+use Rattle.cq_program.proofs.OneMove.{one_images}
 use Rattle.cq_program.proofs.OneReading.{reads_one}
 use Rattle.cq_program.proofs.OneTransform.{one_transform}
 use Rattle.cq_program.specs.Program.{IsModelOf, Stands, Declares, Follow, Listing, listing_of, Means}
@@ -57,6 +60,9 @@ stands_one (a_delta name F M) m n h g = h.0 ∙ sym g.0
 stands_one (an_eval name Q M) m n h g =
     h.1 ∙ ap (λ (N : Tables). instance name (given Q.target N)) (one_eval Q M h.0 g.0 h.2.target h.2.eval g.2.eval) ∙ sym g.1
 stands_one (a_transform e images) m n h g = h.1 ∙ ap (transform e) (one_transform e images h.0 g.0 h.2 g.2) ∙ sym g.1
+stands_one (a_move v) m n h g =
+    let same : h.0.images ≡ g.0.images = one_images v.movement v.ends h.0.images g.0.images h.3 g.3 in
+    h.1 ∙ ap (transform v.ends) (one_transform v.ends g.0.images h.0 g.0 (subst (λ (l : List Image). IsTransformOf v.ends l h.0) same h.2) g.2) ∙ sym g.1
 
 pub declares_one : (files : List File) (env : Environment) (d : Decl) (m n : Meant) → Declares (Some files) env d m → Declares (Some files) env d n → m ≡ n
 declares_one files env d m n h g =
@@ -71,7 +77,7 @@ pub follow_one : (files : List File) (ds : List Decl) (env after other : Environ
 follow_one files [] env after other h g = h ∙ sym g
 follow_one files (d ∷ ds) env after other h g =
     let one : h.0 ≡ g.0 = declares_one files env d h.0 g.0 h.1 g.1 in
-    follow_one files ds (env ++ (d.name, g.0) ∷ []) after other (subst (λ (m : Meant). Follow (Some files) (env ++ (d.name, m) ∷ []) ds after) one h.2) g.2
+    follow_one files ds (env ++ binding d g.0 ∷ []) after other (subst (λ (m : Meant). Follow (Some files) (env ++ binding d m ∷ []) ds after) one h.2) g.2
 
 pub one_meaning : (files : List File) (program : Program) (L M : List Listing) → Means (Some files) program L → Means (Some files) program M → L ≡ M
 one_meaning files program L M h g = h.listed ∙ ap (filter_map listing_of) (follow_one files program.decls [] h.env g.env h.follow g.follow) ∙ sym g.listed

@@ -3,7 +3,7 @@ use Rattle.std.proofs.Common.{sym, subst}
 use Rattle.std.specs.Prelude.{Result, Ok, Err, IfOk}
 use Rattle.cq_base.specs.declared.name.Name.{Name}
 use Rattle.cq_stating.specs.Meanings.{Meant, Environment}
-use Rattle.cq_stating.specs.Checks.{Posed, a_typeside, a_schema, a_mapping, an_identity, a_colimit, an_inclusion, a_query, a_composite, a_mapping_query, a_presentation, a_made, a_delta, an_eval, a_transform}
+use Rattle.cq_stating.specs.Checks.{Posed, a_typeside, a_schema, a_mapping, an_identity, a_colimit, an_inclusion, a_query, a_composite, a_mapping_query, a_presentation, a_made, a_delta, an_eval, a_transform, a_move}
 use Rattle.cq_stating.specs.Environment.{IsModelled, IsPrinted, WillSettle}
 use Rattle.cq_program.specs.Program.{Stands}
 use Rattle.cq_stating.specs.Posing.{IsGrounded}
@@ -28,6 +28,7 @@ stands_settled env name (a_made n S P) m grounded stands modelled =
 stands_settled env name (a_delta n F M) m grounded stands modelled = subst (WillSettle env name) (sym stands.0) (grounded, subst IsModelled stands.0 modelled)
 stands_settled env name (an_eval n Q M) m grounded stands modelled = subst (WillSettle env name) (sym stands.1) (grounded, subst IsModelled stands.1 modelled)
 stands_settled env name (a_transform e images) m grounded stands modelled = subst (WillSettle env name) (sym stands.1) (grounded, stands.2.goes)
+stands_settled env name (a_move v) m grounded stands modelled = subst (WillSettle env name) (sym stands.1) (grounded, stands.2.goes)
 
 pub settled_result : {X R : Type 0} (view : X → Meant) (env : Environment) (name : Name) (posed : Posed) (r : Result X R) → IsGrounded env name posed
     → IfOk r (λ x. Stands posed (view x)) → IfOk r (λ x. IsModelled (view x)) → IfOk r (λ x. WillSettle env name (view x))

@@ -19,7 +19,7 @@ use Rattle.cq_stating.specs.declared.reason.ReadCause.{ReadCause}
 use Rattle.cq_stating.specs.declared.reason.ProgramRefusal.TheVariants as program_refusal
 use Rattle.cq_io.specs.FolderData.{FolderData}
 use Rattle.cq_stating.specs.Folders.{Told, LacksFile, Raised}
-use Rattle.cq_stating.specs.Meanings.{Environment, Meant}
+use Rattle.cq_stating.specs.Meanings.{Environment, Meant, binding}
 use Rattle.cq_stating.specs.Checks.{Stated, stated_by, Posed}
 use Rattle.cq_program.specs.Program.{Breach, Breaks, Lacks, Fails, Declares, Exceeds, IsModelOf}
 
@@ -37,7 +37,7 @@ TellsConstants at first second program_refusal.Memory = Unit {0}
 
 -- the declaration meets its rules, and its name is put behind the others
 abbrev pub AddsDecl : Told → Environment → Decl → Environment → Type 0
-AddsDecl told env d after = (m : Meant) × Declares told env d m × (after ≡ env ++ (d.name, m) ∷ [])
+AddsDecl told env d after = (m : Meant) × Declares told env d m × (after ≡ env ++ binding d m ∷ [])
 
 -- a file that the declaration reads was not read
 pub record IsUnread (old new : FolderData) (env : Environment) (d : Decl) (file : List ℕ) (cause : ReadCause) : Type 0 where

@@ -1,3 +1,5 @@
+pub mod Carrying
+pub mod Movements
 pub mod Program
 pub mod Judging
 pub mod Named

@@ -9,4 +9,4 @@ listed_as named = record { name = named.name; schema = named.schema; instance = 
 
 -- the listing of an entry, if it is an instance
 abbrev pub listings_in : Entry → List Listing
-listings_in entry = option_to_list (listing_named entry.0 (meant entry.1.value))
+listings_in entry = option_to_list (listing_named entry.0 (meant entry.1.value.meaning))

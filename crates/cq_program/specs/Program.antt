@@ -35,12 +35,14 @@ use Rattle.cq_query.specs.Answers.{IsEval}
 use Rattle.cq_compose.specs.Composite.{composite, is_large}
 use Rattle.cq_compose.specs.MappingQuery.{mapping_query}
 use Rattle.cq_eval.specs.Refused.{NoneHasMany, IsFirstMany, IsTooLarge}
+use Rattle.cq_transform.specs.Composing.{has_long}
 use Rattle.cq_transform.specs.Refusals.{IsBrokenAt}
 use Rattle.cq_check.specs.Answers.{IsDerivedWithin, IsNotPreserved, IsTooDeepDuty, IsTooWideDuty, IsUnsoundAt, IsTooDeepAt, IsTooWideAt}
-use Rattle.cq_stating.specs.Meanings.{Meant, typeside, schema, colimit, mapping, query, instance, transform, Ends, Environment}
+use Rattle.cq_program.specs.Movements.{AreImages, AreLong}
+use Rattle.cq_stating.specs.Meanings.{Binding, binding, Meant, typeside, schema, colimit, mapping, query, instance, transform, Ends, Environment}
 use Rattle.cq_stating.specs.Checks.{Posed, a_typeside}
 use Rattle.cq_stating.specs.Checks.{a_schema, a_mapping, an_identity, a_colimit, an_inclusion, a_query, a_presentation}
-use Rattle.cq_stating.specs.Checks.{a_composite, a_mapping_query, a_made, a_delta, an_eval, a_transform}
+use Rattle.cq_stating.specs.Checks.{a_composite, a_mapping_query, a_made, a_delta, an_eval, a_transform, a_move}
 use Rattle.cq_stating.specs.Checks.{Stated, stated_by}
 use Rattle.cq_stating.specs.Posing.{IsTransformOf}
 use Rattle.cq_stating.specs.declared.reason.ReadCause.{ReadCause}
@@ -66,7 +68,8 @@ pub record IsEvalWithin (Q : QueryData) (M N : Tables) : Type 0 where
 -- The duties of an identity and of an inclusion are equations of the target, and so derivable; those of a composite and of a mapping's query
 -- follow from the duties of what they are made of. A composite keeps the limits on queries. Tables that are pulled back or that are
 -- answers stand with their canonical presentation, within the limits on tables; a presentation that is made of others stands by its listed
--- model, within the limit on presentations. Images stand by the one homomorphism that agrees with them.
+-- model, within the limit on presentations. Images stand by the one homomorphism that agrees with them, and a transform that an operation
+-- moves, a unit and a counit by that of their images, within the limit on images.
 abbrev pub Stands : Posed → Meant → Type 0
 Stands (a_typeside T) m = m ≡ typeside T
 Stands (a_schema S) m = m ≡ schema S
@@ -82,6 +85,9 @@ Stands (a_made n S P) m = (i : InstanceData) × (m ≡ instance n i) × IsModelO
 Stands (a_delta n F M) m = (m ≡ instance n (given F.source (delta_tables F M))) × (is_oversized (delta_tables F M) ≡ false)
 Stands (an_eval n Q M) m = (N : Tables) × (m ≡ instance n (given Q.target N)) × IsEvalWithin Q M N
 Stands (a_transform e images) m = (t : Transform) × (m ≡ transform e t) × IsTransformOf e images t
+Stands (a_move v) m =
+    (t : Transform) × (m ≡ transform v.ends t) × IsTransformOf v.ends t.images t × AreImages v.movement v.ends t.images
+    × (has_long t.images ≡ false)
 
 -- A presentation makes two constants equal: the least that equals a greater one and the least such greater one, whose texts the reason
 -- tells.
@@ -119,8 +125,8 @@ TellsAnswers Q M reason = TellsMany Q M reason ⊎ ((reason ≡ Oversized) × Is
 abbrev pub TellsBroken : Ends → List Image → Reason → Type 0
 TellsBroken e images reason = (n : ℕ) × (reason ≡ Broken n) × IsBrokenAt e.start.instance e.finish.instance images n
 
--- what is posed breaks the rule that each duty is derivable, that no two constants are equal, that tables, presentations and composites
--- keep their limits, or that equations hold
+-- what is posed breaks the rule that each duty is derivable, that no two constants are equal, that tables, presentations, composites and
+-- images keep their limits, or that equations hold
 abbrev pub Fails : Posed → Reason → Type 0
 Fails (a_typeside T) reason = ⊥
 Fails (a_schema S) reason = ⊥
@@ -136,6 +142,7 @@ Fails (a_made n S P) reason = TellsMade S P reason
 Fails (a_delta n F M) reason = (reason ≡ Oversized) × (is_oversized (delta_tables F M) ≡ true)
 Fails (an_eval n Q M) reason = TellsAnswers Q M reason
 Fails (a_transform e images) reason = TellsBroken e images reason
+Fails (a_move v) reason = (reason ≡ Oversized) × AreLong (AreImages v.movement v.ends)
 
 -- the two limits of a duty and of a model: the depth, and the number of rows
 abbrev pub IsLimit : Reason → Type 0
@@ -178,6 +185,7 @@ Exceeds depth (a_made n S P) reason = (is_too_large P ≡ false) × ExceedsAtMod
 Exceeds depth (a_delta n F M) reason = ⊥
 Exceeds depth (an_eval n Q M) reason = ⊥
 Exceeds depth (a_transform e images) reason = ⊥
+Exceeds depth (a_move v) reason = ⊥
 
 -- the declaration meets its rules over what a folder tells, and its name stands for m
 pub record Declares (told : Told) (env : Environment) (d : Decl) (m : Meant) : Type 0 where
@@ -203,7 +211,7 @@ pub data Breach (depth : ℕ) (told : Told) (env : Environment) (d : Decl) (plac
 -- the declarations, in order, meet their rules, and lead from one environment to another
 abbrev pub Follow : Told → Environment → List Decl → Environment → Type 0
 Follow told env [] after = after ≡ env
-Follow told env (d ∷ ds) after = (m : Meant) × Declares told env d m × Follow told (env ++ (d.name, m) ∷ []) ds after
+Follow told env (d ∷ ds) after = (m : Meant) × Declares told env d m × Follow told (env ++ binding d m ∷ []) ds after
 
 -- an instance, with its name and the printed name of its schema
 pub record Listing : Type 0 where
@@ -220,7 +228,7 @@ listing_named name (query n t Q) = None
 listing_named name (instance n i) = Some (record { name = name; schema = n; instance = i })
 listing_named name (transform e t) = None
 
-abbrev pub listing_of : Name × Meant → Option Listing
+abbrev pub listing_of : Binding → Option Listing
 listing_of entry = listing_named entry.0 entry.1
 
 -- The declarations, in order, meet their rules, and L lists the instances among them.
@@ -283,6 +291,7 @@ KeepsLimits depth (a_made n S P) = ClosesWithin depth S P
 KeepsLimits depth (a_delta n F M) = Unit {0}
 KeepsLimits depth (an_eval n Q M) = Unit {0}
 KeepsLimits depth (a_transform e images) = Unit {0}
+KeepsLimits depth (a_move v) = Unit {0}
 
 -- the same of each declaration of a program, after those before it
 abbrev pub IsWithinLimits : ℕ → Told → Program → Type 0

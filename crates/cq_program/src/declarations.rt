@@ -12,7 +12,7 @@ use crate::models::meaning_of;
 use cq_base::{Hashing, Name};
 use cq_io::Folder;
 use cq_model::Instance;
-use cq_stating::{Environment, Meaning, ProgramRefusal, read_stated, state};
+use cq_stating::{Bound, Environment, Meaning, ProgramRefusal, moved_of, read_stated, state};
 use cq_syntax::{Decl, Program};
 use indexmap::IndexMap;
 use std::alloc::{AllocError, Global};
@@ -34,9 +34,11 @@ pub struct Named {
 /// typeside declaration, the parts of a colimit over the stated one, the two instances of a transform over one schema,
 /// the second of two queries that are composed starts where the first ends (told at the second), and instances are over
 /// the schemas that the form wants, told at the second of two ends, at the first part or operand that doesn't fit, and
-/// else at the instance; a colimit has a part under the name of which the mapping is wanted; two transforms that are
-/// pushed out start in one instance declaration (`NotASpan`, at the second); its parts break no rule (`Duplicate` to
-/// `TooLarge`, at the first such part) and none is missing (`Missing`).
+/// else at the instance or the transform that is moved; a colimit has a part under the name of which the mapping is
+/// wanted; two transforms that are pushed out start in one instance declaration (`NotASpan`, at the second); the ends
+/// of a transform that is moved, of a unit and of a counit are declared by the operations that make them
+/// (`WrongOperand`, at the start, or else at the finish); its parts break no rule (`Duplicate` to `TooLarge`, at the
+/// first such part) and none is missing (`Missing`).
 ///
 /// The parts of a colimit have at most 1,000,000 entities, foreign keys, attributes and equations (`Oversized`), and no
 /// two give one name and none a name of the typeside (`NameClash`) or a name of over 255 bytes (`LongName`), in the
@@ -45,12 +47,13 @@ pub struct Named {
 /// Then the duties of a mapping or a query literal are derived, in order: the first that isn't is not derivable
 /// (`NotPreserved`), or not decided within the depth (`DutyDepth`) or with 200,000 rows (`DutyRows`). The equations of
 /// the instance from which a transform goes hold in the one to which it goes (`Broken`, with the first that doesn't). A
-/// composed query has at most 16,000,000 variables in a block and no term of over 1,024 symbols, and a presentation
-/// that is made of others at most 16,000,000 generators and no such term (`Oversized`). The model of an instance has at
-/// most 200,000 rows at each depth up to the given one (`TooManyRows`), closes within it (`Depth`) and makes no two
-/// constants equal (`Inconsistent`, with the texts of the least such pair). A query has at most 1,000,000 answers for
-/// each entity (`TooManyAnswers`, with the first that has more), and tables that are pulled back or are answers have at
-/// most 16,000,000 rows and nulls and no value of over 1,024 symbols (`Oversized`).
+/// composed query has at most 16,000,000 variables in a block and no term of over 1,024 symbols, a presentation that is
+/// made of others at most 16,000,000 generators and no such term, and a transform that is moved, a unit and a counit no
+/// such image (`Oversized`). The model of an instance has at most 200,000 rows at each depth up to the given one
+/// (`TooManyRows`), closes within it (`Depth`) and makes no two constants equal (`Inconsistent`, with the texts of the
+/// least such pair). A query has at most 1,000,000 answers for each entity (`TooManyAnswers`, with the first that has
+/// more), and tables that are pulled back or are answers have at most 16,000,000 rows and nulls and no value of over
+/// 1,024 symbols (`Oversized`).
 ///
 /// `DutyDepth`, `DutyRows`, `Depth` and `TooManyRows` are limits and no rules: each is told only where the duty or the
 /// presentation gives leave for it. Want of memory may come at any time.
@@ -116,8 +119,9 @@ fn declare<F: Folder>(
         (environment_of env.old.names.entries) decl.now) }
 {
     let name = decl.name.clone()?;
+    let moved = moved_of(&decl.body)?;
     let meaning = judge(alloc, env, decl, folder, depth)?;
-    env.add(alloc, name, meaning)?;
+    env.add(alloc, name, Bound { meaning, moved })?;
     Ok(())
 }
 
@@ -156,13 +160,13 @@ fn instances_of(alloc: Global, env: Environment) -> Result<Vec<Named>, AllocErro
 
 fn instances_in(
     alloc: Global,
-    names: IndexMap<Name, Box<Meaning>, Hashing>,
+    names: IndexMap<Name, Box<Bound>, Hashing>,
 ) -> Result<Vec<Named>, AllocError>
     ensures { IfOk result (λ named. map listed_as named.items ≡ flat_map listings_in names.entries) }
 {
     let mut named = Vec::new(alloc);
-    for (name, meaning) in names {
-        push_instance(&mut named, name, meaning)?;
+    for (name, bound) in names {
+        push_instance(&mut named, name, bound)?;
     }
     Ok(named)
 }
@@ -170,12 +174,13 @@ fn instances_in(
 fn push_instance(
     named: &mut Vec<Named>,
     name: Name,
-    meaning: Box<Meaning>,
+    bound: Box<Bound>,
 ) -> Result<(), AllocError>
     ensures { OnOk result (map listed_as named.new.items
-        ≡ map listed_as named.old.items ++ listings_in (name, meaning)) }
+        ≡ map listed_as named.old.items ++ listings_in (name, bound)) }
 {
-    match Box::into_inner(meaning) {
+    let bound = Box::into_inner(bound);
+    match bound.into_meaning() {
         Meaning::Instance(schema, instance) => {
             named.push(Named {
                 name,

@@ -4,18 +4,23 @@
 //! (`cq_stating`): its names and parts are checked, and the files that it names are read. What is left then gets its
 //! *meaning* (`models`): the duties of a mapping or a query are derived (`duties`), a presentation gets its listed
 //! model, instances are moved along mappings (`moves`) and queries (`queries`) or glued (`gluing`), and what calls
-//! answer that make a model is told in one way (`made`). That a program means one thing, and breaks one rule first, are
+//! answer that make a model is told in one way (`made`). Transforms are moved with them (`movements`, and of these
+//! `mapped` along mappings and `queried` along queries). That a program means one thing, and breaks one rule first, are
 //! laws (`laws`). A later form adds a case to `Posed` and its check in `cq_stating`, a case to `Stands` here, and a
 //! function each.
 #![tactic(auto)]
 
+mod carrying;
 mod declarations;
 mod duties;
 mod gluing;
 pub mod laws;
 mod made;
+mod mapped;
 mod models;
+mod movements;
 mod moves;
+mod queried;
 mod queries;
 
 pub use cq_parts::has_few_parts;

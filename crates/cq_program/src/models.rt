@@ -12,6 +12,7 @@ ghost use Rattle.cq_stating.specs.Checks.{a_mapping, an_identity, a_presentation
 
 use crate::duties::unmet;
 use crate::gluing::{glued, summed};
+use crate::movements::moved;
 use crate::moves::{pulled, pushed};
 use crate::queries::{answered, checked_query, composed, of_mapping, read_backwards};
 use cq_base::{Name, Place, Seq};
@@ -81,6 +82,7 @@ pub fn meaning_of(
         Statement::Broken(images) => {
             Err(ProgramRefusal::Broken(place, Reason::Broken(images.number)))
         }
+        Statement::Move(moving) => moved(alloc, place, moving),
     }
 }
 

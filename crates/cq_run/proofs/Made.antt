@@ -37,8 +37,8 @@ AreStated env = All (λ entry. IsStated entry.1) env
 follow_stated : (told : Told) (env : Environment) (ds : List Decl) (after : Environment) → AreStated env → Follow told env ds after → AreStated after
 follow_stated told env [] after stated is = subst AreStated (sym is) stated
 follow_stated told env (d ∷ ds) after stated follow =
-    follow_stated told (env ++ (d.name, follow.0) ∷ []) ds after
-    (All-push (λ (entry : Name × Meant). IsStated entry.1) env (d.name, follow.0) stated (follow.1.posed, follow.1.stands)) follow.2
+    follow_stated told (env ++ binding d follow.0 ∷ []) ds after
+    (All-push (λ (entry : Binding). IsStated entry.1) env (binding d follow.0) stated (follow.1.posed, follow.1.stands)) follow.2
 
 -- the listing of an entry
 listed_stated : (name : Name) (m : Meant) (found : Listing) → listing_named name m ≡ Some found → IsStated m → IsMade found
@@ -53,12 +53,12 @@ listed_stated name (instance n i) found is stated =
     subst IsMade same stated
 
 -- the listing of a name, where an entry has none, or one that may have the name
-listing_chosen : (entry : Name × Meant) (name : List ℕ) (found first : Listing) (rest : Option Listing) (b : Bool) → IsStated entry.1 → (rest ≡ Some found → IsMade found)
+listing_chosen : (entry : Binding) (name : List ℕ) (found first : Listing) (rest : Option Listing) (b : Bool) → IsStated entry.1 → (rest ≡ Some found → IsMade found)
     → listing_of entry ≡ Some first → cond b (Some first) rest ≡ Some found → IsMade found
 listing_chosen entry name found first rest true stated more listed is = listed_stated entry.0 entry.1 found (listed ∙ is) stated
 listing_chosen entry name found first rest false stated more listed is = more is
 
-listing_made : (entry : Name × Meant) (name : List ℕ) (found : Listing) (rest : List Listing) (o : Option Listing) → IsStated entry.1
+listing_made : (entry : Binding) (name : List ℕ) (found : Listing) (rest : List Listing) (o : Option Listing) → IsStated entry.1
     → (instance_named name rest ≡ Some found → IsMade found) → listing_of entry ≡ o → instance_named name (cons_option o rest) ≡ Some found → IsMade found
 listing_made entry name found rest None stated more listed is = more is
 listing_made entry name found rest (Some first) stated more listed is =
@@ -68,8 +68,8 @@ listing_made entry name found rest (Some first) stated more listed is =
 listings_made : (env : Environment) → AreStated env → (name : List ℕ) (found : Listing) → instance_named name (filter_map listing_of env) ≡ Some found → IsMade found
 listings_made [] stated name found is = absurd (cc is)
 listings_made (entry ∷ env) stated name found is =
-    listing_made entry name found (filter_map listing_of env) (listing_of entry) (All-head (λ (e : Name × Meant). IsStated e.1) entry env stated)
-    (λ more. listings_made env (All-tail (λ (e : Name × Meant). IsStated e.1) entry env stated) name found more) refl is
+    listing_made entry name found (filter_map listing_of env) (listing_of entry) (All-head (λ (e : Binding). IsStated e.1) entry env stated)
+    (λ more. listings_made env (All-tail (λ (e : Binding). IsStated e.1) entry env stated) name found more) refl is
 
 no_entries : AreStated []
 no_entries n d within = absurd (omega (arith, within))
@@ -117,3 +117,4 @@ made_initial found (a_delta n F M, stands) well sorted =
 made_initial found (an_eval n Q M, stands) well sorted =
     given_initial Q.target stands.0 found.instance (same_instance found.schema n found.instance _ stands.1) well sorted
 made_initial found (a_transform e images, stands) well sorted = let is = stands.1 in absurd (cc is)
+made_initial found (a_move v, stands) well sorted = let is = stands.1 in absurd (cc is)

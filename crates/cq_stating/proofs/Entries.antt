@@ -1,20 +1,21 @@
 -- The table of the declared names as an environment.
 use Rattle.std.proofs.Common.{Bool, true, false, List, [], ◌∷◌, ◌++◌, ◌≡◌, Option, Some, None, refl, ap}
-use Rattle.std.specs.Prelude.{Box, cond, if◌then◌else◌, is_some, option_map}
+use Rattle.std.specs.Prelude.{Box, cond, if◌then◌else◌, is_some, option_and_then, option_map}
 use Rattle.std.specs.Map.{lookup}
 use Rattle.std.specs.declared.alloc.Global.{Global}
 use Rattle.indexmap.specs.IndexMap.{insert_entry}
 use Rattle.cq_base.specs.declared.name.Name.{Name}
 use Rattle.cq_base.specs.Names.{same_name}
-use Rattle.cq_stating.specs.declared.environment.Meaning.{Meaning}
-use Rattle.cq_stating.specs.Meanings.{Meant, meant_by}
+use Rattle.cq_stating.specs.declared.environment.Bound.{Bound}
+use Rattle.cq_stating.specs.declared.moved.Moved.{Moved}
+use Rattle.cq_stating.specs.Meanings.{Environment, Meant, meant_by, moved_under}
 use Rattle.cq_stating.specs.Environment.{Entry, environment_of, meant}
 
-abbrev pub meant_in : Option (Box Meaning Global) → Option Meant
-meant_in found = option_map (λ m. meant m.value) found
+abbrev pub meant_in : Option (Box Bound Global) → Option Meant
+meant_in found = option_map (λ bound. meant bound.value.meaning) found
 
-one_more : (b : Bool) (entry : Entry) (found : Option (Box Meaning Global)) (rest : Option Meant) → meant_in found ≡ rest
-    → meant_in (cond b (Some entry.1) found) ≡ (if b then Some (meant entry.1.value) else rest)
+one_more : (b : Bool) (entry : Entry) (found : Option (Box Bound Global)) (rest : Option Meant) → meant_in found ≡ rest
+    → meant_in (cond b (Some entry.1) found) ≡ (if b then Some (meant entry.1.value.meaning) else rest)
 one_more true entry found rest h = refl
 one_more false entry found rest h = h
 
@@ -24,14 +25,28 @@ meant_by-lookup [] name = refl
 meant_by-lookup (entry ∷ entries) name =
     one_more (same_name name entry.0) entry (lookup (same_name name) entries) (meant_by (environment_of entries) name) (meant_by-lookup entries name)
 
+-- and is moved by what the table has under it
+abbrev pub moved_in : Option (Box Bound Global) → Option Moved
+moved_in found = option_and_then (λ bound. bound.value.moved) found
+
+one_moved : (b : Bool) (entry : Entry) (found : Option (Box Bound Global)) (rest : Option Moved) → moved_in found ≡ rest
+    → moved_in (cond b (Some entry.1) found) ≡ (if b then entry.1.value.moved else rest)
+one_moved true entry found rest h = refl
+one_moved false entry found rest h = h
+
+pub moved_under-lookup : (entries : List Entry) (name : Name) → moved_in (lookup (same_name name) entries) ≡ moved_under (environment_of entries) name
+moved_under-lookup [] name = refl
+moved_under-lookup (entry ∷ entries) name =
+    one_moved (same_name name entry.0) entry (lookup (same_name name) entries) (moved_under (environment_of entries) name) (moved_under-lookup entries name)
+
 -- a name that the table doesn't have comes last
-pub inserted : (entries : List Entry) (name : Name) (m : Box Meaning Global) → is_some (lookup (same_name name) entries) ≡ false
-    → environment_of (insert_entry same_name entries name m) ≡ environment_of entries ++ (name, meant m.value) ∷ []
+pub inserted : (entries : List Entry) (name : Name) (m : Box Bound Global) → is_some (lookup (same_name name) entries) ≡ false
+    → environment_of (insert_entry same_name entries name m) ≡ environment_of entries ++ (name, meant m.value.meaning, m.value.moved) ∷ []
 inserted [] name m none = refl
 inserted (entry ∷ entries) name m none = step (same_name name entry.0) none (inserted entries name m)
   where
     step : (b : Bool) → is_some (cond b (Some entry.1) (lookup (same_name name) entries)) ≡ false
-        → (is_some (lookup (same_name name) entries) ≡ false → environment_of (insert_entry same_name entries name m) ≡ environment_of entries ++ (name, meant m.value) ∷ [])
-        → environment_of (if b then (entry.0, m) ∷ entries else entry ∷ insert_entry same_name entries name m) ≡ environment_of (entry ∷ entries) ++ (name, meant m.value) ∷ []
+        → (is_some (lookup (same_name name) entries) ≡ false → environment_of (insert_entry same_name entries name m) ≡ environment_of entries ++ (name, meant m.value.meaning, m.value.moved) ∷ [])
+        → environment_of (if b then (entry.0, m) ∷ entries else entry ∷ insert_entry same_name entries name m) ≡ environment_of (entry ∷ entries) ++ (name, meant m.value.meaning, m.value.moved) ∷ []
     step true none rest = cc
-    step false none rest = ap (λ (env : List (Name × Meant)). (entry.0, meant entry.1.value) ∷ env) (rest none)
+    step false none rest = ap (λ (env : Environment). (entry.0, meant entry.1.value.meaning, entry.1.value.moved) ∷ env) (rest none)

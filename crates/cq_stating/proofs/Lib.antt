@@ -8,3 +8,5 @@ pub mod ColimitsPosed
 pub mod ToldParts
 pub mod ImagesPosed
 pub mod Readings
+pub mod Known
+pub mod Fitting

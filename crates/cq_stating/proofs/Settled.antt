@@ -9,9 +9,11 @@ use Rattle.cq_base.specs.Names.{same_name}
 use Rattle.cq_syntax.specs.declared.part.Spot.{Spot}
 use Rattle.cq_theory.specs.SchemaData.{SchemaData}
 use Rattle.cq_theory.specs.TypesideData.{TypesideData}
-use Rattle.cq_stating.specs.Meanings.{Meant, PartMeant, ColimitMeant, colimit, colimit_used, as_colimit, schema_by, schema_named, typeside, schema, mapping, query, instance, transform, Ends, SchemaMeant, MappingMeant, QueryMeant, InstanceMeant, TransformMeant, Environment, Checked, meant_by, as_schema, as_mapping, as_query, as_instance, as_transform, schema_used, mapping_used, query_used, instance_used, transform_used}
+use Rattle.cq_instance.specs.InstanceData.{InstanceData}
+use Rattle.cq_stating.specs.declared.moved.Moved.{Moved}
+use Rattle.cq_stating.specs.Meanings.{Binding, Meant, PartMeant, ColimitMeant, colimit, colimit_used, as_colimit, schema_by, schema_named, typeside, schema, mapping, query, instance, transform, Ends, SchemaMeant, MappingMeant, QueryMeant, InstanceMeant, TransformMeant, Environment, Checked, meant_by, as_schema, as_mapping, as_query, as_instance, as_transform, schema_used, mapping_used, query_used, instance_used, transform_used}
 use Rattle.cq_stating.specs.Checks.{Posed, Stated, at_once, a_folder}
-use Rattle.cq_stating.specs.Environment.{IsPartSettled, AreEnds, IsPrinted, IsTermModel, IsSettled, AreSettled, WillSettle}
+use Rattle.cq_stating.specs.Environment.{IsPartSettled, AreEnds, IsPrinted, IsTermModel, IsSettled, IsMovedAs, IsMovedBy, IsKnown, AreSettled, WillSettle}
 use Rattle.cq_stating.specs.declared.stating.Format.{Format}
 use Rattle.cq_stating.specs.declared.stating.Format.TheVariants.{First, Second}
 use Rattle.cq_stating.specs.Folders.{Told, Reads}
@@ -22,7 +24,7 @@ stays : (b : Bool) (n m : Meant) (o p : Option Meant) → (if b then Some n else
 stays true n m o p is more = is
 stays false n m o p is more = more is
 
-meant_by-more : (env : Environment) (name : Name) (m : Meant) (last : Name × Meant) → meant_by env name ≡ Some m → meant_by (env ++ last ∷ []) name ≡ Some m
+meant_by-more : (env : Environment) (name : Name) (m : Meant) (last : Binding) → meant_by env name ≡ Some m → meant_by (env ++ last ∷ []) name ≡ Some m
 meant_by-more [] name m last is = absurd (cc is)
 meant_by-more (entry ∷ env) name m last is =
     stays (same_name name entry.0) entry.1 m (meant_by env name) (meant_by (env ++ last ∷ []) name) is (meant_by-more env name m last)
@@ -32,17 +34,17 @@ schema_stays : (o p : Option Meant) (S : SchemaMeant) → ((m : Meant) → o ≡
 schema_stays None p S more is = absurd (cc is)
 schema_stays (Some m) p S more is = ap (option_and_then schema_by) (more m refl) ∙ is
 
-schema_named-more : (env : Environment) (name : Name) (S : SchemaMeant) (last : Name × Meant) → schema_named env name ≡ Some S → schema_named (env ++ last ∷ []) name ≡ Some S
+schema_named-more : (env : Environment) (name : Name) (S : SchemaMeant) (last : Binding) → schema_named env name ≡ Some S → schema_named (env ++ last ∷ []) name ≡ Some S
 schema_named-more env name S last is = schema_stays (meant_by env name) (meant_by (env ++ last ∷ []) name) S (λ m. meant_by-more env name m last) is
 
-printed-more : (env : Environment) (n : Name) (S : SchemaData) (last : Name × Meant) → IsPrinted env n S → IsPrinted (env ++ last ∷ []) n S
+printed-more : (env : Environment) (n : Name) (S : SchemaData) (last : Binding) → IsPrinted env n S → IsPrinted (env ++ last ∷ []) n S
 printed-more env n S last printed = (printed.0, schema_named-more env n (record { name = n; typeside = printed.0; schema = S }) last printed.1)
 
-parts-more : (env : Environment) (last : Name × Meant) (J : SchemaData) (parts : List PartMeant) → All (IsPartSettled env J) parts → All (IsPartSettled (env ++ last ∷ []) J) parts
+parts-more : (env : Environment) (last : Binding) (J : SchemaData) (parts : List PartMeant) → All (IsPartSettled env J) parts → All (IsPartSettled (env ++ last ∷ []) J) parts
 parts-more env last J parts all =
     All-weaker (IsPartSettled env J) (IsPartSettled (env ++ last ∷ []) J) (λ part is. (is.0, printed-more env part.source part.inclusion.source last is.1, is.2)) parts all
 
-settled-more : (env : Environment) (last : Name × Meant) (m : Meant) → IsSettled env m → IsSettled (env ++ last ∷ []) m
+settled-more : (env : Environment) (last : Binding) (m : Meant) → IsSettled env m → IsSettled (env ++ last ∷ []) m
 settled-more env last (typeside T) settled = tt
 settled-more env last (schema S) settled = (meant_by-more env S.typeside (typeside S.schema.typeside) last settled.0, schema_named-more env S.name S last settled.1)
 settled-more env last (colimit c) settled = (
@@ -70,49 +72,80 @@ pass_by : (b : Bool) (n m : Meant) (o p : Option Meant) → is_some (if b then S
 pass_by true n m o p new rest = absurd (cc new)
 pass_by false n m o p new rest = rest new
 
-found_new : (env : Environment) (name : Name) (m : Meant) → is_some (meant_by env name) ≡ false → meant_by (env ++ (name, m) ∷ []) name ≡ Some m
-found_new [] name m new = ap (λ (b : Bool). if b then Some m else None) (same_text_itself name)
-found_new (entry ∷ env) name m new =
-    pass_by (same_name name entry.0) entry.1 m (meant_by env name) (meant_by (env ++ (name, m) ∷ []) name) new (found_new env name m)
+found_new : (env : Environment) (name : Name) (m : Meant) (v : Option Moved) → is_some (meant_by env name) ≡ false → meant_by (env ++ (name, m, v) ∷ []) name ≡ Some m
+found_new [] name m v new = ap (λ (b : Bool). if b then Some m else None) (same_text_itself name)
+found_new (entry ∷ env) name m v new =
+    pass_by (same_name name entry.0) entry.1 m (meant_by env name) (meant_by (env ++ (name, m, v) ∷ []) name) new (found_new env name m v new)
 
 -- a schema that is printed under the new name or under an earlier one
-named_new : (env : Environment) (name : Name) (S : SchemaMeant) (m : Meant) → schema_by m ≡ Some S → is_some (meant_by env name) ≡ false
-    → (S.name ≡ name) ⊎ (schema_named env S.name ≡ Some S) → schema_named (env ++ (name, m) ∷ []) S.name ≡ Some S
-named_new env name S m by new (inl same) = ap (schema_named (env ++ (name, m) ∷ [])) same ∙ ap (option_and_then schema_by) (found_new env name m new) ∙ by
-named_new env name S m by new (inr there) = schema_named-more env S.name S (name, m) there
+named_new : (env : Environment) (name : Name) (S : SchemaMeant) (m : Meant) (v : Option Moved) → schema_by m ≡ Some S → is_some (meant_by env name) ≡ false
+    → (S.name ≡ name) ⊎ (schema_named env S.name ≡ Some S) → schema_named (env ++ (name, m, v) ∷ []) S.name ≡ Some S
+named_new env name S m v by new (inl same) = ap (schema_named (env ++ (name, m, v) ∷ [])) same ∙ ap (option_and_then schema_by) (found_new env name m v new) ∙ by
+named_new env name S m v by new (inr there) = schema_named-more env S.name S (name, m, v) there
 
-settles : (env : Environment) (name : Name) (m : Meant) → is_some (meant_by env name) ≡ false → WillSettle env name m → IsSettled (env ++ (name, m) ∷ []) m
-settles env name (typeside T) new will = tt
-settles env name (schema S) new will =
-    (meant_by-more env S.typeside (typeside S.schema.typeside) (name, schema S) will.0, named_new env name S (schema S) refl new will.1)
-settles env name (colimit c) new will = (
-  meant_by-more env c.schema.typeside (typeside c.schema.schema.typeside) (name, colimit c) will.0,
-  named_new env name c.schema (colimit c) refl new (inl will.1),
-  parts-more env (name, colimit c) c.schema.schema c.parts will.2,
+settles : (env : Environment) (name : Name) (m : Meant) (v : Option Moved) → is_some (meant_by env name) ≡ false → WillSettle env name m → IsSettled (env ++ (name, m, v) ∷ []) m
+settles env name (typeside T) v new will = tt
+settles env name (schema S) v new will =
+    (meant_by-more env S.typeside (typeside S.schema.typeside) (name, schema S, v) will.0, named_new env name S (schema S) v refl new will.1)
+settles env name (colimit c) v new will = (
+  meant_by-more env c.schema.typeside (typeside c.schema.schema.typeside) (name, colimit c, v) will.0,
+  named_new env name c.schema (colimit c) v refl new (inl will.1),
+  parts-more env (name, colimit c, v) c.schema.schema c.parts will.2,
 )
-settles env name (mapping n t F) new will = settled-more env (name, mapping n t F) (mapping n t F) will
-settles env name (query n t Q) new will = settled-more env (name, query n t Q) (query n t Q) will
-settles env name (instance n i) new will = settled-more env (name, instance n i) (instance n i) will
-settles env name (transform e t) new will = settled-more env (name, transform e t) (transform e t) will
+settles env name (mapping n t F) v new will = settled-more env (name, mapping n t F, v) (mapping n t F) will
+settles env name (query n t Q) v new will = settled-more env (name, query n t Q, v) (query n t Q) will
+settles env name (instance n i) v new will = settled-more env (name, instance n i, v) (instance n i) will
+settles env name (transform e t) v new will = settled-more env (name, transform e t, v) (transform e t) will
+
+-- what is known of a declared name is known in a longer environment too
+moved_by-more : (env : Environment) (last : Binding) (v : Moved) (a : InstanceData) → IsMovedBy env v a → IsMovedBy (env ++ last ∷ []) v a
+moved_by-more env last v a is = record {
+  along = is.along;
+  route = is.route;
+  schema = is.schema;
+  operand = is.operand;
+  along_is = meant_by-more env v.along is.along last is.along_is;
+  route_is = is.route_is;
+  operand_is = meant_by-more env v.operand (instance is.schema is.operand) last is.operand_is;
+  moved = is.moved;
+}
+
+moved_as-more : (env : Environment) (last : Binding) (m : Meant) (o : Option Moved) → IsMovedAs env m o → IsMovedAs (env ++ last ∷ []) m o
+moved_as-more env last (instance n i) (Some v) is = moved_by-more env last v i is
+moved_as-more env last (instance n i) None is = tt
+moved_as-more env last (typeside T) o is = tt
+moved_as-more env last (schema S) o is = tt
+moved_as-more env last (colimit c) o is = tt
+moved_as-more env last (mapping n t F) o is = tt
+moved_as-more env last (query n t Q) o is = tt
+moved_as-more env last (transform e t) o is = tt
+
+known-more : (env : Environment) (last entry : Binding) → IsKnown env entry → IsKnown (env ++ last ∷ []) entry
+known-more env last entry is = (is.0, moved_as-more env last entry.1 entry.2 is.1)
 
 -- one name more, whose meaning will be settled
-pub AreSettled-more : (env : Environment) (name : Name) (m : Meant) → AreSettled env → is_some (meant_by env name) ≡ false → WillSettle env name m → AreSettled (env ++ (name, m) ∷ [])
-AreSettled-more env name m settled new will =
-    let longer : Environment = env ++ (name, m) ∷ [] in
-    All-push (λ (entry : Name × Meant). IsSettled longer entry.1) env (name, m)
-    (All-weaker (λ (entry : Name × Meant). IsSettled env entry.1) (λ (entry : Name × Meant). IsSettled longer entry.1) (λ entry. settled-more env (name, m) entry.1) env settled)
-    (settles env name m new will)
+pub AreSettled-more : (env : Environment) (name : Name) (m : Meant) (v : Option Moved) → AreSettled env → is_some (meant_by env name) ≡ false → WillSettle env name m
+    → IsKnown env (name, m, v) → AreSettled (env ++ (name, m, v) ∷ [])
+AreSettled-more env name m v settled new will known =
+    let longer : Environment = env ++ (name, m, v) ∷ [] in
+    (
+      All-push (λ (entry : Binding). IsSettled longer entry.1) env (name, m, v)
+      (All-weaker (λ (entry : Binding). IsSettled env entry.1) (λ (entry : Binding). IsSettled longer entry.1) (λ entry. settled-more env (name, m, v) entry.1) env settled.0)
+      (settles env name m v new will),
+      All-push (IsKnown longer) env (name, m, v) (All-weaker (IsKnown env) (IsKnown longer) (known-more env (name, m, v)) env settled.1)
+      (known-more env (name, m, v) (name, m, v) known),
+    )
 
 -- what a name stands for is settled
 chosen : (env : Environment) (b : Bool) (n m : Meant) (o : Option Meant) → (if b then Some n else o) ≡ Some m → IsSettled env n → (o ≡ Some m → IsSettled env m) → IsSettled env m
 chosen env true n m o is first rest = let one : n ≡ m = cc in subst (IsSettled env) one first
 chosen env false n m o is first rest = rest is
 
-pub meant_settled : (env entries : Environment) (name : Name) (m : Meant) → All (λ (entry : Name × Meant). IsSettled env entry.1) entries → meant_by entries name ≡ Some m → IsSettled env m
+pub meant_settled : (env entries : Environment) (name : Name) (m : Meant) → All (λ (entry : Binding). IsSettled env entry.1) entries → meant_by entries name ≡ Some m → IsSettled env m
 meant_settled env [] name m all is = absurd (cc is)
 meant_settled env (entry ∷ entries) name m all is =
-    chosen env (same_name name entry.0) entry.1 m (meant_by entries name) is (All-head (λ (e : Name × Meant). IsSettled env e.1) entry entries all)
-    (meant_settled env entries name m (All-tail (λ (e : Name × Meant). IsSettled env e.1) entry entries all))
+    chosen env (same_name name entry.0) entry.1 m (meant_by entries name) is (All-head (λ (e : Binding). IsSettled env e.1) entry entries all)
+    (meant_settled env entries name m (All-tail (λ (e : Binding). IsSettled env e.1) entry entries all))
 
 used : (env : Environment) (S : SchemaMeant) (place : Place) (o : Option Meant) → as_schema place o ≡ Ok S → option_and_then schema_by o ≡ Some S
 used env S place None is = absurd (cc is)
@@ -141,7 +174,7 @@ schema_settled env (Some (instance n i)) S settled is = absurd (cc is)
 schema_settled env (Some (transform e t)) S settled is = absurd (cc is)
 
 pub used_settled : (env : Environment) (spot : Spot) (S : SchemaMeant) → AreSettled env → schema_used env spot ≡ Ok S → IsSettled env (schema S)
-used_settled env spot S settled is = schema_settled env (meant_by env spot.name) S (λ m. meant_settled env env spot.name m settled) (used env S spot.place (meant_by env spot.name) is)
+used_settled env spot S settled is = schema_settled env (meant_by env spot.name) S (λ m. meant_settled env env spot.name m settled.0) (used env S spot.place (meant_by env spot.name) is)
 
 mapping_there : (F : MappingMeant) (place : Place) (o : Option Meant) → as_mapping place o ≡ Ok F → o ≡ Some (mapping F.source F.target F.mapping)
 mapping_there F place None is = absurd (cc is)
@@ -195,8 +228,14 @@ transform_there t place (Some (transform e u)) is = same_transform (record { end
     same_transform : (u t : TransformMeant) → ◌≡◌ {A = Checked TransformMeant} (Ok u) (Ok t) → Some (transform u.ends u.transform) ≡ Some (transform t.ends t.transform)
     same_transform u t is = let one : u ≡ t = cc in ap (λ (h : TransformMeant). Some (transform h.ends h.transform)) one
 
+pub mapping_meant_by : (env : Environment) (spot : Spot) (F : MappingMeant) → mapping_used env spot ≡ Ok F → meant_by env spot.name ≡ Some (mapping F.source F.target F.mapping)
+mapping_meant_by env spot F is = mapping_there F spot.place (meant_by env spot.name) is
+
+pub query_meant_by : (env : Environment) (spot : Spot) (Q : QueryMeant) → query_used env spot ≡ Ok Q → meant_by env spot.name ≡ Some (query Q.source Q.target Q.query)
+query_meant_by env spot Q is = query_there Q spot.place (meant_by env spot.name) is
+
 pub mapping_settled : (env : Environment) (spot : Spot) (F : MappingMeant) → AreSettled env → mapping_used env spot ≡ Ok F → IsSettled env (mapping F.source F.target F.mapping)
-mapping_settled env spot F settled is = meant_settled env env spot.name (mapping F.source F.target F.mapping) settled (mapping_there F spot.place (meant_by env spot.name) is)
+mapping_settled env spot F settled is = meant_settled env env spot.name (mapping F.source F.target F.mapping) settled.0 (mapping_there F spot.place (meant_by env spot.name) is)
 
 colimit_there : (c : ColimitMeant) (place : Place) (o : Option Meant) → as_colimit place o ≡ Ok c → o ≡ Some (colimit c)
 colimit_there c place None is = absurd (cc is)
@@ -209,28 +248,28 @@ colimit_there c place (Some (instance n i)) is = absurd (cc is)
 colimit_there c place (Some (transform e t)) is = absurd (cc is)
 
 pub colimit_settled : (env : Environment) (spot : Spot) (c : ColimitMeant) → AreSettled env → colimit_used env spot ≡ Ok c → IsSettled env (colimit c)
-colimit_settled env spot c settled is = meant_settled env env spot.name (colimit c) settled (colimit_there c spot.place (meant_by env spot.name) is)
+colimit_settled env spot c settled is = meant_settled env env spot.name (colimit c) settled.0 (colimit_there c spot.place (meant_by env spot.name) is)
 
 pub query_settled : (env : Environment) (spot : Spot) (Q : QueryMeant) → AreSettled env → query_used env spot ≡ Ok Q → IsSettled env (query Q.source Q.target Q.query)
-query_settled env spot Q settled is = meant_settled env env spot.name (query Q.source Q.target Q.query) settled (query_there Q spot.place (meant_by env spot.name) is)
+query_settled env spot Q settled is = meant_settled env env spot.name (query Q.source Q.target Q.query) settled.0 (query_there Q spot.place (meant_by env spot.name) is)
 
 -- what a used instance and a used transform are
 pub instance_meant_by : (env : Environment) (spot : Spot) (i : InstanceMeant) → instance_used env spot ≡ Ok i → meant_by env spot.name ≡ Some (instance i.schema i.instance)
 instance_meant_by env spot i is = instance_there i spot.place (meant_by env spot.name) is
 
 pub instance_settled : (env : Environment) (spot : Spot) (i : InstanceMeant) → AreSettled env → instance_used env spot ≡ Ok i → IsPrinted env i.schema i.instance.schema
-instance_settled env spot i settled is = (meant_settled env env spot.name (instance i.schema i.instance) settled (instance_meant_by env spot i is)).0
+instance_settled env spot i settled is = (meant_settled env env spot.name (instance i.schema i.instance) settled.0 (instance_meant_by env spot i is)).0
 
 pub instance_modelled : (env : Environment) (spot : Spot) (i : InstanceMeant) → AreSettled env → instance_used env spot ≡ Ok i → IsTermModel i.instance
-instance_modelled env spot i settled is = (meant_settled env env spot.name (instance i.schema i.instance) settled (instance_meant_by env spot i is)).1
+instance_modelled env spot i settled is = (meant_settled env env spot.name (instance i.schema i.instance) settled.0 (instance_meant_by env spot i is)).1
 
 pub transform_settled : (env : Environment) (spot : Spot) (t : TransformMeant) → AreSettled env → transform_used env spot ≡ Ok t → IsSettled env (transform t.ends t.transform)
 transform_settled env spot t settled is =
-    meant_settled env env spot.name (transform t.ends t.transform) settled (transform_there t spot.place (meant_by env spot.name) is)
+    meant_settled env env spot.name (transform t.ends t.transform) settled.0 (transform_there t spot.place (meant_by env spot.name) is)
 
 -- the schema of a transform's start stands for its printed name
 pub start_printed : (env : Environment) (t : TransformMeant) → AreSettled env → IsSettled env (transform t.ends t.transform) → IsPrinted env t.ends.start.schema t.ends.start.instance.schema
-start_printed env t settled is = (meant_settled env env t.ends.source (instance t.ends.start.schema t.ends.start.instance) settled is.0.0).0
+start_printed env t settled is = (meant_settled env env t.ends.source (instance t.ends.start.schema t.ends.start.instance) settled.0 is.0.0).0
 
 -- a schema that is used stands for its printed name
 pub schema_printed : (env : Environment) (spot : Spot) (S : SchemaMeant) → AreSettled env → schema_used env spot ≡ Ok S → IsPrinted env S.name S.schema

@@ -17,6 +17,7 @@ use Rattle.cq_syntax.specs.declared.program.InstanceExp.TheVariants as instance_
 use Rattle.cq_syntax.specs.declared.program.MappingExp.TheVariants as mapping_exp
 use Rattle.cq_syntax.specs.declared.program.QueryExp.TheVariants as query_exp
 use Rattle.cq_syntax.specs.declared.program.TransformExp.TheVariants as transform_exp
+use Rattle.cq_syntax.specs.declared.program.MoveForm.{MoveForm}
 use Rattle.cq_syntax.specs.declared.program.Body.{Body}
 use Rattle.cq_syntax.specs.declared.program.Body.TheVariants.{Typeside, Schema, Colimit, Instance, Mapping, Query, Transform as Transformed}
 use Rattle.cq_syntax.specs.declared.program.Decl.{Decl}
@@ -53,6 +54,7 @@ use Rattle.cq_stating.specs.declared.reason.Reason.TheVariants.{NameTaken, Wrong
 use Rattle.cq_stating.specs.declared.reason.Reason.TheVariants.{WrongCount, WrongSort, Reserved, TooLarge, Missing, NotASpan}
 use Rattle.cq_stating.specs.declared.reason.Reason.TheVariants.{Oversized, NameClash, LongName, WrongKind}
 use Rattle.cq_stating.specs.Images.{broken_by_images}
+use Rattle.cq_stating.specs.Movements.{Move, move_checked}
 use Rattle.cq_stating.specs.declared.stating.Format.{Format}
 use Rattle.cq_stating.specs.declared.stating.Format.TheVariants.{First, Second}
 use Rattle.cq_parts.specs.Parts.{typeside_parts, typeside_places, schema_parts, schema_places, instance_parts, instance_places}
@@ -151,8 +153,8 @@ presentation_given place S lit = of_parts (part_breach place (instance_places li
 -- duties are to be derived; the composite of two queries, and the query of a mapping; the identity of a schema; a presentation over a
 -- schema, whose model is to be made; a presentation that is made of others, to which a limit applies; a colimit of schemas, and the
 -- inclusion of one of its parts; tables that are to be pulled back along a mapping, whose source has the printed name; tables to which a
--- query is to be answered, whose target has it; or the images of a transform between two instances, which are to keep the equations of the
--- first.
+-- query is to be answered, whose target has it; the images of a transform between two instances, which are to keep the equations of the
+-- first; or a transform that an operation moves, or a unit or a counit.
 pub data Posed : Type 0 where
   a_typeside : TypesideData → Posed
   a_schema : SchemaMeant → Posed
@@ -168,6 +170,7 @@ pub data Posed : Type 0 where
   a_delta : Name → MappingData → Tables → Posed
   an_eval : Name → QueryData → Tables → Posed
   a_transform : Ends → List Image → Posed
+  a_move : Move → Posed
 
 abbrev pub typeside_posed : Place → TypesideLit → Checked Posed
 typeside_posed place lit = and_then (typeside_given place lit) (λ T. Ok (a_typeside T))
@@ -384,6 +387,9 @@ transform_posed env place lit =
     and_then (instance_used env lit.target) (λ j.
     transform_between place lit i j))
 
+abbrev pub move_posed : Environment → MoveForm → Spot → Spot → Spot → Spot → Checked Posed
+move_posed env form along moved source target = and_then (move_checked env form along moved source target) (λ move. Ok (a_move move))
+
 -- What a body poses that reads no files. A folder of files poses what these give, and nothing by itself.
 abbrev pub body_posed : Environment → Place → Name → Body → Checked Posed
 body_posed env place name (Typeside lit) = typeside_posed place lit
@@ -405,6 +411,7 @@ body_posed env place name (Instance (instance_exp.Coproduct spots spot)) = copro
 body_posed env place name (Instance (instance_exp.Pushout first second)) = pushout_posed env first second
 body_posed env place name (Transformed (transform_exp.Literal lit)) = transform_posed env place lit
 body_posed env place name (Transformed (transform_exp.Identity spot)) = identical_posed env spot
+body_posed env place name (Transformed (transform_exp.Move form along moved source target)) = move_posed env form along moved source target
 body_posed env place name _ = Err (place, WrongKind)
 
 -- What a declaration states whose names and parts break no rule: what it poses at once, or a folder of files, by its format, over the

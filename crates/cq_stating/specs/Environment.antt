@@ -6,12 +6,20 @@ use Rattle.cq_base.specs.declared.place.Place.{Place}
 use Rattle.cq_stating.specs.declared.reason.Reason.{Reason}
 use Rattle.cq_stating.specs.declared.reason.ProgramRefusal.{ProgramRefusal}
 use Rattle.cq_stating.specs.declared.reason.ProgramRefusal.TheVariants as program_refusal
+use Rattle.cq_stating.specs.declared.environment.Bound.{Bound}
 use Rattle.cq_stating.specs.declared.environment.NamedSchema.{NamedSchema}
 use Rattle.cq_stating.specs.declared.environment.NamedPart.{NamedPart}
 use Rattle.cq_stating.specs.declared.environment.NamedColimit.{NamedColimit}
 use Rattle.cq_stating.specs.declared.environment.NamedInstance.{NamedInstance}
 use Rattle.cq_stating.specs.declared.environment.NamedEnds.{NamedEnds}
 use Rattle.cq_stating.specs.declared.environment.NamedTransform.{NamedTransform}
+use Rattle.cq_stating.specs.declared.moved.Moved.{Moved}
+use Rattle.cq_stating.specs.declared.movements.Route.{Route as TheRoute}
+use Rattle.cq_stating.specs.declared.movements.Route.TheVariants as route
+use Rattle.cq_stating.specs.declared.movements.NamedRoute.{NamedRoute}
+use Rattle.cq_stating.specs.declared.movements.Movement.{Movement as TheMovement}
+use Rattle.cq_stating.specs.declared.movements.Movement.TheVariants as movement
+use Rattle.cq_stating.specs.declared.movements.Moving.{Moving}
 use Rattle.cq_stating.specs.declared.used.NamedMapping.{NamedMapping}
 use Rattle.cq_stating.specs.declared.used.NamedQuery.{NamedQuery}
 use Rattle.cq_stating.specs.declared.gluing.Operand.{Operand}
@@ -24,9 +32,12 @@ use Rattle.cq_query.specs.Duties.{Sound}
 use Rattle.cq_theory.specs.SchemaData.{SchemaData}
 use Rattle.cq_theory.specs.Tables.{Initial}
 use Rattle.cq_instance.specs.InstanceData.{InstanceData}
-use Rattle.cq_instance.specs.Given.{HasLeastNames}
+use Rattle.cq_instance.specs.Given.{HasLeastNames, given}
+use Rattle.cq_instance.specs.Listed.{IsListed}
 use Rattle.cq_transform.specs.Transforms.{GoesFrom}
-use Rattle.cq_stating.specs.Meanings.{Meant, PartMeant, ColimitMeant, colimit, schema_named, typeside, schema, mapping, query}
+use Rattle.cq_stating.specs.Routes.{Route, by_sigma, by_delta, by_eval, by_coeval, route_of, IsMovedAlong}
+use Rattle.cq_stating.specs.Movements.{Movement, Move, moved_along, there_and_back}
+use Rattle.cq_stating.specs.Meanings.{Binding, Meant, PartMeant, ColimitMeant, colimit, schema_named, typeside, schema, mapping, query}
 use Rattle.cq_stating.specs.Meanings.{instance, transform, Ends, SchemaMeant, MappingMeant}
 use Rattle.cq_stating.specs.Meanings.{QueryMeant, InstanceMeant, TransformMeant, Environment, Checked, meant_by}
 
@@ -61,10 +72,10 @@ meant (meaning.Transform t) = transform (ends_meant t.ends) t.transform.value
 
 -- a declared name in the table of names, with what it stands for
 abbrev pub Entry : Type 0
-Entry = Name × Box Meaning Global
+Entry = Name × Box Bound Global
 
 abbrev pub environment_of : List Entry → Environment
-environment_of entries = map (λ entry. (entry.0, meant entry.1.value)) entries
+environment_of entries = map (λ entry. (entry.0, meant entry.1.value.meaning, entry.1.value.moved)) entries
 
 abbrev pub mapping_meant : NamedMapping → MappingMeant
 mapping_meant named = record { source = named.source; target = named.target; mapping = named.mapping.value }
@@ -74,6 +85,22 @@ query_meant named = record { source = named.source; target = named.target; query
 
 abbrev pub transform_meant : NamedTransform → TransformMeant
 transform_meant named = record { ends = ends_meant named.ends; transform = named.transform.value }
+
+abbrev pub route_meant : TheRoute → Route
+route_meant (route.Sigma F) = by_sigma F.value
+route_meant (route.Delta F) = by_delta F.value
+route_meant (route.Eval Q) = by_eval Q.value
+route_meant (route.Coeval Q) = by_coeval Q.value
+
+abbrev pub named_route_meant : NamedRoute → Name × Route
+named_route_meant named = (named.taken, route_meant named.route)
+
+abbrev pub movement_meant : TheMovement → Movement
+movement_meant (movement.Along r h) = moved_along (route_meant r) (transform_meant h)
+movement_meant (movement.Around r x) = there_and_back (route_meant r) x.value
+
+abbrev pub move_meant : Moving → Move
+move_meant moving = record { ends = ends_meant moving.ends; movement = movement_meant moving.movement }
 
 abbrev pub used_meant : UsedSchema → Spot × SchemaMeant
 used_meant used = (record { place = used.place; name = used.name }, schema_meant used.part)
@@ -144,8 +171,35 @@ WillSettle env name (query n t Q) = IsSettled env (query n t Q)
 WillSettle env name (instance n i) = IsSettled env (instance n i)
 WillSettle env name (transform e t) = IsSettled env (transform e t)
 
+-- the instance is the listed model of its presentation, or has its tables with their canonical presentation
+abbrev pub IsBuilt : InstanceData → Type 0
+IsBuilt i = IsListed i ⊎ (i ≡ given i.schema i.tables)
+
+abbrev pub IsBuiltAs : Meant → Type 0
+IsBuiltAs (instance n i) = IsBuilt i
+IsBuiltAs _ = Unit {0}
+
+-- what the names of a move stand for, and that the instance is what the move makes of the operand
+pub record IsMovedBy (env : Environment) (v : Moved) (a : InstanceData) : Type 0 where
+  pub along : Meant
+  pub route : Route
+  pub schema : Name
+  pub operand : InstanceData
+  pub along_is : meant_by env v.along ≡ Some along
+  pub route_is : route_of v.operation along ≡ Some route
+  pub operand_is : meant_by env v.operand ≡ Some (instance schema operand)
+  pub moved : IsMovedAlong route operand a
+
+abbrev pub IsMovedAs : Environment → Meant → Option Moved → Type 0
+IsMovedAs env (instance n a) (Some v) = IsMovedBy env v a
+IsMovedAs env _ _ = Unit {0}
+
+-- each meaning is settled, and each instance is what its declaration makes of its operand
+abbrev pub IsKnown : Environment → Binding → Type 0
+IsKnown env entry = IsBuiltAs entry.1 × IsMovedAs env entry.1 entry.2
+
 abbrev pub AreSettled : Environment → Type 0
-AreSettled env = All (λ entry. IsSettled env entry.1) env
+AreSettled env = All (λ entry. IsSettled env entry.1) env × All (IsKnown env) env
 
 -- the refusal tells what the check found, or want of memory
 abbrev pub Refuses : {A : Type 0} → ProgramRefusal → Checked A → Type 0

@@ -1,6 +1,9 @@
 pub mod Lines
 pub mod Images
+pub mod Moves
 pub mod Meanings
+pub mod Routes
+pub mod Movements
 pub mod Checks
 pub mod Folders
 pub mod Environment

@@ -7,7 +7,7 @@ use Rattle.cq_stating.specs.declared.reason.Reason.TheVariants.{NameTaken, NameU
 use Rattle.cq_stating.specs.declared.reason.Reason.TheVariants.{Unknown, WrongCount, WrongSort, Reserved, TooLarge, Missing, NotPreserved}
 use Rattle.cq_stating.specs.declared.reason.Reason.TheVariants.{DutyDepth, DutyRows, Broken, Depth, TooManyRows, Inconsistent, Oversized}
 use Rattle.cq_stating.specs.declared.reason.Reason.TheVariants.{TooManyAnswers, NameClash, LongName, NotCsv, BadHeader, BadCell, DoubleId}
-use Rattle.cq_stating.specs.declared.reason.Reason.TheVariants.{NoSuchId, ManyRecords}
+use Rattle.cq_stating.specs.declared.reason.Reason.TheVariants.{NoSuchId, ManyRecords, WrongOperand}
 
 abbrev pub code_of : Reason → ℕ
 code_of NameTaken = 31
@@ -15,6 +15,7 @@ code_of NameUnknown = 32
 code_of WrongKind = 33
 code_of WrongSchema = 34
 code_of NotASpan = 35
+code_of WrongOperand = 36
 code_of Duplicate = 41
 code_of Unknown = 42
 code_of WrongCount = 43
@@ -46,6 +47,7 @@ name_of NameUnknown = codes "Unknown"
 name_of WrongKind = codes "WrongKind"
 name_of WrongSchema = codes "WrongSchema"
 name_of NotASpan = codes "NotASpan"
+name_of WrongOperand = codes "WrongOperand"
 name_of Duplicate = codes "Duplicate"
 name_of Unknown = codes "Unknown"
 name_of WrongCount = codes "WrongCount"

@@ -5,14 +5,17 @@ use Rattle.cq_base.specs.declared.name.Name.{Name}
 use Rattle.cq_base.specs.declared.place.Place.{Place}
 use Rattle.cq_base.specs.Names.{same_name}
 use Rattle.cq_syntax.specs.declared.part.Spot.{Spot}
+use Rattle.cq_syntax.specs.declared.program.Decl.{Decl}
 use Rattle.cq_theory.specs.SchemaData.{SchemaData}
 use Rattle.cq_theory.specs.TypesideData.{TypesideData}
 use Rattle.cq_instance.specs.InstanceData.{InstanceData}
 use Rattle.cq_instance.specs.declared.transform.Transform.{Transform}
 use Rattle.cq_mapping.specs.MappingData.{MappingData}
 use Rattle.cq_query.specs.QueryData.{QueryData}
+use Rattle.cq_stating.specs.declared.moved.Moved.{Moved}
 use Rattle.cq_stating.specs.declared.reason.Reason.{Reason}
 use Rattle.cq_stating.specs.declared.reason.Reason.TheVariants.{NameUnknown, WrongKind}
+use Rattle.cq_stating.specs.Moves.{moved_of}
 
 -- A schema, with the name under which it is printed, that of its own declaration, and the name of its typeside's declaration. Two names
 -- stand for one schema exactly where the printed names are one, and two schemas are over one typeside declaration exactly where the
@@ -70,13 +73,26 @@ pub data Meant : Type 0 where
   instance : Name → InstanceData → Meant
   transform : Ends → Transform → Meant
 
--- the declared names in order, with what they stand for
+-- a declared name, what it stands for, and by what it was declared, if an operation moved it
+abbrev pub Binding : Type 0
+Binding = Name × Meant × Option Moved
+
+-- the declared names in order
 abbrev pub Environment : Type 0
-Environment = List (Name × Meant)
+Environment = List Binding
+
+-- what a declaration adds under its name
+abbrev pub binding : Decl → Meant → Binding
+binding d m = (d.name, m, moved_of d.body)
 
 abbrev pub meant_by : Environment → Name → Option Meant
 meant_by [] name = None
 meant_by (entry ∷ entries) name = if same_name name entry.0 then Some entry.1 else meant_by entries name
+
+-- by what the instance of a name is declared
+abbrev pub moved_under : Environment → Name → Option Moved
+moved_under [] name = None
+moved_under (entry ∷ entries) name = if same_name name entry.0 then entry.2 else moved_under entries name
 
 -- the schema for which a name stands
 abbrev pub schema_by : Meant → Option SchemaMeant

@@ -25,13 +25,17 @@ use Rattle.cq_io.specs.FolderData.{FolderData}
 use Rattle.cq_stating.specs.declared.stating.Stated.{Stated as TheStated}
 use Rattle.cq_stating.specs.declared.stating.Stated.TheVariants as stated
 use Rattle.cq_stating.specs.Folders.{TellsFault, LacksFile, Raised, rule_of, unread_fault}
+use Rattle.cq_instance.specs.InstanceData.{InstanceData}
+use Rattle.cq_stating.specs.Routes.{Route, IsAround, IsMovedAlong, IsSound}
+use Rattle.cq_stating.specs.Movements.{Movement, Move, moved_along, there_and_back}
 use Rattle.cq_stating.specs.Meanings.{Environment, TransformMeant, typeside, colimit, schema_named}
 use Rattle.cq_stating.specs.Checks.{Stated, at_once, a_folder, Posed, a_typeside}
 use Rattle.cq_stating.specs.Checks.{a_schema, a_mapping, an_identity, a_colimit, an_inclusion, a_query, a_presentation}
-use Rattle.cq_stating.specs.Checks.{a_composite, a_mapping_query, a_made, a_delta, an_eval, a_transform}
+use Rattle.cq_stating.specs.Checks.{a_composite, a_mapping_query, a_made, a_delta, an_eval, a_transform, a_move}
 use Rattle.cq_stating.specs.Meanings.{meant_by}
 use Rattle.cq_stating.specs.Checks.{pushed_out}
-use Rattle.cq_stating.specs.Environment.{AreEnds, IsPrinted, WillSettle, colimit_meant, ends_meant, schema_meant, transform_meant}
+use Rattle.cq_stating.specs.Environment.{AreEnds, IsBuilt, IsPrinted, IsTermModel, WillSettle, colimit_meant, ends_meant, move_meant}
+use Rattle.cq_stating.specs.Environment.{schema_meant, transform_meant}
 use Rattle.cq_theory.specs.Schema.{IsSchema}
 use Rattle.cq_theory.specs.Tables.{Initial}
 use Rattle.cq_instance.specs.declared.transform.Transform.{Transform}
@@ -55,6 +59,54 @@ pub record IsTransformOf (e : Ends) (images : List Image) (t : Transform) : Type
 abbrev pub broken_images : BrokenImages → List Image
 broken_images b = images_made b.ends.start.instance.value b.ends.finish.instance.value b.parts
 
+-- an instance for which a name stands: the term model of its presentation, and listed, or with its canonical presentation
+pub record IsWhole (i : InstanceData) : Type 0 where
+  pub model : IsTermModel i
+  pub built : IsBuilt i
+
+-- a transform between two instances, and the ends of the one to which it is moved
+pub record Carried : Type 0 where
+  pub moved : Transform
+  pub source : InstanceData
+  pub target : InstanceData
+  pub start : InstanceData
+  pub finish : InstanceData
+
+abbrev pub carried : TransformMeant → Ends → Carried
+carried h e = record {
+  moved = h.transform;
+  source = h.ends.start.instance;
+  target = h.ends.finish.instance;
+  start = e.start.instance;
+  finish = e.finish.instance;
+}
+
+-- A route is sound, the transform goes from one instance to another, and the ends are what is made of these along the route; or the one
+-- end is there and back from the other, by the instance that is made there.
+pub record IsMovingAlong (route : Route) (k : Carried) : Type 0 where
+  pub sound : IsSound route
+  pub goes : GoesFrom k.moved k.source k.target
+  pub source : IsWhole k.source
+  pub target : IsWhole k.target
+  pub start : IsWhole k.start
+  pub finish : IsWhole k.finish
+  pub start_moved : IsMovedAlong route k.source k.start
+  pub finish_moved : IsMovedAlong route k.target k.finish
+
+pub record IsMovingAround (route : Route) (start finish there : InstanceData) : Type 0 where
+  pub sound : IsSound route
+  pub whole : IsWhole there
+  pub start_whole : IsWhole start
+  pub finish_whole : IsWhole finish
+  pub around : IsAround route start finish there
+
+abbrev pub IsMovement : Movement → Ends → Type 0
+IsMovement (moved_along route h) e = IsMovingAlong route (carried h e)
+IsMovement (there_and_back route x) e = IsMovingAround route e.start.instance e.finish.instance x
+
+abbrev pub IsMoving : Move → Type 0
+IsMoving move = IsMovement move.movement move.ends
+
 abbrev pub posed_as : Statement → Posed
 posed_as (statement.Typeside t) = a_typeside t
 posed_as (statement.Schema s) = a_schema (schema_meant s)
@@ -74,12 +126,13 @@ posed_as (statement.Coproduct n s parts) = a_made n s.value (coproduct_of (map (
 posed_as (statement.Pushout f g) = pushed_out (transform_meant f) (transform_meant g)
 posed_as (statement.Transform e t) = a_transform (ends_meant e) t.images
 posed_as (statement.Broken b) = a_transform (ends_meant b.ends) (broken_images b)
+posed_as (statement.Move m) = a_move (move_meant m)
 
 -- A presentation is one over its schema; an instance that is pulled back or read backwards is over the target, and one that is moved or
 -- queried over the source; a mapping along which tables are pulled back, or whose query is made, preserves equality, and a query that is
 -- answered or composed is sound. The second of two queries starts where the first ends. The operands of a coproduct are over its schema,
 -- the transforms of a pushout go from one instance, and a transform goes from the one end to the other; images that are broken don't keep
--- an equation.
+-- an equation. The ends of a movement are what its route makes.
 abbrev pub IsPosed : Statement → Type 0
 IsPosed (statement.Typeside t) = Unit {0}
 IsPosed (statement.Schema s) = Unit {0}
@@ -99,6 +152,7 @@ IsPosed (statement.Coproduct n s parts) = All (λ part. part.value.schema ≡ s.
 IsPosed (statement.Pushout f g) = AreSpan (transform_meant f) (transform_meant g)
 IsPosed (statement.Transform e t) = IsTransformOf (ends_meant e) t.images t
 IsPosed (statement.Broken b) = IsBrokenAt b.ends.start.instance.value b.ends.finish.instance.value (broken_images b) b.number
+IsPosed (statement.Move m) = IsMoving (move_meant m)
 
 -- What is posed under a name is over what its names stand for: a schema over its typeside, under its printed name; all others over the
 -- schemas that their printed names stand for, and a transform between the instances for which the names of its ends stand. An identity
@@ -119,6 +173,7 @@ IsGrounded env name (a_made n S P) = IsPrinted env n S
 IsGrounded env name (a_delta n F M) = IsPrinted env n F.source
 IsGrounded env name (an_eval n Q M) = IsPrinted env n Q.target
 IsGrounded env name (a_transform e images) = AreEnds env e
+IsGrounded env name (a_move move) = AreEnds env move.ends
 
 -- what the code states
 abbrev pub stated_as : TheStated → Stated

@@ -1,10 +1,11 @@
 //! The declared names in order, and what they stand for.
 ghost use Rattle.std.specs.Prelude.{◌≡◌, ◌++◌, ◌∷◌, [], Some, IfOk, OnErr, OnOk, option_map};
-ghost use Rattle.cq_stating.specs.Meanings.{meant_by, typeside, typeside_used, schema_used};
+ghost use Rattle.cq_stating.specs.Meanings.{meant_by, moved_under, typeside, typeside_used, schema_used};
 ghost use Rattle.cq_stating.specs.Environment.{Answers, environment_of, meant, schema_meant};
 ghost use Rattle.cq_stating.specs.declared.reason.ProgramRefusal.TheVariants.{Broken};
 ghost use Rattle.cq_stating.specs.declared.reason.Reason.TheVariants.{NameUnknown, WrongKind};
 
+use crate::moved::Moved;
 use crate::reason::{ProgramRefusal, Reason};
 use cq_base::{Hashing, Name, Seq};
 use cq_instance::{Instance, Transform};
@@ -103,9 +104,34 @@ pub enum Meaning {
     Transform(NamedTransform),
 }
 
+/// What a declared name stands for, and by what it was declared, if an operation moved it.
+pub struct Bound {
+    pub meaning: Meaning,
+    pub moved: Option<Moved>,
+}
+
+impl Bound {
+    /// What the name stands for.
+    pub fn into_meaning(self) -> Meaning
+        ensures { result ≡ self.meaning }
+    {
+        let Self { meaning, moved: _ } = self;
+        meaning
+    }
+}
+
+impl Drop for Bound {
+    fn drop(self) {
+        let Self {
+            meaning: _,
+            moved: _,
+        } = self;
+    }
+}
+
 /// The declared names in order, with what each stands for. That is boxed, so that what holds an entry is small.
 pub struct Environment {
-    pub names: IndexMap<Name, Box<Meaning>, Hashing>,
+    pub names: IndexMap<Name, Box<Bound>, Hashing>,
 }
 
 impl Drop for Environment {
@@ -116,7 +142,7 @@ impl Drop for Environment {
 
 impl Environment {
     /// The names, each with what it stands for.
-    pub fn into_names(self) -> IndexMap<Name, Box<Meaning>, Hashing>
+    pub fn into_names(self) -> IndexMap<Name, Box<Bound>, Hashing>
         ensures { result.entries ≡ self.names.entries }
     {
         let Self { names } = self;
@@ -138,7 +164,18 @@ impl Environment {
             (environment_of self.now.names.entries) name.now }
     {
         match self.names.get(name) {
-            Some(meaning) => Some(&**meaning),
+            Some(bound) => Some(&bound.meaning),
+            None => None,
+        }
+    }
+
+    /// By what the instance of a name was declared, if an operation moved it.
+    pub fn moved(&self, name: &Name) -> Option<&Moved>
+        ensures { option_map (λ moved. moved.now) result ≡ moved_under
+            (environment_of self.now.names.entries) name.now }
+    {
+        match self.names.get(name) {
+            Some(bound) => bound.moved.as_ref(),
             None => None,
         }
     }
@@ -179,16 +216,16 @@ impl Environment {
     }
 
     /// Adds a name behind the others. Where memory is wanting, or the name is there already, nothing changes.
-    pub fn add(&mut self, alloc: Global, name: Name, meaning: Meaning) -> Result<(), AllocError>
+    pub fn add(&mut self, alloc: Global, name: Name, bound: Bound) -> Result<(), AllocError>
         ensures added { OnOk result (environment_of self.new.names.entries
-            ≡ environment_of self.old.names.entries ++ (name, meant meaning) ∷ []) }
+            ≡ environment_of self.old.names.entries ++ (name, meant bound.meaning, bound.moved) ∷ []) }
         ensures unchanged { OnErr result (self.new.names.entries ≡ self.old.names.entries) }
     {
-        let meaning = Box::new(alloc, meaning)?;
+        let bound = Box::new(alloc, bound)?;
         if self.names.contains_key(&name) {
             return Err(AllocError);
         }
-        self.names.insert(name, meaning)?;
+        self.names.insert(name, bound)?;
         Ok(())
     }
 }

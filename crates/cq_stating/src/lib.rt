@@ -3,7 +3,8 @@
 //!
 //! A declaration is stated over an *environment* (`environment`): the declared names with what each stands for, in a
 //! table. `state` (`stating`) tests that its name is new, and then checks its form, the names that it uses (`used`) and
-//! its parts (`posing`, and form by form `colimits`, `queries`, `moves`, `gluing`, `transforms`). What is left is a
+//! its parts (`posing`, and form by form `colimits`, `queries`, `moves`, `gluing`, `transforms`, `movements`). By which
+//! operation an instance was declared is kept with its name (`moved`), for transforms that go along. What is left is a
 //! *statement*: a theory, a mapping or a query whose duties are to be derived, a presentation whose model is to be
 //! made, instances that are to be moved or glued, or a transform; or it is a folder of files, and `read_stated` reads
 //! them (`cq_import`) and gives the presentation that they pose. The parts of a literal are copied from the tree once,
@@ -19,6 +20,8 @@ mod colimits;
 mod environment;
 mod gluing;
 mod line;
+mod moved;
+mod movements;
 mod moves;
 mod posing;
 mod queries;
@@ -28,10 +31,12 @@ mod transforms;
 mod used;
 
 pub use environment::{
-    Environment, Meaning, NamedColimit, NamedEnds, NamedInstance, NamedPart, NamedSchema,
+    Bound, Environment, Meaning, NamedColimit, NamedEnds, NamedInstance, NamedPart, NamedSchema,
     NamedTransform,
 };
 pub use line::{numbered_line, refusal_line};
+pub use moved::{Moved, Operation, moved_of};
+pub use movements::{Movement, Moving, Route};
 pub use posing::Statement;
 pub use reason::{ProgramRefusal, ReadCause, Reason};
 pub use stating::{FolderImport, Format, Stated, read_stated, state};

@@ -14,6 +14,7 @@ ghost use Rattle.cq_stating.specs.Posing.{IsGrounded, IsPosed, posed_as};
 use crate::colimits::{pose_colimit, pose_inclusion, pose_joined_schema};
 use crate::environment::{Environment, NamedColimit, NamedEnds, NamedSchema, NamedTransform};
 use crate::gluing::{pose_coproduct, pose_pushout};
+use crate::movements::{Moving, pose_move};
 use crate::moves::{pose_delta, pose_sigma};
 use crate::queries::{pose_coeval, pose_composite, pose_eval, pose_mapping_query, pose_query};
 use crate::reason::{ProgramRefusal, Reason};
@@ -39,7 +40,8 @@ use std::rc::Rc;
 /// identity of the schema of a printed name; a presentation over such a schema, whose model is to be made; an
 /// instance that is to be pulled back along a mapping from such a schema, or moved along one to such a schema; an
 /// instance to which a query is to be answered, or that is to be read backwards through one; instances of which a
-/// coproduct or a pushout is to be made; a transform; or images that don't keep an equation.
+/// coproduct or a pushout is to be made; a transform; images that don't keep an equation; or a transform that an
+/// operation moves, or a unit or a counit.
 #[derive(Drop)]
 pub enum Statement {
     Typeside(Typeside),
@@ -60,6 +62,7 @@ pub enum Statement {
     Pushout(NamedTransform, NamedTransform),
     Transform(NamedEnds, Transform),
     Broken(BrokenImages),
+    Move(Moving),
 }
 
 /// What the body of a declaration poses that reads no files, or the first rule of names and parts that it breaks.
@@ -92,6 +95,9 @@ pub fn pose_body(
             pose_transform(alloc, env, place, literal)
         }
         Body::Transform(TransformExp::Identity(used)) => pose_identical(alloc, env, used),
+        Body::Transform(TransformExp::Move(form, along, moved, source, target)) => {
+            pose_move(env, *form, along, moved, source, target)
+        }
         Body::Schema(SchemaExp::GetSchema(used)) => pose_joined_schema(env, used),
         Body::Mapping(MappingExp::GetMapping(along, used)) => pose_inclusion(env, along, used),
         Body::Colimit(literal) => pose_colimit(alloc, env, place, name, literal),

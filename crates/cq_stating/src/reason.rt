@@ -15,6 +15,8 @@ pub enum Reason {
     WrongSchema,
     /// Two transforms that are pushed out start in two instances.
     NotASpan,
+    /// An end of a transform that is moved isn't declared by the operation that moves it.
+    WrongOperand,
     /// A part declares a name that stands already in its table.
     Duplicate,
     /// A name of a part isn't declared.

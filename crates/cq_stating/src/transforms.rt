@@ -215,7 +215,7 @@ fn both_ends(used: &Spot, part: NamedInstance) -> Result<NamedEnds, AllocError>
     named_ends(&used.name, &used.name, part, finish)
 }
 
-fn named_ends(
+pub fn named_ends(
     source: &Name,
     target: &Name,
     start: NamedInstance,

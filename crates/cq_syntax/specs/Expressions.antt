@@ -20,6 +20,7 @@ use Rattle.cq_syntax.specs.declared.program.SchemaExp.{SchemaExp}
 use Rattle.cq_syntax.specs.declared.literal.SchemaLit.{SchemaLit}
 use Rattle.cq_syntax.specs.declared.part.Spot.{Spot}
 use Rattle.cq_syntax.specs.declared.part.TermSyn.{TermSyn}
+use Rattle.cq_syntax.specs.declared.program.MoveForm.{MoveForm}
 use Rattle.cq_syntax.specs.declared.program.TransformExp.{TransformExp}
 use Rattle.cq_syntax.specs.declared.literal.TransformLit.{TransformLit}
 use Rattle.cq_syntax.specs.declared.literal.TypesideLit.{TypesideLit}
@@ -138,17 +139,24 @@ instance_exp_back (inr (inr (inr (inr (inr (inr (inl x))))))) = refl
 instance_exp_back (inr (inr (inr (inr (inr (inr (inr (inl x)))))))) = refl
 instance_exp_back (inr (inr (inr (inr (inr (inr (inr (inr x)))))))) = refl
 
-abbrev pub transform_exp_of : TransformLit ⊎ Spot → TransformExp
+-- a form, by what is moved and what, and from where to where
+abbrev pub Moving : Type 0
+Moving = MoveForm × ((Spot × Spot) × (Spot × Spot))
+
+abbrev pub transform_exp_of : TransformLit ⊎ (Spot ⊎ Moving) → TransformExp
 transform_exp_of (inl x) = transforms.Literal x
-transform_exp_of (inr x) = transforms.Identity x
+transform_exp_of (inr (inl x)) = transforms.Identity x
+transform_exp_of (inr (inr x)) = transforms.Move x.0 x.1.0.0 x.1.0.1 x.1.1.0 x.1.1.1
 
-abbrev pub transform_exp_parts : TransformExp → TransformLit ⊎ Spot
+abbrev pub transform_exp_parts : TransformExp → TransformLit ⊎ (Spot ⊎ Moving)
 transform_exp_parts (transforms.Literal a) = inl a
-transform_exp_parts (transforms.Identity a) = inr a
+transform_exp_parts (transforms.Identity a) = inr (inl a)
+transform_exp_parts (transforms.Move form along moved source target) = inr (inr (form, ((along, moved), (source, target))))
 
-pub transform_exp_back : (x : TransformLit ⊎ Spot) → transform_exp_parts (transform_exp_of x) ≡ x
+pub transform_exp_back : (x : TransformLit ⊎ (Spot ⊎ Moving)) → transform_exp_parts (transform_exp_of x) ≡ x
 transform_exp_back (inl x) = refl
-transform_exp_back (inr x) = refl
+transform_exp_back (inr (inl x)) = refl
+transform_exp_back (inr (inr x)) = refl
 
 -- a declaration's name, and what it declares
 abbrev pub Declared : Type 0

@@ -12,6 +12,7 @@ use Rattle.cq_rules.specs.Outcome.{either, when, name_of}
 use Rattle.cq_rules.specs.Rule.{Rule, none, keep, skip, ends, seq, alt, many, some, separated, section, braces, checked, or_left_out}
 use Rattle.cq_rules.specs.Rule.{placed, made, term, path, none_left}
 use Rattle.cq_syntax.specs.LeftOut.{head_words, operation_words, typeside_words, section_words}
+use Rattle.cq_syntax.specs.MoveForms.{form_of, is_form}
 use Rattle.cq_syntax.specs.Terms.{term_of, term_parts, term_back}
 use Rattle.cq_syntax.specs.Parts as parts
 use Rattle.cq_syntax.specs.Expressions as exps
@@ -35,6 +36,7 @@ use Rattle.cq_syntax.specs.declared.part.Opt.{Opt}
 use Rattle.cq_syntax.specs.declared.part.PairSyn.{PairSyn}
 use Rattle.cq_syntax.specs.declared.part.PathEqSyn.{PathEqSyn}
 use Rattle.cq_syntax.specs.declared.part.PathSyn.{PathSyn}
+use Rattle.cq_syntax.specs.declared.program.MoveForm.{MoveForm}
 use Rattle.cq_syntax.specs.declared.program.Program.{Program}
 use Rattle.cq_syntax.specs.declared.literal.QueryBlock.{QueryBlock}
 use Rattle.cq_syntax.specs.declared.literal.QueryKey.{QueryKey}
@@ -279,10 +281,18 @@ transform_literal =
     (skip (is classes.Literal) (skip (is classes.Colon) (seq spot
     (skip (is classes.Arrow) (seq spot (in_braces (seq (section (is classes.Generators) bind) options)))))))
 
--- transform_literal | "identity" NAME
+-- "sigma" | "delta" | "eval" | "coeval" | "unit" | "counit" | "unit_query" | "counit_query"
+unfoldable pub move_form : Rule MoveForm
+move_form = keep form_of is_form
+
+-- move_form NAME NAME ":" NAME "->" NAME
+abbrev pub moving : Rule exps.Moving
+moving = seq move_form (seq (seq spot spot) (skip (is classes.Colon) (seq spot (skip (is classes.Arrow) spot))))
+
+-- transform_literal | "identity" NAME | moving
 unfoldable pub transform : Rule TransformExp
 transform = made exps.transform_exp_of exps.transform_exp_parts exps.transform_exp_back
-    (alt transform_literal (skip (is classes.Identity) spot))
+    (alt transform_literal (alt (skip (is classes.Identity) spot) moving))
 
 -- a declaration of a kind: its word, a name, "=" and what it declares
 abbrev pub kind : {A : Type 0} → Class → Rule A → Rule (Spot × A)

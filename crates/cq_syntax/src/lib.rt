@@ -14,5 +14,5 @@ pub use part::{
     Bind, EdgeSyn, EqSyn, FunSyn, GroupSyn, ObsSyn, Opt, PairSyn, PathEqSyn, PathSyn, Spot, TermSyn,
 };
 pub use program::{
-    Body, Decl, InstanceExp, MappingExp, Program, QueryExp, SchemaExp, TransformExp,
+    Body, Decl, InstanceExp, MappingExp, MoveForm, Program, QueryExp, SchemaExp, TransformExp,
 };

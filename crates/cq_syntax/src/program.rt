@@ -42,11 +42,27 @@ pub enum InstanceExp {
     ImportCsv2(Name, Spot, Seq<Opt>),
 }
 
-/// What stands behind the `=` of a transform.
+/// By which operation a transform is moved, or of which two operations it is the unit or the counit: `Unit` and `Counit`
+/// of sigma and delta, `UnitQuery` and `CounitQuery` of coeval and eval.
+#[derive(Clone, Copy)]
+pub enum MoveForm {
+    Sigma,
+    Delta,
+    Eval,
+    Coeval,
+    Unit,
+    Counit,
+    UnitQuery,
+    CounitQuery,
+}
+
+/// What stands behind the `=` of a transform. A move has the name of a mapping or a query, that of the transform or the
+/// instance that is moved, and those of the two instances between which it goes.
 #[derive(Drop)]
 pub enum TransformExp {
     Literal(TransformLit),
     Identity(Spot),
+    Move(MoveForm, Spot, Spot, Spot, Spot),
 }
 
 /// What a declaration declares.

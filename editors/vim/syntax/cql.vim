@@ -8,7 +8,7 @@ syn iskeyword 48-57,65-90,97-122,_,$
 syn match cqlName /[A-Za-z0-9_$]\+/
 syn match cqlMark /->\|{\|}\|(\|)\|\[\|\]\|:\|;\|,\|\.\|=\|+/
 syn match cqlDeclared /\%(\<\%(schema_colimit\|transform\|instance\|typeside\|mapping\|schema\|query\)\_s\+\)\@<=[A-Za-z0-9_$]\+/
-syn match cqlOperation /\%(\<\%(schema_colimit\|transform\|instance\|typeside\|mapping\|schema\|query\)\_s\+[A-Za-z0-9_$]\+\_s*=\_s*\)\@<=\<\%(import_csv2\|getMapping\|import_csv\|of_mapping\|coproduct\|getSchema\|identity\|quotient\|compose\|literal\|pushout\|coeval\|delta\|sigma\|eval\)\>/
+syn match cqlOperation /\%(\<\%(schema_colimit\|transform\|instance\|typeside\|mapping\|schema\|query\)\_s\+[A-Za-z0-9_$]\+\_s*=\_s*\)\@<=\<\%(counit_query\|import_csv2\|getMapping\|import_csv\|of_mapping\|unit_query\|coproduct\|getSchema\|identity\|quotient\|compose\|literal\|pushout\|coeval\|counit\|delta\|sigma\|eval\|unit\)\>/
 syn keyword cqlHead typeside schema schema_colimit mapping query instance transform
 syn keyword cqlSection types literals constants functions entities foreign_keys path_equations attributes observation_equations generators equations entity_equations entity from where options
 syn keyword cqlBinder forall lambda

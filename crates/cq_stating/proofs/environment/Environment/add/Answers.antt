@@ -1,5 +1,5 @@
 use Rattle.std.proofs.Common.{◌++◌, ◌∷◌, [], sym, ap, ◌∙◌}
-use Rattle.cq_stating.specs.declared.environment.Meaning.{Meaning}
+use Rattle.cq_stating.specs.declared.environment.Bound.{Bound}
 use Rattle.cq_stating.specs.Environment.{environment_of, meant}
 use Rattle.cq_stating.proofs.Entries.{inserted}
 use Rattle.cq_stating.proofs.environment.Environment.add.Goals as goal
@@ -8,5 +8,5 @@ pub returns-clause-added : goal.returns-clause-added
 returns-clause-added c =
     let before = c.args.self.now.names.entries in
     ap environment_of c.in_ok-insert.ensures.entries
-    ∙ inserted before c.args.name c.in_ok-meaning.meaning (sym c.contains_key.ensures ∙ c.if-contains_key.false)
-    ∙ ap (λ (m : Meaning). environment_of before ++ (c.args.name, meant m) ∷ []) c.in_ok-meaning.ensures.ok
+    ∙ inserted before c.args.name c.in_ok-bound.bound (sym c.contains_key.ensures ∙ c.if-contains_key.false)
+    ∙ ap (λ (b : Bound). environment_of before ++ (c.args.name, meant b.meaning, b.moved) ∷ []) c.in_ok-bound.ensures.ok

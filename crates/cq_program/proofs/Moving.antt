@@ -1,0 +1,80 @@
+-- What the calls that move transforms ask, and what they answer.
+use Rattle.std.proofs.Common.{◌≡◌, true, false, ℕ, List, ◌⊎◌, inl, inr, refl, sym, ap, subst, ◌∙◌}
+use Rattle.std.specs.Prelude.{Result, Ok, Err, IfOk, IfErr}
+use Rattle.cq_theory.specs.declared.lookup.SizeRefusal.{SizeRefusal}
+use Rattle.cq_theory.specs.declared.lookup.SizeRefusal.TheVariants.{TooLarge, Memory}
+use Rattle.cq_theory.specs.Schema.{IsSchema}
+use Rattle.cq_mapping.specs.MappingData.{MappingData}
+use Rattle.cq_move.specs.Pulling.{TellsSize}
+use Rattle.cq_query.specs.QueryData.{QueryData}
+use Rattle.cq_instance.specs.Given.{given}
+use Rattle.cq_instance.specs.InstanceData.{InstanceData, IsInstance}
+use Rattle.cq_instance.specs.Listed.{IsListed}
+use Rattle.cq_instance.specs.Spelling.{AreNullsSpelled, null_term_of}
+use Rattle.cq_instance.specs.declared.transform.Image.{Image}
+use Rattle.cq_instance.specs.declared.transform.Transform.{Transform}
+use Rattle.cq_transform.specs.Composing.{has_long}
+use Rattle.cq_transform.specs.Transforms.{GoesFrom}
+use Rattle.cq_adjoint.specs.Copies.{AreAllAnswers}
+use Rattle.cq_adjoint.specs.Moved.{IsSigmaOf, IsDeltaOf}
+use Rattle.cq_adjoint.specs.QueryMoves.{AreAcross, AreEvaluated, IsCoeval, IsEvaluated}
+use Rattle.cq_stating.specs.Environment.{IsBuilt}
+use Rattle.cq_stating.specs.Posing.{IsWhole}
+use Rattle.cq_stating.specs.Routes.{IsAnswered, IsPulled, IsPushed, IsReadBackwards}
+use Rattle.cq_program.specs.Movements.{Answered, HasImages, TellsLong}
+
+pub sigma_of : (F : MappingData) (i a : InstanceData) → IsPushed F i a → IsWhole a → IsSigmaOf F i a
+sigma_of F i a is whole = record { over = is.over; schema = is.schema; presentation = is.presentation; initial = whole.model }
+
+pub delta_of : (F : MappingData) (i a : InstanceData) → IsPulled F i a → IsDeltaOf F i a
+delta_of F i a is = record { over = is.over; instance = is.instance }
+
+pub coeval_is : (Q : QueryData) (i a : InstanceData) → IsReadBackwards Q i a → IsWhole a → IsCoeval Q i a
+coeval_is Q i a is whole = record { over = is.over; schema = is.schema; presentation = is.presentation; initial = whole.model }
+
+pub eval_is : (Q : QueryData) (i a : InstanceData) → IsAnswered Q i a → IsEvaluated Q i a
+eval_is Q i a is = record { over = is.over; tables = is.tables; given = is.instance }
+
+pub evaluated : (Q : QueryData) (i j a b : InstanceData) (from to : Answered) → IsAnswered Q i a → IsAnswered Q j b → AreAllAnswers Q i.tables from → AreAllAnswers Q j.tables to
+    → AreEvaluated Q i j a b from to
+evaluated Q i j a b from to source target are are' =
+    record { source = eval_is Q i a source; target = eval_is Q j b target; answered = are; answered_there = are' }
+
+pub across : (Q : QueryData) (i a j d : InstanceData) (answers : Answered) → IsWhole i → IsWhole a → IsReadBackwards Q i a → IsAnswered Q j d → AreAllAnswers Q j.tables answers
+    → AreAcross Q i a j d answers
+across Q i a j d answers whole copies backwards answered are =
+    record { initial = whole.model; coeval = coeval_is Q i a backwards copies; evaluated = eval_is Q j d answered; answered = are }
+
+-- the null terms of an instance that is listed or given spell its nulls
+pub spelled : (i : InstanceData) → IsSchema i.schema → IsInstance i → IsBuilt i
+    → ((j : InstanceData) → IsSchema j.schema → IsInstance j → j.given ≡ true → AreNullsSpelled j (null_term_of j))
+    → ((j : InstanceData) → IsSchema j.schema → IsInstance j → IsListed j → AreNullsSpelled j (null_term_of j)) → AreNullsSpelled i (null_term_of i)
+spelled i schema is built of_given of_listed = elim built [
+  | inl listed ↦ of_listed i schema is listed
+  | inr same ↦ of_given i schema is (ap (λ (j : InstanceData). j.given) same)
+]
+
+-- what a call answers has such images
+module _ (Are : List Image → Type 0) (start finish : InstanceData) (images : List Image) (are : Are images) where
+  pub has_images : (r : Result Transform SizeRefusal) → IfOk r (λ t. t.images ≡ images) → IfOk r (λ _. has_long images ≡ false) → IfOk r (λ t. GoesFrom t start finish)
+      → IfOk r (HasImages Are start finish)
+  has_images (Ok t) is fits goes = record { images = subst Are (sym is) are; fits = subst (λ (l : List Image). has_long l ≡ false) (sym is) fits; goes = goes }
+  has_images (Err refusal) is fits goes = tt
+
+  pub has_own_images : (r : Result Transform SizeRefusal) → IfOk r (λ t. t.images ≡ images) → IfOk r (λ t. has_long t.images ≡ false) → IfOk r (λ t. GoesFrom t start finish)
+      → IfOk r (HasImages Are start finish)
+  has_own_images (Ok t) is fits goes = record { images = subst Are (sym is) are; fits = fits; goes = goes }
+  has_own_images (Err refusal) is fits goes = tt
+
+  pub tells_long : (r : Result Transform SizeRefusal) → IfErr r (TellsSize (has_long images)) → IfErr r (TellsLong Are)
+  tells_long (Ok t) tells = tt
+  tells_long (Err TooLarge) tells = (images, are, tells)
+  tells_long (Err Memory) tells = tt
+
+  pub tells_own : (r : Result Transform SizeRefusal) → IfErr r (λ refusal. (refusal ≡ Memory) ⊎ ((refusal ≡ TooLarge) × (has_long images ≡ true))) → IfErr r (TellsLong Are)
+  tells_own (Ok t) tells = tt
+  tells_own (Err TooLarge) tells = elim tells [
+    | inl is ↦ absurd (cc is)
+    | inr both ↦ (images, are, both.1)
+  ]
+  tells_own (Err Memory) tells = tt

@@ -1,0 +1,26 @@
+use Rattle.std.proofs.Common.{◌≡◌, true, sym, ◌∙◌}
+use Rattle.cq_stating.specs.Meanings.{Ends, Environment, TransformMeant}
+use Rattle.cq_stating.specs.Environment.{ends_meant, environment_of, named_route_meant, transform_meant}
+use Rattle.cq_stating.proofs.Fitting.{along_ok, same_names}
+use Rattle.cq_stating.proofs.Known.{ends_are, is_moving_along}
+use Rattle.cq_stating.proofs.movements.moving_along.Goals as goal
+
+pub returns-clause-checked : goal.returns-clause-checked
+returns-clause-checked c =
+    let env : Environment = environment_of c.args.env.now.names.entries in
+    let h : TransformMeant = transform_meant c.in_ok-transform.transform in
+    let e : Ends = ends_meant c.in_ok-ends.ends in
+    along_ok env c.args.operation c.args.along.now c.args.moved.now c.args.source.now c.args.target.now (named_route_meant c.in_ok-named.named) e c.in_ok-named.ensures c.in_ok-ends.ensures
+    h c.in_ok-transform.ensures (same_names _ c.if-ne.ensures) (sym c.is_declared.ensures ∙ c.if-not-is_declared.false) (sym c.is_declared-2.ensures ∙ c.if-not-is_declared-2.false)
+
+pub returns-clause-moving : goal.returns-clause-moving
+returns-clause-moving c =
+    let env : Environment = environment_of c.args.env.now.names.entries in
+    let h : TransformMeant = transform_meant c.in_ok-transform.transform in
+    let e : Ends = ends_meant c.in_ok-ends.ends in
+    is_moving_along env c.args.operation c.args.along.now c.args.moved.now c.args.source.now c.args.target.now (named_route_meant c.in_ok-named.named) e c.requires.settled c.in_ok-named.ensures
+    c.in_ok-ends.ensures h c.in_ok-transform.ensures (sym c.is_declared.ensures ∙ c.if-not-is_declared.false) (sym c.is_declared-2.ensures ∙ c.if-not-is_declared-2.false)
+
+pub returns-clause-ends : goal.returns-clause-ends
+returns-clause-ends c =
+    (ends_are (environment_of c.args.env.now.names.entries) c.args.source.now c.args.target.now (ends_meant c.in_ok-ends.ends) c.in_ok-ends.ensures).0
