@@ -24,7 +24,7 @@ use Rattle.cq_stating.specs.Checks.{a_typeside, a_schema, a_mapping, an_identity
 use Rattle.cq_stating.specs.Checks.{delta_between, delta_posed, sigma_between, sigma_posed, eval_between, eval_posed, coeval_between, coeval_posed}
 use Rattle.cq_stating.specs.Environment.{AreSettled, IsBuiltAs, IsKnown, IsMovedAs, IsPrinted}
 use Rattle.cq_stating.specs.Folders.{Told, Reads}
-use Rattle.cq_stating.proofs.Known.{after}
+use Rattle.cq_stating.proofs.Known.{after, one_ok}
 use Rattle.cq_stating.proofs.Poses.{fresh, stated_on}
 use Rattle.cq_stating.proofs.Settled.{instance_meant_by, instance_settled, mapping_meant_by, mapping_settled, query_meant_by, query_settled, one_printed}
 use Rattle.cq_program.specs.Program.{Declares, Stands}
@@ -57,14 +57,14 @@ unmoved env (instance n i) = tt
 unmoved env (transform e t) = tt
 
 fits : (b : Bool) (p q : Posed) (at : Place × Reason) → ◌≡◌ {A = Checked Posed} (if b then Ok p else Err at) (Ok q) → (false ≡ not b) × (p ≡ q)
-fits true p q at is = (refl, cc)
+fits true p q at is = (refl, one_ok p q is)
 fits false p q at is = absurd (cc is)
 
 -- what is posed at once and read is that
 read_at_once : (told : Told) (check : Checked Posed) (stated : Stated) (posed : Posed) → and_then check (λ p. Ok (at_once p)) ≡ Ok stated → Reads told stated posed → check ≡ Ok posed
 read_at_once told (Err at) stated posed is reads = absurd (cc is)
 read_at_once told (Ok p) stated posed is reads =
-    let one : at_once p ≡ stated = cc in
+    let one : at_once p ≡ stated = one_ok (at_once p) stated is in
     let same : posed ≡ p = subst (λ (s : Stated). Reads told s posed) (sym one) reads in
     ap (λ (q : Posed). Ok q) (sym same)
 

@@ -9,6 +9,7 @@ pub mod OneTransform
 pub mod OneReading
 pub mod OneMove
 pub mod OneMeaning
+pub mod AllAnswers
 pub mod Known
 pub mod Moving
 pub mod Breaches

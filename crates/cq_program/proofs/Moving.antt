@@ -19,9 +19,13 @@ use Rattle.cq_adjoint.specs.Copies.{AreAllAnswers}
 use Rattle.cq_adjoint.specs.Moved.{IsSigmaOf, IsDeltaOf}
 use Rattle.cq_adjoint.specs.QueryMoves.{AreAcross, AreEvaluated, IsCoeval, IsEvaluated}
 use Rattle.cq_stating.specs.Environment.{IsBuilt}
-use Rattle.cq_stating.specs.Posing.{IsWhole}
-use Rattle.cq_stating.specs.Routes.{IsAnswered, IsPulled, IsPushed, IsReadBackwards}
-use Rattle.cq_program.specs.Movements.{Answered, HasImages, TellsLong}
+use Rattle.cq_stating.specs.Checks.{a_move}
+use Rattle.cq_stating.specs.Meanings.{Ends, Meant, transform}
+use Rattle.cq_stating.specs.Movements.{Move, Movement, moved_along, there_and_back}
+use Rattle.cq_stating.specs.Posing.{Carried, IsMovement, IsMoving, IsWhole}
+use Rattle.cq_stating.specs.Routes.{IsAnswered, IsPulled, IsPushed, IsReadBackwards, Route}
+use Rattle.cq_program.specs.Movements.{Answered, AreAround, AreImages, AreMoved, HasImages, TellsLong}
+use Rattle.cq_program.specs.Program.{Stands}
 
 pub sigma_of : (F : MappingData) (i a : InstanceData) → IsPushed F i a → IsWhole a → IsSigmaOf F i a
 sigma_of F i a is whole = record { over = is.over; schema = is.schema; presentation = is.presentation; initial = whole.model }
@@ -78,3 +82,36 @@ module _ (Are : List Image → Type 0) (start finish : InstanceData) (images : L
     | inr both ↦ (images, are, both.1)
   ]
   tells_own (Err Memory) tells = tt
+
+start_whole : (v : Movement) (e : Ends) → IsMovement v e → IsWhole e.start.instance
+start_whole (moved_along r h) e is = is.start
+start_whole (there_and_back r x) e is = is.start_whole
+
+-- a transform with the images of a movement stands for it
+pub stands_move : (v : Move) (m : Meant) (t : Transform) → IsMoving v → IsSchema v.ends.start.instance.schema
+    → HasImages (AreImages v.movement v.ends) v.ends.start.instance v.ends.finish.instance t → m ≡ transform v.ends t → Stands (a_move v) m
+stands_move v m t is schema has named = (
+  t,
+  named,
+  record { images_are = refl; schema = schema; initial = (start_whole v.movement v.ends is).model.0; goes = has.goes },
+  has.images,
+  has.fits,
+)
+
+-- what is answered along a route is answered along the same one
+module _ (r s : Route) (k l : Carried) (routes : r ≡ s) (same : k ≡ l) (answer : Result Transform SizeRefusal) where
+  pub made_along : IfOk answer (HasImages (AreMoved r k) k.start k.finish) → IfOk answer (HasImages (AreMoved s l) l.start l.finish)
+  made_along made = subst (λ (p : Route × Carried). IfOk answer (HasImages (AreMoved p.0 p.1) p.1.start p.1.finish)) (λ i. (routes i, same i)) made
+
+  pub refused_along : IfErr answer (TellsLong (AreMoved r k)) → IfErr answer (TellsLong (AreMoved s l))
+  refused_along refused = subst (λ (p : Route × Carried). IfErr answer (TellsLong (AreMoved p.0 p.1))) (λ i. (routes i, same i)) refused
+
+module _ (r s : Route) (start start' finish finish' : InstanceData) (there : InstanceData) (routes : r ≡ s) (starts : start ≡ start') (finishes : finish ≡ finish')
+    (answer : Result Transform SizeRefusal) where
+  pub made_around : IfOk answer (HasImages (AreAround r start finish there) start finish) → IfOk answer (HasImages (AreAround s start' finish' there) start' finish')
+  made_around made =
+      subst (λ (p : Route × InstanceData × InstanceData). IfOk answer (HasImages (AreAround p.0 p.1 p.2 there) p.1 p.2)) (λ i. (routes i, starts i, finishes i)) made
+
+  pub refused_around : IfErr answer (TellsLong (AreAround r start finish there)) → IfErr answer (TellsLong (AreAround s start' finish' there))
+  refused_around refused =
+      subst (λ (p : Route × InstanceData × InstanceData). IfErr answer (TellsLong (AreAround p.0 p.1 p.2 there))) (λ i. (routes i, starts i, finishes i)) refused

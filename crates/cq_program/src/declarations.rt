@@ -171,11 +171,7 @@ fn instances_in(
     Ok(named)
 }
 
-fn push_instance(
-    named: &mut Vec<Named>,
-    name: Name,
-    bound: Box<Bound>,
-) -> Result<(), AllocError>
+fn push_instance(named: &mut Vec<Named>, name: Name, bound: Box<Bound>) -> Result<(), AllocError>
     ensures { OnOk result (map listed_as named.new.items
         ≡ map listed_as named.old.items ++ listings_in (name, bound)) }
 {

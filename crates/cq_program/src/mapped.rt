@@ -10,9 +10,9 @@ ghost use Rattle.cq_program.specs.Movements.{AreAround, AreMoved, HasImages, Tel
 
 use crate::carrying::Carrying;
 use cq_adjoint::{delta_map, from_delta, sigma_map, to_delta};
+use cq_instance::laws::null_terms_spell;
 use cq_mapping::Mapping;
 use cq_model::{Instance, Transform};
-use cq_instance::laws::null_terms_spell;
 use cq_stating::is_over_schema;
 use cq_theory::SizeRefusal;
 use cq_transform::identity;

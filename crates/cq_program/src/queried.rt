@@ -10,9 +10,9 @@ use crate::carrying::Carrying;
 use crate::mapped::own;
 use cq_adjoint::{coeval_map, eval_map, from_eval, to_eval};
 use cq_eval::answers;
+use cq_instance::laws::null_terms_spell;
 use cq_model::{Instance, Transform};
 use cq_query::Query;
-use cq_instance::laws::null_terms_spell;
 use cq_stating::is_over_schema;
 use cq_theory::SizeRefusal;
 use std::alloc::{AllocError, Global};
@@ -113,7 +113,16 @@ pub fn query_unit(
     let Ok(found) = all_answers(alloc, query, there) else {
         return Err(SizeRefusal::Memory);
     };
-    to_eval(alloc, query, &itself, start, there, there, finish, found.as_slice())
+    to_eval(
+        alloc,
+        query,
+        &itself,
+        start,
+        there,
+        there,
+        finish,
+        found.as_slice(),
+    )
 }
 
 /// The counit to an instance from coeval of its eval, which is there.
@@ -138,5 +147,14 @@ pub fn query_counit(
     is_over_schema(finish);
     finish.is_instance();
     null_terms_spell();
-    from_eval(alloc, query, &itself, there, start, finish, there, found.as_slice())
+    from_eval(
+        alloc,
+        query,
+        &itself,
+        there,
+        start,
+        finish,
+        there,
+        found.as_slice(),
+    )
 }

@@ -34,7 +34,7 @@ other_names true h = absurd (cc h)
 other_names false h = refl
 
 module _ (env : Environment) (op : Operation) (by moved source target : Spot) (x : Name × Route) (e : Ends)
-  (route_is : route_used env op by ≡ Ok x) (ends : ends_used env source target ≡ Ok e) where
+    (route_is : route_used env op by ≡ Ok x) (ends : ends_used env source target ≡ Ok e) where
   module _ (h : TransformMeant) (used : transform_used env moved ≡ Ok h) where
     -- the checks come to what fits
     along_then : along_checked env op by moved source target ≡ along_fits env op by moved source target x h e

@@ -58,6 +58,9 @@ one_route o is is' = let both = sym is ∙ is' in cc
 one_instance : (n m : Name) (i j : InstanceData) → instance n i ≡ instance m j → i ≡ j
 one_instance n m i j is = cc
 
+pub one_ok : {A : Type 0} (a b : A) → ◌≡◌ {A = Checked A} (Ok a) (Ok b) → a ≡ b
+one_ok a b is = cc
+
 -- a check after another gives what it gives
 pub after : {A B : Type 0} (check : Checked A) (f : A → Checked B) (b : B) → and_then check f ≡ Ok b → (a : A) × (check ≡ Ok a) × (f a ≡ Ok b)
 after (Ok a) f b is = (a, refl, is)
@@ -85,7 +88,7 @@ pub record IsRouted (env : Environment) (op : Operation) (name : Name) (route : 
   sound : IsSound route
 
 made_route : (x : Name × Route) (n : Name) (r : Route) → ◌≡◌ {A = Checked (Name × Route)} (Ok (n, r)) (Ok x) → r ≡ x.1
-made_route x n r is = cc
+made_route x n r is = ap (λ (p : Name × Route). p.1) (one_ok (n, r) x is)
 
 pub routed : (env : Environment) (op : Operation) (spot : Spot) (x : Name × Route) → AreSettled env → route_used env op spot ≡ Ok x → IsRouted env op spot.name x.1
 routed env operation.Sigma spot x settled is =
@@ -167,16 +170,15 @@ pub ends_are : (env : Environment) (source target : Spot) (e : Ends) → ends_us
 ends_are env source target e is =
     let p = after (instance_used env source) (λ i. and_then (instance_used env target) (λ j. Ok (two_ends source target i j))) e is in
     let q = after (instance_used env target) (λ j. Ok (two_ends source target p.0 j)) e p.2 in
-    let made : two_ends source target p.0 q.0 ≡ e = cc in
-    let there = (instance_meant_by env source p.0 p.1, instance_meant_by env target q.0 q.1) in
-    (
+    let made : two_ends source target p.0 q.0 ≡ e = one_ok (two_ends source target p.0 q.0) e q.2 in
+    let there = (instance_meant_by env source p.0 p.1, instance_meant_by env target q.0 q.1) in (
       subst (AreEnds env) made there,
       subst (λ (f : Ends). meant_by env source.name ≡ Some (instance f.start.schema f.start.instance)) made there.0,
       subst (λ (f : Ends). meant_by env target.name ≡ Some (instance f.finish.schema f.finish.instance)) made there.1,
     )
 
 module _ (env : Environment) (op : Operation) (by moved source target : Spot) (x : Name × Route) (e : Ends) (settled : AreSettled env)
-  (route_is : route_used env op by ≡ Ok x) (ends : ends_used env source target ≡ Ok e) where
+    (route_is : route_used env op by ≡ Ok x) (ends : ends_used env source target ≡ Ok e) where
   -- a transform along an operation is a movement
   pub is_moving_along : (h : TransformMeant) → transform_used env moved ≡ Ok h → is_declared env op by.name h.ends.source source.name ≡ true
       → is_declared env op by.name h.ends.target target.name ≡ true → IsMovingAlong x.1 (carried h e)
@@ -192,9 +194,9 @@ module _ (env : Environment) (op : Operation) (by moved source target : Spot) (x
         start = whole env source.name e.start.schema e.start.instance settled are.1;
         finish = whole env target.name e.finish.schema e.finish.instance settled are.2;
         start_moved = along_route env op by.name x.1 r.along r.along_is r.route_is source.name e.start.schema h.ends.source h.ends.start.schema e.start.instance h.ends.start.instance
-        settled (declared_so env op by.name h.ends.source source.name start) are.1 is.0.0;
+            settled (declared_so env op by.name h.ends.source source.name start) are.1 is.0.0;
         finish_moved = along_route env op by.name x.1 r.along r.along_is r.route_is target.name e.finish.schema h.ends.target h.ends.finish.schema e.finish.instance h.ends.finish.instance
-        settled (declared_so env op by.name h.ends.target target.name finish) are.2 is.0.1;
+            settled (declared_so env op by.name h.ends.target target.name finish) are.2 is.0.1;
       }
 
 -- the instance between an operand and one that is declared as there and back
@@ -207,7 +209,7 @@ record IsBetween (env : Environment) (op : Operation) (along operand name : Name
 
 wrong_or : (place : Place) (o : Option InstanceData) (x : InstanceData) → or_wrong_operand place o ≡ Ok x → o ≡ Some x
 wrong_or place None x is = absurd (cc is)
-wrong_or place (Some y) x is = cc
+wrong_or place (Some y) x is = ap (λ (z : InstanceData). Some z) (one_ok y x is)
 
 instance_by_there : (m : Meant) (x : InstanceData) → instance_by m ≡ Some x → (n : Name) × (m ≡ instance n x)
 instance_by_there (typeside T) x is = absurd (cc is)
@@ -258,7 +260,7 @@ right_around (by_eval Q) s f x right there back = (there, back)
 right_around (by_coeval Q) s f x right there back = absurd (cc right)
 
 module _ (env : Environment) (op : Operation) (by moved source target : Spot) (x : Name × Route) (e : Ends) (i : InstanceMeant) (there : InstanceData) (settled : AreSettled env)
-  (route_is : route_used env op by ≡ Ok x) (ends : ends_used env source target ≡ Ok e) (used : instance_used env moved ≡ Ok i) where
+    (route_is : route_used env op by ≡ Ok x) (ends : ends_used env source target ≡ Ok e) (used : instance_used env moved ≡ Ok i) where
   -- what an operation makes of the operand is there, and what the one that goes back makes of that is the end
   around_there : (n : Name) (a : InstanceData) → meant_by env moved.name ≡ Some (instance n a) → (spot : Spot) → between_used env op by moved spot ≡ Ok there → IsMovedAlong x.1 a there
   around_there n a is spot found =
@@ -289,7 +291,7 @@ module _ (env : Environment) (op : Operation) (by moved source target : Spot) (x
         start_whole = whole env source.name e.start.schema e.start.instance settled are.1;
         finish_whole = whole env target.name e.finish.schema e.finish.instance settled are.2;
         around = left_around x.1 e.start.instance e.finish.instance there (ap is_left r.of ∙ left) (around_there e.start.schema e.start.instance start target found)
-        (around_back e.finish.schema e.finish.instance target are.2 found);
+            (around_back e.finish.schema e.finish.instance target are.2 found);
       }
 
   pub is_counit : is_left op ≡ false → same_name moved.name target.name ≡ true → between_used env op by moved source ≡ Ok there → IsMovingAround x.1 e.start.instance e.finish.instance there
@@ -304,5 +306,5 @@ module _ (env : Environment) (op : Operation) (by moved source target : Spot) (x
         start_whole = whole env source.name e.start.schema e.start.instance settled are.1;
         finish_whole = whole env target.name e.finish.schema e.finish.instance settled are.2;
         around = right_around x.1 e.start.instance e.finish.instance there (ap is_left r.of ∙ right) (around_there e.finish.schema e.finish.instance finish source found)
-        (around_back e.start.schema e.start.instance source are.1 found);
+            (around_back e.start.schema e.start.instance source are.1 found);
       }

@@ -127,13 +127,12 @@ known-more env last entry is = (is.0, moved_as-more env last entry.1 entry.2 is.
 pub AreSettled-more : (env : Environment) (name : Name) (m : Meant) (v : Option Moved) → AreSettled env → is_some (meant_by env name) ≡ false → WillSettle env name m
     → IsKnown env (name, m, v) → AreSettled (env ++ (name, m, v) ∷ [])
 AreSettled-more env name m v settled new will known =
-    let longer : Environment = env ++ (name, m, v) ∷ [] in
-    (
+    let longer : Environment = env ++ (name, m, v) ∷ [] in (
       All-push (λ (entry : Binding). IsSettled longer entry.1) env (name, m, v)
-      (All-weaker (λ (entry : Binding). IsSettled env entry.1) (λ (entry : Binding). IsSettled longer entry.1) (λ entry. settled-more env (name, m, v) entry.1) env settled.0)
-      (settles env name m v new will),
+          (All-weaker (λ (entry : Binding). IsSettled env entry.1) (λ (entry : Binding). IsSettled longer entry.1) (λ entry. settled-more env (name, m, v) entry.1) env settled.0)
+          (settles env name m v new will),
       All-push (IsKnown longer) env (name, m, v) (All-weaker (IsKnown env) (IsKnown longer) (known-more env (name, m, v)) env settled.1)
-      (known-more env (name, m, v) (name, m, v) known),
+          (known-more env (name, m, v) (name, m, v) known),
     )
 
 -- what a name stands for is settled

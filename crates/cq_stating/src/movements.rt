@@ -123,10 +123,22 @@ fn moving_along(
     if named.taken != transform.ends.start.schema {
         return Err(ProgramRefusal::Broken(moved.place, Reason::WrongSchema));
     }
-    if !is_declared(env, operation, &along.name, &transform.ends.source, &source.name) {
+    if !is_declared(
+        env,
+        operation,
+        &along.name,
+        &transform.ends.source,
+        &source.name,
+    ) {
         return Err(ProgramRefusal::Broken(source.place, Reason::WrongOperand));
     }
-    if !is_declared(env, operation, &along.name, &transform.ends.target, &target.name) {
+    if !is_declared(
+        env,
+        operation,
+        &along.name,
+        &transform.ends.target,
+        &target.name,
+    ) {
         return Err(ProgramRefusal::Broken(target.place, Reason::WrongOperand));
     }
     Ok(Moving {

@@ -36,3 +36,6 @@ returns-in-Schema-GetSchema-clause-grounded c = c.pose_joined_schema.ensures.gro
 
 pub returns-in-Mapping-GetMapping-clause-grounded : goal.returns-in-Mapping-GetMapping-clause-grounded
 returns-in-Mapping-GetMapping-clause-grounded c = c.pose_inclusion.ensures.grounded c.args.name.now
+
+pub returns-in-Transform-Move-clause-grounded : goal.returns-in-Transform-Move-clause-grounded
+returns-in-Transform-Move-clause-grounded c = c.pose_move.ensures.grounded c.args.name.now
