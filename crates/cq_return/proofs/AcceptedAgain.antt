@@ -1,5 +1,5 @@
 -- What an instance gives is accepted again, and what is then made is the instance, one to one.
-use Rattle.std.proofs.Common.{ℕ, ◌≡◌, ◌≤◌, sum}
+use Rattle.std.proofs.Common.{◌≡◌, ◌≤◌, sum}
 use Rattle.std.specs.Prelude.{All}
 use Rattle.cq_theory.specs.Canonical.{canonical}
 use Rattle.cq_theory.specs.Presentation.{IsPresentation}

@@ -1,5 +1,5 @@
 -- Tables and the initial model of their canonical presentation: transforms both ways, each of which undoes the other.
-use Rattle.std.proofs.Common.{ℕ, zero, suc, List, [], ◌∷◌, Option, Some, None, ◌≡◌, ◌<◌, inl, inr, map, length, refl, sym, ap, subst, ◌∙◌, arith}
+use Rattle.std.proofs.Common.{ℕ, zero, suc, List, [], ◌∷◌, Option, Some, ◌≡◌, ◌<◌, inl, inr, map, length, refl, sym, ap, subst, ◌∙◌, arith}
 use Rattle.std.specs.Prelude.{slice_get, slice_index_or, option_map}
 use Rattle.std.proofs.lemmas.List.{length-map}
 use Rattle.std.proofs.lemmas.Option.{get_or_from_slice_get, slice_get_within}
@@ -11,8 +11,6 @@ use Rattle.cq_theory.specs.declared.presentation.Sort.TheVariants.{Plain, Entity
 use Rattle.cq_theory.specs.declared.term.EntTerm.{EntTerm}
 use Rattle.cq_theory.specs.declared.term.Term.{Term}
 use Rattle.cq_theory.specs.declared.term.Term.TheVariants.{Ent, Typ}
-use Rattle.cq_theory.specs.declared.term.TypeTerm.{TypeTerm}
-use Rattle.cq_theory.specs.declared.term.TypeTerm.TheVariants as term
 use Rattle.cq_theory.specs.declared.value.Value.{Value}
 use Rattle.cq_theory.specs.declared.value.Value.TheVariants.{Null}
 use Rattle.cq_theory.specs.Canonical.{canonical, canonical_assignment, row_term, value_term}
@@ -27,18 +25,17 @@ use Rattle.cq_theory.proofs.ResolvedSorts.{map_some}
 use Rattle.cq_theory.proofs.Sound.{row_of-within}
 use Rattle.cq_theory.proofs.Typing.{value_typed}
 use Rattle.cq_theory.proofs.Values.{fold-Null}
-use Rattle.cq_instance.specs.InstanceData.{InstanceData, IsInstance}
+use Rattle.cq_instance.specs.InstanceData.{InstanceData}
 use Rattle.cq_instance.specs.declared.transform.Image.{Image}
 use Rattle.cq_instance.specs.declared.transform.Image.TheVariants.{Row, Value as ValueImage}
 use Rattle.cq_instance.specs.declared.transform.Transform.{Transform}
 use Rattle.cq_instance.proofs.Lists.{get-map}
 use Rattle.cq_instance.proofs.CanonicalDerived as derived
 use Rattle.cq_instance.proofs.CanonicalGenerators as generators
-use Rattle.cq_instance.proofs.CanonicalHolds as model
 use Rattle.cq_instance.proofs.CanonicalTerms as terms
 use Rattle.cq_transform.specs.Agreement.{meaning_image, Agrees}
-use Rattle.cq_transform.specs.OneToOne.{AreOneToOne, IsUndone}
-use Rattle.cq_transform.specs.Transforms.{term_of, meanings_in, GoesFrom}
+use Rattle.cq_transform.specs.OneToOne.{AreOneToOne}
+use Rattle.cq_transform.specs.Transforms.{term_of, GoesFrom}
 use Rattle.cq_transform.proofs.Composites.{meaning_goes}
 use Rattle.cq_transform.proofs.ExactlyOne.{some_homomorphism}
 use Rattle.cq_transform.proofs.Kept.{row_goes, value_goes}

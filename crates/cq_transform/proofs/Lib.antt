@@ -20,3 +20,5 @@ pub mod Composed
 pub mod Composites
 pub mod Placed
 pub mod BothWays
+pub mod Overs
+pub mod Checked
