@@ -12,6 +12,7 @@
 #![tactic(auto)]
 
 mod along;
+pub mod coeval_maps;
 mod crossing;
 pub mod eval_maps;
 pub mod into_eval;
@@ -19,6 +20,7 @@ pub mod laws;
 mod layout;
 mod limits;
 pub mod named;
+pub mod out_of_coeval;
 mod places;
 mod pulled;
 mod pushed;
@@ -28,8 +30,10 @@ mod spelled;
 mod spelling;
 
 pub use along::sigma_map;
+pub use coeval_maps::coeval_map;
 pub use eval_maps::eval_map;
 pub use into_eval::to_eval;
 pub use named::Naming;
+pub use out_of_coeval::from_eval;
 pub use pulled::{delta_map, to_delta};
-pub use pushed::from_delta_by;
+pub use pushed::{from_delta, from_delta_by};

@@ -6,7 +6,7 @@ ghost use Rattle.cq_move.specs.Pulling.{TellsSize};
 ghost use Rattle.cq_transform.specs.Composing.{has_long};
 ghost use Rattle.cq_adjoint.specs.Moves.{each_generator, spelled_value};
 ghost use Rattle.cq_adjoint.specs.Nameable.{IsNameable, AreNameable, moved_name};
-ghost use Rattle.cq_adjoint.specs.Spelling.{term_among};
+ghost use Rattle.cq_instance.specs.Spelling.{term_among};
 
 use crate::limits::push_image;
 use crate::sending::{sent_row, sent_value};
