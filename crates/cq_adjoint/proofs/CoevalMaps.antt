@@ -109,8 +109,8 @@ module _ (Q : Query) (query : IsQuery Q) (h : Transform) (i j a b : InstanceData
   known = coeval.known Q query i a from source
 
   -- a row goes to a row
-  inside' : (e row : ℕ) → row < count_of M e → to_row e row < count_of L e
-  inside' e row inside =
+  pub goes_inside : (e row : ℕ) → row < count_of M e → to_row e row < count_of L e
+  goes_inside e row inside =
       let list = member_at h.rows e (omega (arith, homomorphism.entities, known e row inside)) in
       let are = homomorphism.each_row e list.0 list.1 in
       let is : to_row e row ≡ slice_index list.0 row = ap (λ (l : List ℕ). slice_index l row) (get_or_from_slice_get h.rows e list.0 [] list.1) in
@@ -176,13 +176,13 @@ module _ (Q : Query) (query : IsQuery Q) (h : Transform) (i j a b : InstanceData
   rows_same e row inside =
       let within = known e row inside in
       let size : length (rows_at e row) ≡ width e = length-map (row_terms Q counts e row) (row_of N B) ∙ (stand Q M e row within inside).count in
-      same_list (rows_at e row) (rows_at' e (to_row e row)) (size ∙ sym (copies.rows_count Q query L tables' N A holds e (to_row e row) within (inside' e row inside))) (λ k x y left right.
+      same_list (rows_at e row) (rows_at' e (to_row e row)) (size ∙ sym (copies.rows_count Q query L tables' N A holds e (to_row e row) within (goes_inside e row inside))) (λ k x y left right.
       let v = within_length (variables_at Q e) (rows_at e row) k x left (sym size) in
       let less : k < width e = slice_get_within (variables_at Q e) k v.0 v.1 in
       let here : slice_get (rows_at e row) k ≡ Some (row_of N B (copy_of Q M e row k)) =
       get-map (row_of N B) (row_terms Q counts e row) k (copy_of Q M e row k) (copy_term Q M e row k v.0 within inside v.1) in
       let over : slice_get (rows_at' e (to_row e row)) k ≡ Some (row_of N A (copy_of Q L e (to_row e row) k)) =
-      get-map (row_of N A) (row_terms Q L.sheet.counts e (to_row e row)) k (copy_of Q L e (to_row e row) k) (copy_term Q L e (to_row e row) k v.0 within (inside' e row inside) v.1) in
+      get-map (row_of N A) (row_terms Q L.sheet.counts e (to_row e row)) k (copy_of Q L e (to_row e row) k) (copy_term Q L e (to_row e row) k v.0 within (goes_inside e row inside) v.1) in
       let first : Some (row_of N B (copy_of Q M e row k)) ≡ Some x = sym here ∙ left in
       let second : Some (row_of N A (copy_of Q L e (to_row e row) k)) ≡ Some y = sym over ∙ right in
       let middle_is : row_of N B (copy_of Q M e row k) ≡ row_of N A (copy_of Q L e (to_row e row) k) =
@@ -279,7 +279,7 @@ module _ (Q : Query) (query : IsQuery Q) (h : Transform) (i j a b : InstanceData
       beside_numbers IsSorted (λ (v : Name × ℕ). Entity v.1) (copy_sent Q h i j e row) (variables_at Q e) 0 (λ k v at.
       let here : k ≡ 0 + k = omega arith in
       subst (λ m. IsSorted (Entity v.1) (copy_sent Q h i j e row m)) here
-      (ap (option_map Entity) (coeval.copy_over Q query j b to middle e (to_row e row) k v (inside' e row inside) at)))))
+      (ap (option_map Entity) (coeval.copy_over Q query j b to middle e (to_row e row) k v (goes_inside e row inside) at)))))
       )
       (beside_numbers IsSorted Plain (null_sent Q h i j) M.algebra.nulls 0 (λ k type at.
       let here : k ≡ 0 + k = omega arith in
@@ -322,15 +322,15 @@ module _ (Q : Query) (query : IsQuery Q) (h : Transform) (i j a b : InstanceData
     count = length-map images (λ (x : Image). meaning_of N A (term_of x)) ∙ image_count;
     sorts = meaning_right;
     answer = λ e row within inside.
-        subst (IsAnswer Q N e) (sym (rows_same e row inside)) (copies.are_answer Q query L tables' N A holds e (to_row e row) within (inside' e row inside));
+        subst (IsAnswer Q N e) (sym (rows_same e row inside)) (copies.are_answer Q query L tables' N A holds e (to_row e row) within (goes_inside e row inside));
     key = λ k edge is row inside.
         rows_same edge.to (key_at M k row) (key_inside k edge is row inside)
         ∙ ap (rows_at' edge.to) (homomorphism.keys k edge is row inside)
-        ∙ copies.key_led Q query L tables' N A holds k edge is (to_row edge.from row) (inside' edge.from row inside)
+        ∙ copies.key_led Q query L tables' N A holds k edge is (to_row edge.from row) (goes_inside edge.from row inside)
         ∙ ap (led Q N k) (sym (rows_same edge.from row inside));
     cell = λ c edge is row inside.
         ap (λ (l : List ℕ). value_of N (stands Q N l) (attribute_term Q c)) (rows_same edge.from row inside)
-        ∙ copies.cell_means Q query L tables' N A holds c edge is (to_row edge.from row) (inside' edge.from row inside)
+        ∙ copies.cell_means Q query L tables' N A holds c edge is (to_row edge.from row) (goes_inside edge.from row inside)
         ∙ ap value_at' (sym (homomorphism.cells c edge is row inside))
         ∙ sym (value_same (cell_at M c row) edge.to (cell_typed c edge is row inside));
     entry = entry_same;

@@ -31,6 +31,7 @@ pub mod ToEval
 pub mod EvalMaps
 pub mod OutOfCoeval
 pub mod Besides
+pub mod Appended
 pub mod CoevalMaps
 pub mod SortedGenerators
 pub mod EvalImages

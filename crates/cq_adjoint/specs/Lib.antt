@@ -9,4 +9,5 @@ pub mod QueryMoves
 pub mod AnswerNames
 pub mod TransposedQueries
 pub mod Crossing
+pub mod Copying
 pub mod Evaluating
