@@ -135,5 +135,13 @@ pub fn from_delta(
     ensures refused { IfErr result (TellsSize (has_long (images_from_delta mapping.now k.now (null_term_of j.now) i.now
         j.now d.now))) }
 {
-    Err(SizeRefusal::Memory)
+    let Ok(null_terms) = j.null_terms(alloc) else {
+        return Err(SizeRefusal::Memory);
+    };
+    let named = null_terms.as_slice();
+    let naming = Naming {
+        to: j,
+        null_terms: named,
+    };
+    from_delta_by(alloc, mapping, k, i, a, d, &naming)
 }
