@@ -39,6 +39,7 @@ use Rattle.cq_instance.specs.declared.transform.Transform.{Transform}
 use Rattle.cq_instance.proofs.Lists.{get-map, get-append, get-append_front, get-range, map-map}
 use Rattle.cq_transform.specs.Transforming.{AreKept, AreSorted}
 use Rattle.cq_transform.specs.Transforms.{term_of, meanings_in, GoesFrom}
+use Rattle.cq_transform.proofs.Kept as kept
 use Rattle.cq_transform.proofs.Loops.{member_at}
 use Rattle.cq_transform.proofs.Made.{meaning_sorted}
 use Rattle.cq_query.specs.QueryData.{QueryData as Query}
@@ -50,7 +51,7 @@ use Rattle.cq_query.specs.Coeval.{size_of, start_of, null_start, row_terms, row_
 use Rattle.cq_query.proofs.Copying.{const_sum}
 use Rattle.cq_query.proofs.Standing.{within_length}
 use Rattle.cq_adjoint.specs.Copies.{copy_of, copied_value}
-use Rattle.cq_adjoint.specs.QueryMoves.{IsCoeval, copy_sent, copies_of_row, null_sent, coeval_images}
+use Rattle.cq_adjoint.specs.QueryMoves.{IsCoeval, row_sent, value_sent, copy_sent, copies_of_row, null_sent, coeval_images}
 use Rattle.cq_adjoint.proofs.AnsweredRows.{same_list}
 use Rattle.cq_adjoint.proofs.Besides.{Beside, beside_count, beside_at, beside_append, beside_ranges, beside_numbers}
 use Rattle.cq_adjoint.proofs.CoevalTerms as coeval
@@ -139,7 +140,7 @@ module _ (Q : Query) (query : IsQuery Q) (h : Transform) (i j a b : InstanceData
   rows_size : length (flat_map of_entity (below n)) ≡ null_start Q counts
   rows_size = length-flat_map of_entity (below n) ∙ (λ k. sum_by (λ (e : ℕ). entity_size e k) (below n)) ∙ sym (sum-map (size_of Q counts) (below n))
 
-  image_at : (e row k : ℕ) → e < n → row < count_of M e → k < width e → slice_get images (start_of Q counts e + row * width e + k) ≡ Some (copy_sent Q h i j e row k)
+  pub image_at : (e row k : ℕ) → e < n → row < count_of M e → k < width e → slice_get images (start_of Q counts e + row * width e + k) ≡ Some (copy_sent Q h i j e row k)
   image_at e row k within inside less =
       let here : 0 + k ≡ k = omega arith in
       let zero_row : 0 + row ≡ row = omega arith in
@@ -155,7 +156,7 @@ module _ (Q : Query) (query : IsQuery Q) (h : Transform) (i j a b : InstanceData
       get-append_front (flat_map of_entity (below n)) (map (null_sent Q h i j) (below nulls)) (start_of Q counts e + row * width e + k) (copy_sent Q h i j e row k)
       (ap (slice_get (flat_map of_entity (below n))) place ∙ in_entity)
 
-  null_image_at : (label : ℕ) → label < nulls → slice_get images (null_start Q counts + label) ≡ Some (null_sent Q h i j label)
+  pub null_image_at : (label : ℕ) → label < nulls → slice_get images (null_start Q counts + label) ≡ Some (null_sent Q h i j label)
   null_image_at label less =
       let here : 0 + label ≡ label = omega arith in
       ap (λ m. slice_get images (m + label)) (sym rows_size)
@@ -289,7 +290,7 @@ module _ (Q : Query) (query : IsQuery Q) (h : Transform) (i j a b : InstanceData
   generators_are : (k : ℕ) (g : Name × Sort) → slice_get (coeval_of Q M).generators k ≡ Some g → slice_get sorts k ≡ Some g.1
   generators_are = sort_of_named sorts
 
-  image_count : length images ≡ length (coeval_of Q M).generators
+  pub image_count : length images ≡ length (coeval_of Q M).generators
   image_count = sym (beside_count IsSorted sorted_beside) ∙ sym (named_length sorts)
 
   meaning_right : (k : ℕ) (g : Name × Sort) → slice_get (coeval_of Q M).generators k ≡ Some g → HasSort Q.source N g.1 (slice_index_or B k (AtRow 0))
@@ -350,3 +351,20 @@ module _ (Q : Query) (query : IsQuery Q) (h : Transform) (i j a b : InstanceData
 
   pub schemas : b.schema ≡ a.schema
   schemas = to.schema ∙ sym from.schema
+
+  -- what is made of the images sends the copies of a row to those of the row to which it goes, and what values mean to what their images mean
+  module _ (made : Transform) (same : made.images ≡ images) (between : GoesFrom made a b) where
+    pub copy_goes : (e row k : ℕ) (v : Name × ℕ) → row < count_of M e → slice_get (variables_at Q e) k ≡ Some v
+        → row_sent made a b v.1 (copy_of Q M e row k) ≡ row_of N A (copy_of Q L e (to_row e row) k)
+    copy_goes e row k v inside at =
+        kept.row_goes a.schema a.presentation a.tables N a.assignment (meanings_in b made.images) made.rows made.nulls from.initial.0.holds between.homomorphism between.agrees (copy_of Q M e row k) v.1
+        (coeval.copy_over Q query i a from source e row k v inside at)
+        ∙ ap (λ (l : List Image). row_of N (meanings_in b l) (copy_of Q M e row k)) same
+        ∙ ap row_in (meant_at (start_of Q counts e + row * width e + k) (copy_sent Q h i j e row k) (image_at e row k (known e row inside) inside (slice_get_within (variables_at Q e) k v at)))
+
+    pub value_goes : (v : Value) (type : ℕ) → value_type T M.algebra.nulls v ≡ Some type → value_sent made a b (copied v) ≡ value_of N A (copied' (image v))
+    value_goes v type typed =
+        kept.value_goes a.schema a.presentation a.tables N a.assignment (meanings_in b made.images) made.rows made.nulls from.initial.0.holds between.homomorphism between.agrees (copied v) type
+        (coeval.value_over Q query i a from source v type typed)
+        ∙ ap (λ (l : List Image). value_of N (meanings_in b l) (copied v)) same
+        ∙ value_same v type typed

@@ -35,5 +35,6 @@ module _ (Q : Query) (h : Transform) (i j d : InstanceData) (answers : List (Lis
     null_named label = ValueImage (spelled_value null_term (value_image i.schema i.tables d.tables h.rows h.nulls (Null label)))
 
     abbrev pub from_eval_images : List Image
-    from_eval_images = flat_map (λ entity. flat_map (rows_named entity) (below (count_of i.tables entity))) (below (length Q.target.entities))
+    from_eval_images =
+        flat_map (λ entity. flat_map (rows_named entity) (below (count_of i.tables entity))) (below (length Q.target.entities))
         ++ map null_named (below (length i.tables.algebra.nulls))

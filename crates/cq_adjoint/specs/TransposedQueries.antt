@@ -14,9 +14,11 @@ use Rattle.cq_adjoint.specs.QueryMoves.{value_sent, copies_sent}
 
 -- h goes from coeval of i to j, and rows and nulls from i to eval of j. Each variable's row in the answer to which a row of i goes is the
 -- row to which h sends the copy of the row and the variable. Each null goes where h sends the value of the null's generator.
-pub record AreTransposed (Q : Query) (h : Transform) (i a j d : InstanceData) (answers : List (List (List ℕ))) (rows : List (List ℕ)) (nulls : List Value) : Type 0 where
+pub record AreTransposed (Q : Query) (h : Transform) (i a j d : InstanceData) (answers : List (List (List ℕ)))
+    (rows : List (List ℕ)) (nulls : List Value) : Type 0 where
   pub each_row : (entity row : ℕ) → row < count_of i.tables entity
-      → slice_get (answers_at answers entity) (row_image i.schema i.tables d.tables rows nulls entity row) ≡ Some (copies_sent Q h i a j entity row)
+      → slice_get (answers_at answers entity) (row_image i.schema i.tables d.tables rows nulls entity row)
+      ≡ Some (copies_sent Q h i a j entity row)
   pub each_null : (label : ℕ) → label < length i.tables.algebra.nulls
       → value_image i.schema i.tables d.tables rows nulls (Null label) ≡ value_sent h a j (copied_value Q i.tables (Null label))
 

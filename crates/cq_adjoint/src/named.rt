@@ -38,7 +38,11 @@ fn null_term(alloc: Global, null_terms: &[TypeTerm], label: u64) -> Result<TypeT
 }
 
 /// A value as a term, with the term of each null in the null's place.
-fn named_term(alloc: Global, naming: &Naming, value: &Value) -> Result<TypeTerm, AllocError>
+pub(crate) fn named_term(
+    alloc: Global,
+    naming: &Naming,
+    value: &Value,
+) -> Result<TypeTerm, AllocError>
     ensures { IfOk result (λ made. made ≡ spelled_value (term_among naming.now.null_terms.now) value.now) }
 {
     match value {

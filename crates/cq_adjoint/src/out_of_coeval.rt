@@ -3,14 +3,18 @@ ghost use Rattle.std.specs.Prelude.{◌≡◌, ◌⊎◌, true, false, IfOk, IfE
 ghost use Rattle.cq_transform.specs.Composing.{has_long as have_long};
 ghost use Rattle.cq_transform.specs.Nulls.{IsInitial};
 ghost use Rattle.cq_transform.specs.Transforms.{GoesFrom};
+ghost use Rattle.cq_adjoint.specs.Answering.{IsAnswering, answers_in};
 ghost use Rattle.cq_adjoint.specs.AnswerNames.{from_eval_images};
 ghost use Rattle.cq_adjoint.specs.QueryMoves.{AreAcross};
-ghost use Rattle.cq_instance.specs.Spelling.{AreNullsSpelled, null_term_of};
+ghost use Rattle.cq_instance.specs.Spelling.{AreNullsSpelled, null_term_of, term_among};
 ghost use Rattle.cq_adjoint.specs.TransposedQueries.{AreTransposed, IsOnlyOutOfCoeval};
 
+use crate::answering::{Answering, images};
+use crate::into_eval::has_long;
 use cq_instance::{Instance, Transform};
 use cq_query::Query;
 use cq_theory::SizeRefusal;
+use cq_transform::transform_of_images;
 use std::alloc::Global;
 
 /// The transform from `copies`, coeval of `source`, to `target` that is transposed to `moved`, a transform from
@@ -49,5 +53,50 @@ pub fn from_eval(
     ensures one { IfOk result (λ made. IsOnlyOutOfCoeval query.now made source.now copies.now target.now evaluated.now
         (map (λ list. map (λ rows. rows.items) list.items) answers.now) moved.now.rows moved.now.nulls) }
 {
-    Err(SizeRefusal::Memory)
+    query.is_well_sorted();
+    source.is_instance();
+    copies.is_instance();
+    target.is_instance();
+    let null_terms = target.null_terms(alloc)?;
+    let terms = null_terms.as_slice();
+    let answering = Answering {
+        query,
+        moved,
+        source,
+        copies,
+        target,
+        evaluated,
+        null_terms: terms,
+        answers,
+    };
+    answered(alloc, &answering)
+}
+
+/// The transform out of coeval.
+fn answered(alloc: Global, answering: &Answering) -> Result<Transform, SizeRefusal>
+    requires { IsAnswering answering.now }
+    ensures images { IfOk result (λ made. made.images ≡ from_eval_images answering.now.query.now
+        answering.now.moved.now answering.now.source.now answering.now.target.now answering.now.evaluated.now
+        (answers_in answering.now) (term_among answering.now.null_terms.now)) }
+    ensures goes { IfOk result (λ made. GoesFrom made answering.now.copies.now answering.now.target.now) }
+    ensures fits { IfOk result (λ made. have_long made.images ≡ false) }
+    ensures refused { IfErr result (λ refusal. (refusal ≡ SizeRefusal.Memory)
+        ⊎ ((refusal ≡ SizeRefusal.TooLarge) × (have_long (from_eval_images answering.now.query.now
+        answering.now.moved.now answering.now.source.now answering.now.target.now answering.now.evaluated.now
+        (answers_in answering.now) (term_among answering.now.null_terms.now)) ≡ true))) }
+{
+    let query = answering.query;
+    let source = answering.source;
+    let target = answering.target;
+    query.is_well_sorted();
+    source.is_instance();
+    target.is_instance();
+    let images = images(alloc, answering)?;
+    if has_long(images.as_slice()) {
+        return Err(SizeRefusal::TooLarge);
+    }
+    match transform_of_images(alloc, answering.copies, target, images) {
+        Ok(made) => Ok(made),
+        Err(_) => Err(SizeRefusal::Memory),
+    }
 }
