@@ -15,7 +15,7 @@ use Rattle.cq_stating.specs.Routes.{Route}
 use Rattle.cq_stating.specs.Movements.{Move, along_checked, along_fits, between_used, counit_checked, counit_fits, ends_used, is_declared, moved_along, route_used}
 use Rattle.cq_stating.specs.Movements.{there_and_back, unit_checked, unit_fits}
 use Rattle.cq_stating.specs.Environment.{Refuses}
-use Rattle.cq_stating.proofs.Given.{refused_then}
+use Rattle.cq_stating.proofs.Given.{refused_after, refused_then}
 
 -- a test that is passed, and one that isn't
 passed : {A : Type 0} (b : Bool) (go stop : A) → b ≡ true → (if b then go else stop) ≡ go
@@ -32,6 +32,27 @@ same_names false h = absurd (cc h)
 pub other_names : (b : Bool) → true ≡ not b → b ≡ false
 other_names true h = absurd (cc h)
 other_names false h = refl
+
+-- the ends are refused, behind what is used before them
+module _ (env : Environment) (op : Operation) (by moved source target : Spot) (x : Name × Route) (route_is : route_used env op by ≡ Ok x) (answer : ProgramRefusal)
+    (refuses : Refuses answer (ends_used env source target)) where
+  pub along_ends : (h : TransformMeant) → transform_used env moved ≡ Ok h → Refuses answer (along_checked env op by moved source target)
+  along_ends h used =
+      refused_after answer (route_used env op by) x (λ route. and_then (transform_used env moved) (λ t. and_then (ends_used env source target) (λ e. along_fits env op by moved source target route t e))) route_is
+      (refused_after answer (transform_used env moved) h (λ t. and_then (ends_used env source target) (λ e. along_fits env op by moved source target x t e)) used
+      (refused_then answer (ends_used env source target) (λ e. along_fits env op by moved source target x h e) refuses))
+
+  pub unit_ends : (i : InstanceMeant) → instance_used env moved ≡ Ok i → Refuses answer (unit_checked env op by moved source target)
+  unit_ends i used =
+      refused_after answer (route_used env op by) x (λ route. and_then (instance_used env moved) (λ t. and_then (ends_used env source target) (λ e. unit_fits env op by moved source target route t e))) route_is
+      (refused_after answer (instance_used env moved) i (λ t. and_then (ends_used env source target) (λ e. unit_fits env op by moved source target x t e)) used
+      (refused_then answer (ends_used env source target) (λ e. unit_fits env op by moved source target x i e) refuses))
+
+  pub counit_ends : (i : InstanceMeant) → instance_used env moved ≡ Ok i → Refuses answer (counit_checked env op by moved source target)
+  counit_ends i used =
+      refused_after answer (route_used env op by) x (λ route. and_then (instance_used env moved) (λ t. and_then (ends_used env source target) (λ e. counit_fits env op by moved source target route t e))) route_is
+      (refused_after answer (instance_used env moved) i (λ t. and_then (ends_used env source target) (λ e. counit_fits env op by moved source target x t e)) used
+      (refused_then answer (ends_used env source target) (λ e. counit_fits env op by moved source target x i e) refuses))
 
 module _ (env : Environment) (op : Operation) (by moved source target : Spot) (x : Name × Route) (e : Ends)
     (route_is : route_used env op by ≡ Ok x) (ends : ends_used env source target ≡ Ok e) where

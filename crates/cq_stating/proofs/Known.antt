@@ -66,13 +66,13 @@ pub after : {A B : Type 0} (check : Checked A) (f : A → Checked B) (b : B) →
 after (Ok a) f b is = (a, refl, is)
 after (Err broken) f b is = absurd (cc is)
 
-pub back_route : Route → Route
+abbrev pub back_route : Route → Route
 back_route (by_sigma F) = by_delta F
 back_route (by_delta F) = by_sigma F
 back_route (by_eval Q) = by_coeval Q
 back_route (by_coeval Q) = by_eval Q
 
-operation_of : Route → Operation
+abbrev operation_of : Route → Operation
 operation_of (by_sigma F) = operation.Sigma
 operation_of (by_delta F) = operation.Delta
 operation_of (by_eval Q) = operation.Eval
@@ -171,10 +171,11 @@ ends_are env source target e is =
     let p = after (instance_used env source) (λ i. and_then (instance_used env target) (λ j. Ok (two_ends source target i j))) e is in
     let q = after (instance_used env target) (λ j. Ok (two_ends source target p.0 j)) e p.2 in
     let made : two_ends source target p.0 q.0 ≡ e = one_ok (two_ends source target p.0 q.0) e q.2 in
-    let there = (instance_meant_by env source p.0 p.1, instance_meant_by env target q.0 q.1) in (
-      subst (AreEnds env) made there,
-      subst (λ (f : Ends). meant_by env source.name ≡ Some (instance f.start.schema f.start.instance)) made there.0,
-      subst (λ (f : Ends). meant_by env target.name ≡ Some (instance f.finish.schema f.finish.instance)) made there.1,
+    let from = instance_meant_by env source p.0 p.1 in
+    let to = instance_meant_by env target q.0 q.1 in (
+      subst (AreEnds env) made (from, to),
+      subst (λ (f : Ends). meant_by env source.name ≡ Some (instance f.start.schema f.start.instance)) made from,
+      subst (λ (f : Ends). meant_by env target.name ≡ Some (instance f.finish.schema f.finish.instance)) made to,
     )
 
 module _ (env : Environment) (op : Operation) (by moved source target : Spot) (x : Name × Route) (e : Ends) (settled : AreSettled env)

@@ -75,7 +75,7 @@ pass_by false n m o p new rest = rest new
 found_new : (env : Environment) (name : Name) (m : Meant) (v : Option Moved) → is_some (meant_by env name) ≡ false → meant_by (env ++ (name, m, v) ∷ []) name ≡ Some m
 found_new [] name m v new = ap (λ (b : Bool). if b then Some m else None) (same_text_itself name)
 found_new (entry ∷ env) name m v new =
-    pass_by (same_name name entry.0) entry.1 m (meant_by env name) (meant_by (env ++ (name, m, v) ∷ []) name) new (found_new env name m v new)
+    pass_by (same_name name entry.0) entry.1 m (meant_by env name) (meant_by (env ++ (name, m, v) ∷ []) name) new (found_new env name m v)
 
 -- a schema that is printed under the new name or under an earlier one
 named_new : (env : Environment) (name : Name) (S : SchemaMeant) (m : Meant) (v : Option Moved) → schema_by m ≡ Some S → is_some (meant_by env name) ≡ false

@@ -132,3 +132,14 @@ returns-in-Broken-clause-withholds c =
     let number = c.in-Broken.images.number in
     subst (λ (s : Statement). Withholds c.args.depth c.args.place (posed_as s) (program_refusal.Broken c.args.place (reason.Broken number))) (sym c.in-Broken.is)
     (refl, inl (number, refl, subst IsPosed c.in-Broken.is c.requires.posed))
+
+pub moved-requires : goal.moved-requires
+moved-requires c = subst IsPosed c.in-Move.is c.requires.posed
+
+pub returns-in-Move-clause-stands : goal.returns-in-Move-clause-stands
+returns-in-Move-clause-stands c =
+    subst (λ (p : Posed). IfOk c.moved.result (λ meaning. Stands p (meant meaning))) (sym (ap posed_as c.in-Move.is)) c.moved.ensures.stands
+
+pub returns-in-Move-clause-withholds : goal.returns-in-Move-clause-withholds
+returns-in-Move-clause-withholds c =
+    subst (λ (p : Posed). IfErr c.moved.result (Withholds c.args.depth c.args.place p)) (sym (ap posed_as c.in-Move.is)) (c.moved.ensures.withholds c.args.depth)
