@@ -1,7 +1,7 @@
 -- The canonical presentation of tables closes at each depth from 1 on, is wide at no depth where the rows are few, and equates no two constants.
-use Rattle.std.proofs.Common.{ℕ, zero, suc, Bool, true, false, List, [], ◌∷◌, Option, Some, None, ◌≡◌, ◌≢◌, ◌<◌, ◌≤◌, ◌+◌, ◌==◌, ◌||◌, map, take, length, sum, get_or, refl, sym, ap, subst, ◌∙◌, arith, length-append}
+use Rattle.std.proofs.Common.{ℕ, zero, suc, Bool, true, false, List, [], ◌∷◌, ◌++◌, Option, Some, None, ◌≡◌, ◌≢◌, ◌<◌, ◌≤◌, ◌+◌, ◌==◌, ◌||◌, map, take, length, sum, get_or, refl, sym, ap, subst, ◌∙◌, arith, length-append}
 use Rattle.std.specs.Prelude.{slice_get, slice_index, slice_index_or, option_map, option_and_then, unwrap_or, nat_eq, All, AllPairs}
-use Rattle.std.specs.List.{flat_map, enumerate_from, list_any}
+use Rattle.std.specs.List.{flat_map, enumerate_from, list_any, IsDistinct}
 use Rattle.std.proofs.lemmas.Bool.{eq-eqb, eqb-true}
 use Rattle.std.proofs.lemmas.List.{length-map, get_or-map, append-nil}
 use Rattle.std.proofs.lemmas.List.Sums.{sum_by-cons}
@@ -11,16 +11,17 @@ use Rattle.std.proofs.lemmas.Option.{option_and_then_some}
 use Rattle.cq_theory.specs.declared.constant.Con.{Con}
 use Rattle.cq_theory.specs.declared.presentation.Equation.{Equation}
 use Rattle.cq_theory.specs.declared.presentation.Presentation.{Presentation}
-use Rattle.cq_theory.specs.declared.presentation.Sort.TheVariants.{Entity}
+use Rattle.cq_theory.specs.declared.presentation.Sort.TheVariants.{Plain, Entity}
 use Rattle.cq_theory.specs.declared.schema.Edge.{Edge}
 use Rattle.cq_theory.specs.SchemaData.{SchemaData as Schema}
 use Rattle.cq_theory.specs.declared.term.EntTerm.{EntTerm}
+use Rattle.cq_theory.specs.declared.term.Term.{Term}
 use Rattle.cq_theory.specs.declared.term.Term.TheVariants.{Ent, Typ}
 use Rattle.cq_theory.specs.declared.term.TypeTerm.TheVariants.{Const}
 use Rattle.cq_theory.specs.declared.value.Value.{Value}
 use Rattle.cq_theory.specs.declared.value.Value.TheVariants as value
 use Rattle.cq_theory.specs.Canonical.{below, edges_from, row_generator, row_term, cell_equation, key_equation, row_equations, entity_equations, entry_equation, canonical, canonical_assignment}
-use Rattle.cq_theory.specs.Closing.{Closes, IsWide, IsInconsistent}
+use Rattle.cq_theory.specs.Closing.{Closes, HasKey, IsWide, MoreClassesThan, IsInconsistent}
 use Rattle.cq_theory.specs.Constant.{IsLesser}
 use Rattle.cq_theory.specs.Derivation.{reflexivity, symmetry, transitivity, key, given, Within}
 use Rattle.cq_theory.specs.EntTerm.{depth_of, extended}
