@@ -47,5 +47,6 @@ pub mod SentThen
 pub mod CoevalComposites
 pub mod CoevalIdentities
 pub mod EvalComposites
+pub mod DeltaComposites
 pub mod EvalIdentities
 pub mod SigmaComposites

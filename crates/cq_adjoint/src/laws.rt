@@ -15,7 +15,7 @@ ghost use Rattle.cq_transform.specs.Transforms.{GoesFrom};
 ghost use Rattle.cq_adjoint.specs.Moved.{IsSigmaOf, IsDeltaOf};
 ghost use Rattle.cq_transform.specs.Composing.{composed};
 ghost use Rattle.cq_transform.specs.Identities.{identity_images};
-ghost use Rattle.cq_adjoint.specs.Along.{IsAlongSigma, SendAlike};
+ghost use Rattle.cq_adjoint.specs.Along.{IsAlongSigma, IsAlongDelta, SendAlike};
 ghost use Rattle.cq_adjoint.specs.Moves.{image_along, delta_images, to_delta_images, from_delta_images};
 ghost use Rattle.cq_adjoint.specs.Units.{identity_of, unit_images, counit_images};
 ghost use Rattle.cq_adjoint.specs.Transposed.{Transposed};
@@ -52,6 +52,13 @@ pub fn delta_keeps_identities()
     ensures { (F : Mapping) (i a : InstanceData) → IsMapping F → IsInstance i → IsInstance a → IsDeltaOf F i a
         → Holds i.schema i.presentation i.tables i.assignment
         → delta_images F (identity_of i) i i a a ≡ identity_images a.presentation.generators }
+{}
+
+/// Along a mapping's delta the composite of two transforms becomes the composite of what they become.
+pub fn delta_keeps_composites()
+    ensures { (F : Mapping) (i j k a b c : InstanceData) (h g s t u : Transform) → IsMapping F
+        → All IsInstance (i ∷ j ∷ k ∷ a ∷ b ∷ c ∷ []) → IsAlongDelta F i j a b h s → IsAlongDelta F j k b c g t
+        → IsAlongDelta F i k a c (composed j k h g) u → SendAlike (composed b c s t) u }
 {}
 
 /// Along a mapping's sigma the composite of two transforms becomes the composite of what they become.
