@@ -1,5 +1,5 @@
 -- Along a mapping's delta the images of an identity are those of one.
-use Rattle.std.proofs.Common.{ℕ, suc, List, [], ◌∷◌, Some, ◌≡◌, ◌<◌, ◌+◌, inl, inr, map, length, refl, sym, ap, subst, ◌∙◌, arith}
+use Rattle.std.proofs.Common.{ℕ, false, suc, List, [], ◌∷◌, Some, ◌≡◌, ◌<◌, ◌+◌, inl, inr, map, length, refl, sym, ap, subst, ◌∙◌, arith}
 use Rattle.std.specs.Prelude.{slice_get, slice_index_or}
 use Rattle.std.specs.List.{enumerate_from}
 use Rattle.std.proofs.lemmas.Option.{slice_get_within}
@@ -71,7 +71,7 @@ module _ (F : Mapping) (i a : InstanceData) (is : IsMapping F) (first : IsInstan
     (holds : Holds i.schema i.presentation i.tables i.assignment) where
   -- the presentation of a, along F, in i
   abbrev along : InstanceData
-  along = record { schema = F.target; presentation = sigma F a.presentation; names = []; tables = i.tables; assignment = a.assignment }
+  along = record { schema = F.target; presentation = sigma F a.presentation; names = []; tables = i.tables; assignment = a.assignment; given = false }
 
   along_holds : Holds along.schema along.presentation along.tables along.assignment
   along_holds = lemmas.holds F is i i a a first first start start pulled pulled (identity_of i) (identity_goes i holds (identity_of i).images (identity_of i).rows (identity_of i).nulls refl refl refl)

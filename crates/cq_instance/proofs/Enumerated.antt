@@ -24,12 +24,17 @@ enumerate_from-append s (y ∷ ys) x =
     let there : s + 1 + length ys ≡ s + length (y ∷ ys) = omega arith in
     ap (λ l. (s, y) ∷ l) (enumerate_from-append (s + 1) ys x ∙ ap (λ n. enumerate_from (s + 1) ys ++ (n, x) ∷ []) there)
 
+-- one further member, numbered
+pub numbered_more : {X : Type 0} (xs : List X) (i : ℕ) (d : X) → i < length xs → enumerate_from 0 (take (i + 1) xs) ≡ enumerate_from 0 (take i xs) ++ (i, get_or xs i d) ∷ []
+numbered_more xs i d within =
+    let so_far : length (take i xs) ≡ i = length-take-le i xs (omega arith) in
+    let here : 0 + length (take i xs) ≡ i = omega (arith, so_far) in
+    ap (enumerate_from 0) (take_more xs i d within)
+    ∙ enumerate_from-append 0 (take i xs) (get_or xs i d) ∙ ap (λ n. enumerate_from 0 (take i xs) ++ (n, get_or xs i d) ∷ []) here
+
 -- one further member with its number
 pub enumerated_more : {X Y : Type 0} (f : ℕ × X → Y) (xs : List X) (i : ℕ) (d : X) → i < length xs
     → map f (enumerate_from 0 (take (i + 1) xs)) ≡ map f (enumerate_from 0 (take i xs)) ++ f (i, get_or xs i d) ∷ []
 enumerated_more f xs i d within =
-    let so_far : length (take i xs) ≡ i = length-take-le i xs (omega arith) in
-    let here : 0 + length (take i xs) ≡ i = omega (arith, so_far) in
-    ap (λ l. map f (enumerate_from 0 l)) (take_more xs i d within)
-    ∙ ap (map f) (enumerate_from-append 0 (take i xs) (get_or xs i d) ∙ ap (λ n. enumerate_from 0 (take i xs) ++ (n, get_or xs i d) ∷ []) here)
+    ap (map f) (numbered_more xs i d within)
     ∙ map-append f (enumerate_from 0 (take i xs)) ((i, get_or xs i d) ∷ [])

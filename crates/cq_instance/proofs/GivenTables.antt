@@ -1,5 +1,5 @@
 -- What is kept of given tables is an instance, whose rows have their least names.
-use Rattle.std.proofs.Common.{ℕ, List, [], ◌≡◌, ◌<◌, ◌≤◌, inl, inr, map, length, sym, ap, subst, ◌∙◌, arith}
+use Rattle.std.proofs.Common.{ℕ, true, List, [], ◌≡◌, ◌<◌, ◌≤◌, inl, inr, map, length, refl, sym, ap, subst, ◌∙◌, arith}
 use Rattle.std.specs.Prelude.{slice_get, slice_index_or, All}
 use Rattle.std.proofs.lemmas.Bool.{cases_lt}
 use Rattle.std.proofs.lemmas.List.{get_or_past}
@@ -51,6 +51,14 @@ module _ (S : Schema) (M : Tables) (schema : IsSchema S) (model : IsModel S M) w
       let row = get-map_from (row_term S M e.0) (below (count_of M e.0)) j t (ap (λ l. slice_get l j) e.2 ∙ here) in
       name_is e.0 row.0 t within (in_range (count_of M e.0) row.0 (record { place = j; is = row.1 })) row.2))
 
+  pub has_least_names : HasLeastNames (given S M)
+  has_least_names e row inside =
+      let within = count_within S M schema model.well_formed e row inside in
+      let none : EntTerm = record { generator = 0; path = [] } in
+      let is : name_at names e row ≡ row_term S M e row =
+      ap (λ l. slice_index_or l row none) (names_here e within) ∙ get_or-map-range_with_len (row_term S M e) 0 (count_of M e) row row none inside (omega arith) in
+      subst (IsLeastName S (canonical S M) M (canonical_assignment S M) e row) (sym is) (least_name S M schema model.well_formed e row inside)
+
   pub is_instance : size_of M ≤ 16000000 → IsInstance (given S M)
   is_instance few =
       let of_all = holds S M schema model.well_formed model.satisfies in
@@ -62,27 +70,21 @@ module _ (S : Schema) (M : Tables) (schema : IsSchema S) (model : IsModel S M) w
         entities = length-map-range_with_len (row_names S M) 0 (length S.entities);
         counted = counted;
         named = all_named;
+        meant = λ e row inside. let name = has_least_names e row inside in record { of_entity = name.of_entity; of_row = name.of_row };
         assigned = of_all.count;
         sorts = of_all.sorts;
+        canonical_where_given = λ _. record { presentation = refl; assignment = refl };
       }
 
   pub is_initial : Initial S (canonical S M) M (canonical_assignment S M)
   is_initial = initial S M schema model.well_formed model.satisfies
 
-  pub has_least_names : HasLeastNames (given S M)
-  has_least_names e row inside =
-      let within = count_within S M schema model.well_formed e row inside in
-      let none : EntTerm = record { generator = 0; path = [] } in
-      let is : name_at names e row ≡ row_term S M e row =
-      ap (λ l. slice_index_or l row none) (names_here e within) ∙ get_or-map-range_with_len (row_term S M e) 0 (count_of M e) row row none inside (omega arith) in
-      subst (IsLeastName S (canonical S M) M (canonical_assignment S M) e row) (sym is) (least_name S M schema model.well_formed e row inside)
-
   module _ (P : Presentation) (N : List (List EntTerm)) (A : Assignment) (presentation_is : P ≡ canonical S M) (names_are : N ≡ (given S M).names) (assignment_is : A ≡ canonical_assignment S M) where
     abbrev parts : InstanceData
-    parts = record { schema = S; presentation = P; names = N; tables = record { sheet = M.sheet; algebra = M.algebra }; assignment = A }
+    parts = record { schema = S; presentation = P; names = N; tables = record { sheet = M.sheet; algebra = M.algebra }; assignment = A; given = true }
 
     pub parts_are : parts ≡ given S M
-    parts_are = λ i. record { schema = S; presentation = presentation_is i; names = names_are i; tables = M; assignment = assignment_is i }
+    parts_are = λ i. record { schema = S; presentation = presentation_is i; names = names_are i; tables = M; assignment = assignment_is i; given = true }
 
     pub parts_instance : size_of M ≤ 16000000 → IsInstance parts
     parts_instance few = subst IsInstance (sym parts_are) (is_instance few)

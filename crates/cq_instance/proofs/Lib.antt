@@ -19,3 +19,8 @@ pub mod Positions
 pub mod SameValues
 pub mod IndexedRows
 pub mod EdgeNumbers
+pub mod Learnt
+pub mod SpelledNulls
+pub mod CellsLearnt
+pub mod FoundEquations
+pub mod SidesLearnt

@@ -17,14 +17,17 @@ range_more : (s n : ℕ) → range_with_len s (suc n) ≡ range_with_len s n ++ 
 range_more s zero = let here : s ≡ s + 0 = omega arith in ap (λ m. m ∷ []) here
 range_more s (suc n) = let there : s + 1 + n ≡ s + suc n = omega arith in ap (λ l. s ∷ l) (range_more (s + 1) n ∙ ap (λ m. range_with_len (s + 1) n ++ m ∷ []) there)
 
+pub below_more : (n : ℕ) → below (n + 1) ≡ below n ++ n ∷ []
+below_more n =
+    let here : 0 + n ≡ n = omega arith in
+    let one : n + 1 ≡ suc n = omega arith in
+    ap below one ∙ range_more 0 n ∙ ap (λ m. below n ++ m ∷ []) here
+
 -- what a loop over the numbers below a count appends, one step on
 pub pushed_below : {X : Type 0} (f : ℕ → List X) (before old new : List X) (n : ℕ) → old ≡ before ++ flat_map f (below n) → new ≡ old ++ f n → new ≡ before ++ flat_map f (below (n + 1))
 pushed_below f before old new n are is =
-    let here : 0 + n ≡ n = omega arith in
-    let one : n + 1 ≡ suc n = omega arith in
-    let longer : below (n + 1) ≡ below n ++ n ∷ [] = ap below one ∙ range_more 0 n ∙ ap (λ m. below n ++ m ∷ []) here in
     let last : flat_map f (below (n + 1)) ≡ flat_map f (below n) ++ f n =
-    ap (flat_map f) longer ∙ flat_map-append f (below n) (n ∷ []) ∙ ap (λ l. flat_map f (below n) ++ l) (append-nil (f n)) in
+    ap (flat_map f) (below_more n) ∙ flat_map-append f (below n) (n ∷ []) ∙ ap (λ l. flat_map f (below n) ++ l) (append-nil (f n)) in
     is ∙ ap (λ l. l ++ f n) are ∙ append_assoc before (flat_map f (below n)) (f n) ∙ ap (λ l. before ++ l) (sym last)
 
 -- one more of the same

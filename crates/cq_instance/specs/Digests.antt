@@ -1,27 +1,36 @@
--- Numbers by which values are told apart quickly: equal values have one number.
-use Rattle.std.specs.Prelude.{ℕ, List, ◌+◌, ◌*◌, ◌%◌, ◌^◌, fold, map}
+-- Numbers by which values are placed: those of the kit's hasher, so that equal values have one number.
+use Rattle.std.specs.Prelude.{ℕ, List, ◌++◌, fold}
+use Rattle.std.specs.List.{flat_map}
+use Rattle.std.specs.Hash as fed
+use Rattle.std.specs.Hash.{HashWrites}
+use Rattle.std.specs.Hash.DefaultHasher as sip
 use Rattle.cq_theory.specs.declared.constant.Con.{Con}
 use Rattle.cq_theory.specs.declared.constant.Con.TheVariants.{Named, Open}
 use Rattle.cq_theory.specs.declared.value.Value.{Value}
 use Rattle.cq_theory.specs.declared.value.Value.TheOpen.{Value-F, Const, Null, Fun}
 use Rattle.cq_theory.specs.declared.value.Value.TheFolds.{fold-Value}
 
--- one number of two
-abbrev pub mix : ℕ → ℕ → ℕ
-mix a b = (a * 31 % 2 ^ 64 + b) % 2 ^ 64
+-- what the hasher is fed of a constant
+abbrev pub fed_constant : Con → HashWrites
+fed_constant (Named n) = fed.u8 0 ++ fed.u32 n
+fed_constant (Open text) = fed.u8 1 ++ fed.str text
 
-abbrev pub digest_of_constant : Con → ℕ
-digest_of_constant (Named n) = mix 2 n
-digest_of_constant (Open text) = fold mix 3 text
+-- what the hasher is fed of a value
+abbrev pub fed_step : Value-F HashWrites → HashWrites
+fed_step (Const c) = fed_constant c
+fed_step (Null n) = fed.u8 2 ++ fed.u64 n
+fed_step (Fun f args) = fed.u8 3 ++ fed.u32 f ++ flat_map (λ arg. arg) args
 
-abbrev pub digest_step : Value-F ℕ → ℕ
-digest_step (Const c) = digest_of_constant c
-digest_step (Null n) = mix 1 n
-digest_step (Fun f digests) = fold mix f digests
+abbrev pub fed_value : Value → HashWrites
+fed_value = fold-Value HashWrites fed_step
+
+-- what the hasher answers
+abbrev pub hash_of : HashWrites → ℕ
+hash_of writes = sip.finish (fold sip.write sip.initial writes)
 
 abbrev pub digest_of : Value → ℕ
-digest_of = fold-Value ℕ digest_step
+digest_of v = hash_of (fed_value v)
 
 -- the number of a function at arguments
 abbrev pub digest_of_application : ℕ → List Value → ℕ
-digest_of_application f args = fold mix f (map digest_of args)
+digest_of_application f args = hash_of (fed.u32 f ++ flat_map fed_value args)

@@ -1,5 +1,5 @@
 -- Tables of which an instance is made as they stand.
-use Rattle.std.specs.Prelude.{ℕ, Bool, List, ◌+◌, ◌<◌, ◌≤◌, ◌||◌, All, sum, map, length, nat_lt}
+use Rattle.std.specs.Prelude.{ℕ, Bool, true, List, ◌+◌, ◌<◌, ◌≤◌, ◌||◌, All, sum, map, length, nat_lt}
 use Rattle.std.specs.List.{list_any}
 use Rattle.cq_theory.specs.declared.term.EntTerm.{EntTerm}
 use Rattle.cq_theory.specs.declared.value.Sheet.{Sheet}
@@ -47,6 +47,7 @@ module _ (S : Schema) (M : Tables) where
     names = map row_names (below (length S.entities));
     tables = M;
     assignment = canonical_assignment S M;
+    given = true;
   }
 
 -- no lesser term names a row than its name does

@@ -1,9 +1,11 @@
 pub mod InstanceData
 pub mod Listed
+pub mod Spelling
 pub mod Standing
 pub mod Given
 pub mod Numbers
 pub mod Terms
+pub mod Learning
 pub mod Digests
 pub mod EntryLists
 pub mod SameValue

@@ -1,29 +1,44 @@
-//! Numbers by which cells are told apart quickly.
-ghost use Rattle.std.specs.Prelude.{◌≡◌, ◌%◌, ◌<◌, IfOk, map};
-ghost use Rattle.cq_instance.specs.Digests.{mix as mixed, digest_of_constant, digest_of, digest_of_application};
+//! Numbers by which values are placed in tables. They are those of the kit's hasher, since sums over the bytes of texts
+//! are equal for whole families of texts, which would then stand in one list.
+ghost use Rattle.std.specs.Prelude.{◌≡◌, fold};
+ghost use Rattle.std.specs.Hash.DefaultHasher as sip;
+ghost use Rattle.cq_instance.specs.Digests.{fed_constant, fed_value, digest_of, digest_of_application};
 
 use cq_theory::{Con, Value};
-use std::alloc::{AllocError, Global};
+use std::hash::{DefaultHasher, Hash, Hasher};
 
-/// One number of two.
-fn mix(first: u64, second: u64) -> u64
-    ensures { result ≡ mixed first second }
-{
-    first.wrapping_mul(31).wrapping_add(second)
-}
-
-/// The number of a constant.
-fn constant_digest(constant: &Con) -> u64
-    ensures { result ≡ digest_of_constant constant.now }
+/// Feeds a constant to the hasher.
+fn feed_constant(constant: &Con, state: &mut DefaultHasher)
+    ensures { state.new ≡ fold sip.write state.old (fed_constant constant.now) }
 {
     match constant {
-        Con::Named(number) => mix(2, *number as u64),
+        Con::Named(number) => {
+            state.write_u8(0);
+            state.write_u32(*number);
+        }
         Con::Open(text) => {
-            let mut digest = 3;
-            for byte in text.as_str().as_bytes() {
-                digest = mix(digest, *byte as u64);
+            state.write_u8(1);
+            text.hash(state);
+        }
+    }
+}
+
+/// Feeds a value to the hasher.
+fn feed(value: &Value, state: &mut DefaultHasher)
+    ensures { state.new ≡ fold sip.write state.old (fed_value value.now) }
+{
+    match value {
+        Value::Const(constant) => feed_constant(constant, state),
+        Value::Null(label) => {
+            state.write_u8(2);
+            state.write_u64(*label);
+        }
+        Value::Fun(function, args) => {
+            state.write_u8(3);
+            state.write_u32(*function);
+            for arg in args.as_slice() {
+                feed(arg, state);
             }
-            digest
         }
     }
 }
@@ -32,38 +47,19 @@ fn constant_digest(constant: &Con) -> u64
 pub fn digest(value: &Value) -> u64
     ensures { result ≡ digest_of value.now }
 {
-    match value {
-        Value::Const(constant) => constant_digest(constant),
-        Value::Null(label) => mix(1, *label),
-        Value::Fun(function, args) => {
-            let mut number = *function as u64;
-            for arg in args.as_slice() {
-                number = mix(number, digest(arg));
-            }
-            number
-        }
-    }
-}
-
-/// The number of each cell of a column, below `count`.
-pub fn digests(alloc: Global, column: &[Value], count: u32) -> Result<Vec<u32>, AllocError>
-    requires { 0 < count }
-    ensures { IfOk result (λ made. made.items ≡ map (λ value. digest_of value % count) column.now) }
-{
-    let mut made = Vec::with_capacity(alloc, column.len())?;
-    for cell in column {
-        made.push((digest(cell) % count as u64) as u32)?;
-    }
-    Ok(made)
+    let mut state = DefaultHasher::new();
+    feed(value, &mut state);
+    state.finish()
 }
 
 /// The number of a function at arguments.
 pub(crate) fn application_digest(function: u32, args: &[Value]) -> u64
     ensures { result ≡ digest_of_application function args.now }
 {
-    let mut number = function as u64;
+    let mut state = DefaultHasher::new();
+    state.write_u32(function);
     for arg in args {
-        number = mix(number, digest(arg));
+        feed(arg, &mut state);
     }
-    number
+    state.finish()
 }

@@ -115,7 +115,7 @@ impl Instance {
             return Err(TablesRefusal::TooLarge);
         }
         let parts = given_parts(alloc, &schema, &sheet, algebra)?;
-        Ok(Instance::from_parts(
+        Ok(Instance::from_given(
             schema,
             parts.presentation,
             parts.names,

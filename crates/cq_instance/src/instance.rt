@@ -1,5 +1,5 @@
 //! Instances, and what is read from them.
-ghost use Rattle.std.specs.Prelude.{◌≡◌, ◌<◌, map, length, IfSome, slice_get};
+ghost use Rattle.std.specs.Prelude.{◌≡◌, ◌<◌, true, false, map, length, IfSome, slice_get};
 ghost use Rattle.cq_theory.specs.Tables.{count_of, key_at, cell_at};
 ghost use Rattle.cq_instance.specs.InstanceData.{IsInstance, name_at};
 ghost use Rattle.cq_instance.specs.Standing.{meaning};
@@ -12,7 +12,8 @@ use std::marker::Model;
 use std::rc::Rc;
 
 /// A model of a presentation over a schema: the rows of each entity with their least names, the columns of
-/// foreign keys and attributes, the nulls and the entries of functions, and what each generator stands for.
+/// foreign keys and attributes, the nulls and the entries of functions, what each generator stands for, and whether it
+/// is an instance of given tables.
 pub struct Instance {
     schema: Rc<Schema>,
     presentation: Presentation,
@@ -20,6 +21,7 @@ pub struct Instance {
     sheet: Sheet,
     algebra: EntryTable,
     standings: Seq<Standing>,
+    given: bool,
 }
 
 impl Model for Instance {
@@ -40,6 +42,7 @@ impl Model for Instance {
       names = i.names;
       tables = record { sheet = i.sheet; algebra = i.algebra };
       assignment = map meaning i.standings;
+      given = i.given;
     } };
 
     ghost invariant = { λ i. IsInstance (record {
@@ -48,6 +51,7 @@ impl Model for Instance {
       names = i.names;
       tables = record { sheet = i.sheet; algebra = i.algebra };
       assignment = map meaning i.standings;
+      given = i.given;
     }) };
 }
 
@@ -60,12 +64,13 @@ impl Drop for Instance {
             sheet: _,
             algebra: _,
             standings: _,
+            given: _,
         } = self;
     }
 }
 
 impl Instance {
-    /// The instance of these parts.
+    /// The instance of these parts, which were made of its presentation.
     pub fn from_parts(
         schema: Rc<Schema>,
         presentation: Presentation,
@@ -80,6 +85,7 @@ impl Instance {
           names = names;
           tables = record { sheet = sheet; algebra = algebra };
           assignment = map meaning standings;
+          given = false;
         }) }
         ensures { result ≡ record {
           schema = schema.value;
@@ -87,6 +93,7 @@ impl Instance {
           names = names;
           tables = record { sheet = sheet; algebra = algebra };
           assignment = map meaning standings;
+          given = false;
         } }
     {
         Instance {
@@ -96,6 +103,44 @@ impl Instance {
             sheet,
             algebra,
             standings,
+            given: false,
+        }
+    }
+
+    /// The instance of these parts, which were made of its tables.
+    pub(crate) fn from_given(
+        schema: Rc<Schema>,
+        presentation: Presentation,
+        names: Seq<Seq<EntTerm>>,
+        sheet: Sheet,
+        algebra: EntryTable,
+        standings: Seq<Standing>,
+    ) -> Instance
+        requires { IsInstance (record {
+          schema = schema.value;
+          presentation = presentation;
+          names = names;
+          tables = record { sheet = sheet; algebra = algebra };
+          assignment = map meaning standings;
+          given = true;
+        }) }
+        ensures { result ≡ record {
+          schema = schema.value;
+          presentation = presentation;
+          names = names;
+          tables = record { sheet = sheet; algebra = algebra };
+          assignment = map meaning standings;
+          given = true;
+        } }
+    {
+        Instance {
+            schema,
+            presentation,
+            names,
+            sheet,
+            algebra,
+            standings,
+            given: true,
         }
     }
 
@@ -136,6 +181,14 @@ impl Instance {
         ensures instance { IsInstance self.now }
     {
         self.algebra.algebra()
+    }
+
+    /// Whether this is an instance of given tables, whose presentation was made of them.
+    pub(crate) fn is_given(&self) -> bool
+        ensures given { result ≡ self.now.given }
+        ensures instance { IsInstance self.now }
+    {
+        self.given
     }
 
     /// The number of rows of an entity.

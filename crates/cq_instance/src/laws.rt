@@ -1,5 +1,5 @@
-//! Laws of canonical presentations.
-ghost use Rattle.std.specs.Prelude.{ℕ, ◌<◌, ◌≤◌};
+//! Laws of canonical presentations, and of the terms of nulls.
+ghost use Rattle.std.specs.Prelude.{ℕ, true, ◌≡◌, ◌<◌, ◌≤◌};
 ghost use Rattle.cq_theory.specs.SchemaData.{SchemaData as Schema};
 ghost use Rattle.cq_theory.specs.Schema.{IsSchema};
 ghost use Rattle.cq_theory.specs.Presentation.{IsPresentation};
@@ -7,6 +7,9 @@ ghost use Rattle.cq_theory.specs.Tables.{Tables, IsWellFormed, Satisfies, Initia
 ghost use Rattle.cq_theory.specs.Canonical.{canonical, canonical_assignment, row_term};
 ghost use Rattle.cq_theory.specs.Listed.{IsLeastName};
 ghost use Rattle.cq_instance.specs.Given.{IsModel, size_of};
+ghost use Rattle.cq_instance.specs.InstanceData.{InstanceData, IsInstance};
+ghost use Rattle.cq_instance.specs.Listed.{IsListed};
+ghost use Rattle.cq_instance.specs.Spelling.{AreNullsSpelled, null_term_of};
 
 /// Well-formed tables that satisfy their schema are the initial model of their canonical presentation, where the
 /// generator of each row stands for the row. No lesser term than this generator names the row. Within the limits on
@@ -19,4 +22,12 @@ pub fn canonical_presents()
         (row_term S M entity row) }
     ensures presentation { (S : Schema) (M : Tables) → IsSchema S → IsModel S M → size_of M ≤ 16000000
         → IsPresentation S (canonical S M) }
+{}
+
+/// In an instance of given tables, and in a listed one, the term of each null has the null's type and means it.
+pub fn null_terms_spell()
+    ensures given { (i : InstanceData) → IsSchema i.schema → IsInstance i → i.given ≡ true
+        → AreNullsSpelled i (null_term_of i) }
+    ensures listed { (i : InstanceData) → IsSchema i.schema → IsInstance i → IsListed i
+        → AreNullsSpelled i (null_term_of i) }
 {}

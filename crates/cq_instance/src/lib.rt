@@ -2,7 +2,11 @@
 //!
 //! An `Instance` keeps for each generator its row or its value: `row_of` follows the keys of an entity term from there,
 //! and `value_of` goes through a type term once. The entry for a function at arguments is found by a table (`entries`):
-//! entries are listed by a number of what they are for (`digests`), and only those in one list are compared.
+//! entries are listed by a number of what they are for, and only those in one list are compared. These numbers are made
+//! by the kit's hasher (`digests`), so that texts which sums over their bytes don't tell apart have lists of their own.
+//!
+//! `null_terms` has a term for each null: its generator where the tables were given, and else the first node that means
+//! it, found in one walk over the nodes.
 //!
 //! `KeyIndex` has the rows from which a foreign key, or a path of them, leads to a row, and `CellIndex` the rows whose
 //! cell is a value, both exactly and ascending. A cell index groups rows by value, and lists the groups by the numbers
@@ -26,6 +30,7 @@ mod groups;
 mod instance;
 mod key_index;
 pub mod laws;
+mod null_terms;
 mod standing;
 mod terms;
 mod transform;

@@ -1,13 +1,13 @@
 -- What is built is the listed model.
-use Rattle.std.proofs.Common.{ℕ, zero, suc, List, [], ◌∷◌, Some, None, ◌≡◌, ◌<◌, length, get_or, refl, sym, ap, subst, ◌∙◌, arith}
-use Rattle.std.specs.Prelude.{slice_get, All}
+use Rattle.std.proofs.Common.{ℕ, zero, suc, true, false, List, [], ◌∷◌, Some, None, ◌≡◌, ◌<◌, length, get_or, refl, sym, ap, subst, ◌∙◌, arith}
+use Rattle.std.specs.Prelude.{slice_get, slice_index_or, All}
 use Rattle.std.proofs.lemmas.Option.{option_and_then_some, get_or_from_slice_get, slice_get-get_or, slice_get_within}
 use Rattle.cq_tables.specs.Content.{Content}
 use Rattle.cq_flat.specs.declared.node.Node.{Node}
 use Rattle.cq_flat.specs.Values.{Closure}
 use Rattle.cq_model.specs.declared.places.Places.{Places}
 use Rattle.cq_names.specs.Closed.{AreClosed}
-use Rattle.cq_instance.specs.InstanceData.{IsName, IsInstance}
+use Rattle.cq_instance.specs.InstanceData.{IsName, IsNameOf, IsInstance, name_at}
 use Rattle.cq_names.specs.LeastNames.{rows_at, terms_at}
 use Rattle.cq_model.specs.Built.{IsClosureOf, IsBuilt, tables_of, assignment_of}
 use Rattle.cq_theory.specs.declared.constant.Con.{Con}
@@ -69,14 +69,14 @@ module _ (S : Schema) (P : Presentation) (m : Content) (rows : List ℕ) (schema
   )
 
   -- a name is a term over the presentation
-  ground_name : (t : EntTerm) (e : ℕ) → entity_of S P.generators t ≡ Some e → IsName (record { schema = S; presentation = P; names = names; tables = M; assignment = A }) t
+  ground_name : (t : EntTerm) (e : ℕ) → entity_of S P.generators t ≡ Some e → IsName (record { schema = S; presentation = P; names = names; tables = M; assignment = A; given = false }) t
   ground_name t e h = option_and_then_some (target_of S.keys t.path) (entity_at (slice_get P.generators t.generator)) e h (λ start first rest.
       let g = entity_at_some (slice_get P.generators t.generator) start first in (
         slice_get_within P.generators t.generator g.0 g.1,
         All_from (λ k. k < length S.keys) t.path (keys_within S.keys t.path start e rest),
       ))
 
-  name_ground : (e n : ℕ) (ts : List EntTerm) (t : EntTerm) → slice_get names e ≡ Some ts → slice_get ts n ≡ Some t → IsName (record { schema = S; presentation = P; names = names; tables = M; assignment = A }) t
+  name_ground : (e n : ℕ) (ts : List EntTerm) (t : EntTerm) → slice_get names e ≡ Some ts → slice_get ts n ≡ Some t → IsName (record { schema = S; presentation = P; names = names; tables = M; assignment = A; given = false }) t
   name_ground e n ts t found at =
       let here : terms_at names e ≡ ts = get_or_from_slice_get names e ts [] found in
       let named : slice_get (terms_at names e) n ≡ Some t = ap (λ l. slice_get l n) here ∙ at in
@@ -85,7 +85,15 @@ module _ (S : Schema) (P : Presentation) (m : Content) (rows : List ℕ) (schema
       let least = built.numbered.named e n r t (slice_get-get_or (rows_at order e) n 0 within) named in
       ground_name t _ least.entity
 
-  pub is_instance : flat.clash ≡ None → IsInstance (record { schema = S; presentation = P; names = names; tables = M; assignment = A })
+  -- the name of a row means the row
+  meant_there : ((lists : Lists S P M A) × (lists.names ≡ names)) → (e row : ℕ) → row < count_of M e
+      → IsNameOf (record { schema = S; presentation = P; names = names; tables = M; assignment = A; given = false }) e row (name_at names e row)
+  meant_there listed e row inside =
+      let t = listed.0.named e row inside in
+      let here : name_at names e row ≡ t.0 = ap (λ (N : List (List EntTerm)). name_at N e row) (sym listed.1) ∙ get_or_from_slice_get (slice_index_or listed.0.names e []) row t.0 (record { generator = 0; path = [] }) t.1 in
+      subst (IsNameOf (record { schema = S; presentation = P; names = names; tables = M; assignment = A; given = false }) e row) (sym here) (record { of_entity = t.2.of_entity; of_row = t.2.of_row })
+
+  pub is_instance : flat.clash ≡ None → IsInstance (record { schema = S; presentation = P; names = names; tables = M; assignment = A; given = false })
   is_instance consistent = record {
     presented = presentation;
     well_formed = well_formed S P m rows schema presentation closed order names numbers places nodes equations types built flat closure consistent;
@@ -95,8 +103,10 @@ module _ (S : Schema) (P : Presentation) (m : Content) (rows : List ℕ) (schema
     counted = counted;
     assigned = (listed consistent).0.initial.holds.count;
     sorts = (listed consistent).0.initial.holds.sorts;
-    named = All_from (λ ts. All (IsName (record { schema = S; presentation = P; names = names; tables = M; assignment = A })) ts) names (λ e ts found.
-        All_from (IsName (record { schema = S; presentation = P; names = names; tables = M; assignment = A })) ts (λ n t at. name_ground e n ts t found at));
+    meant = λ e row inside. meant_there (listed consistent) e row inside;
+    canonical_where_given = λ h. let none : false ≡ true = h in cc;
+    named = All_from (λ ts. All (IsName (record { schema = S; presentation = P; names = names; tables = M; assignment = A; given = false })) ts) names (λ e ts found.
+        All_from (IsName (record { schema = S; presentation = P; names = names; tables = M; assignment = A; given = false })) ts (λ n t at. name_ground e n ts t found at));
   }
 
   pub inconsistent : (c d : Con) → flat.clash ≡ Some (c, d) → IsInconsistentAt S P c d

@@ -1,5 +1,5 @@
 -- What closing the nodes asks for, and what the parts that are read make.
-use Rattle.std.proofs.Common.{ℕ, List, ◌++◌, None, ◌≡◌, ◌<◌, map, length, sym, subst, ◌∙◌, arith}
+use Rattle.std.proofs.Common.{ℕ, false, List, ◌++◌, None, ◌≡◌, ◌<◌, map, length, refl, sym, subst, ◌∙◌, arith}
 use Rattle.std.proofs.lemmas.Option.{slice_get_within}
 use Rattle.cq_tables.specs.Content.{Content}
 use Rattle.cq_flat.specs.declared.node.Node.{Node}
@@ -57,10 +57,10 @@ module _ (S : Schema) (P : Presentation) (m : Content) (rows : List ℕ)
       (parts : ModelParts) (tables : record { sheet = parts.sheet; algebra = parts.algebra } ≡ tables_of S P m rows order numbers places types flat)
       (assignment : map meaning parts.standings ≡ assignment_of S P m rows order numbers places flat.values) where
     abbrev made : InstanceData
-    made = record { schema = S; presentation = P; names = names; tables = tables_of S P m rows order numbers places types flat; assignment = assignment_of S P m rows order numbers places flat.values }
+    made = record { schema = S; presentation = P; names = names; tables = tables_of S P m rows order numbers places types flat; assignment = assignment_of S P m rows order numbers places flat.values; given = false }
 
     parts_are : instance_of S P names parts ≡ made
-    parts_are = λ i. record { schema = S; presentation = P; names = names; tables = tables i; assignment = assignment i }
+    parts_are = λ i. record { schema = S; presentation = P; names = names; tables = tables i; assignment = assignment i; given = false }
 
     pub parts_instance : IsInstance (instance_of S P names parts)
     parts_instance = subst IsInstance (sym parts_are) (built_says.is_instance S P m rows schema presentation closed order names numbers places nodes equations types built flat closure consistent)
@@ -68,7 +68,7 @@ module _ (S : Schema) (P : Presentation) (m : Content) (rows : List ℕ)
     pub parts_listed : IsListed (instance_of S P names parts)
     parts_listed =
         let lists = built_says.listed S P m rows schema presentation closed order names numbers places nodes equations types built flat closure consistent in
-        subst IsListed (sym parts_are) (record { lists = lists.0; least = lists.1 })
+        subst IsListed (sym parts_are) (record { lists = lists.0; least = lists.1; made = refl })
 
 -- equal constants mean one value
 one_constant : (M : Tables) (A : Assignment) (c d : Con) → meaning_of M A (Typ (term.Const c)) ≡ meaning_of M A (Typ (term.Const d)) → c ≡ d

@@ -1,5 +1,5 @@
 -- What is made on the way to a listed model, and what refuses it.
-use Rattle.std.specs.Prelude.{ℕ, List, [], map, length}
+use Rattle.std.specs.Prelude.{ℕ, false, List, [], map, length}
 use Rattle.cq_tables.specs.Content.{Content}
 use Rattle.cq_model.specs.declared.building.BuildRefusal.{BuildRefusal}
 use Rattle.cq_model.specs.declared.building.BuildRefusal.TheVariants.{Depth, TooManyRows, Inconsistent, Memory}
@@ -38,6 +38,7 @@ module _ (S : Schema) (P : Presentation) where
     names = names;
     tables = record { sheet = parts.sheet; algebra = parts.algebra };
     assignment = map meaning parts.standings;
+    given = false;
   }
 
   -- where the rows are closed, only equal constants and want of memory refuse a model

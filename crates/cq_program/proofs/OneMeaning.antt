@@ -40,7 +40,8 @@ one_model_of S P i j h g =
     let names : i.names ≡ j.names = sym left.1 ∙ same_lists_of_names S P h.schema h.presentation i.tables j.tables i.assignment j.assignment left.0 right.0 ∙ right.1 in
     let tables : i.tables ≡ j.tables = same_models S P h.schema h.presentation i.tables j.tables i.assignment j.assignment left.0 right.0 in
     let assignments : i.assignment ≡ j.assignment = same_assignments S P h.schema h.presentation i.tables j.tables i.assignment j.assignment left.0 right.0 in
-    λ k. record { schema = schemas k; presentation = presentations k; names = names k; tables = tables k; assignment = assignments k }
+    let givens : i.given ≡ j.given = h.listed.made ∙ sym g.listed.made in
+    λ k. record { schema = schemas k; presentation = presentations k; names = names k; tables = tables k; assignment = assignments k; given = givens k }
 
 -- what is posed stands for one thing
 stands_one : (posed : Posed) (m n : Meant) → Stands posed m → Stands posed n → m ≡ n

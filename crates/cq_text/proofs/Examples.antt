@@ -1,5 +1,5 @@
 -- The transcript and the literal of an instance of employees and departments, written out.
-use Rattle.std.proofs.Common.{[], ◌∷◌, ◌≡◌, refl}
+use Rattle.std.proofs.Common.{false, [], ◌∷◌, ◌≡◌, refl}
 use Rattle.std.specs.Prelude.{codes, None, Some}
 use Rattle.std.specs.Fmt.{digits}
 use Rattle.cq_theory.specs.declared.constant.Con.TheVariants.{Named, Open}
@@ -75,6 +75,7 @@ employees = record {
     };
   };
   assignment = AtRow 0 ∷ AtRow 1 ∷ AtRow 2 ∷ AtRow 0 ∷ AtRow 1 ∷ [];
+  given = false;
 }
 
 employees_transcript : transcript_of (codes "I") (codes "S") employees ≡ codes "instance I : S\nentity Employee 3\n1 a first=Al last=?0 age=zero cummulative_age=?1 manager=2 worksIn=1\n2 b first=Bob last=Bo age=?2 cummulative_age=?3 manager=2 worksIn=1\n3 c first=Carl last=?4 age=zero cummulative_age=?5 manager=3 worksIn=2\nentity Department 2\n1 m name=Math secretary=2\n2 s name=CS secretary=3\nnulls 6\n?0 string\n?1 nat\n?2 nat\n?3 nat\n?4 string\n?5 nat\nentries 3\nplus(zero, ?2) = ?1\nplus(?2, ?2) = ?3\nplus(zero, zero) = ?5\nend\n"
@@ -107,6 +108,7 @@ two_nulls = record {
     algebra = record { nulls = 0 ∷ 0 ∷ []; entries = [] };
   };
   assignment = AtRow 0 ∷ AtRow 1 ∷ [];
+  given = false;
 }
 
 two_nulls_literal : literal_of (codes "I") (codes "S") two_nulls ≡ codes "instance I = literal : S {\ngenerators\ng1 : E\ng2 : E\ng3 : s\ng4 : s\nequations\nx(g1) = g3\nx(g2) = g4\n}\n"
@@ -143,6 +145,7 @@ built = record {
     algebra = record { nulls = []; entries = [] };
   };
   assignment = AtRow 0 ∷ [];
+  given = false;
 }
 
 built_literal : literal_of (codes "J1") (codes "S") built ≡ codes "instance J1 = literal : S {\ngenerators\ng1 : E\nequations\nx(g1) = plus(\"zero\", \"zero\")\n}\n"
@@ -166,6 +169,7 @@ merged = record {
     };
   };
   assignment = [];
+  given = false;
 }
 
 merged_literal : literal_of (codes "I") (codes "S") merged ≡ codes "instance I = literal : S {\ngenerators\ng1 : s\nequations\nh(\"Al\") = g1\nh(\"Bob\") = g1\n}\n"
@@ -190,6 +194,7 @@ open_text = record {
     algebra = record { nulls = []; entries = [] };
   };
   assignment = AtRow 0 ∷ AtRow 1 ∷ [];
+  given = false;
 }
 
 open_literal : literal_of (codes "I") (codes "S") open_text ≡ codes "instance I = literal : S {\ngenerators\ng1 : E\ng2 : E\nequations\nx(g1) = \"Al\"\nx(g2) = \"Zed\"\n}\n"

@@ -1,7 +1,10 @@
-use Rattle.std.proofs.Common.{◌≡◌, drop, map}
-use Rattle.std.specs.Prelude.{fold}
-use Rattle.cq_instance.specs.Digests.{mix, digest_of, digest_of_application}
+use Rattle.std.proofs.Common.{◌≡◌, drop}
+use Rattle.std.specs.Prelude.{◌++◌, fold}
+use Rattle.std.specs.List.{flat_map}
+use Rattle.std.specs.Hash as fed
+use Rattle.std.specs.Hash.DefaultHasher as sip
+use Rattle.cq_instance.specs.Digests.{fed_value}
 use Rattle.cq_instance.proofs.digests.application_digest.Given as goal
 
 abbrev pub invariant-loop-arg : goal.invariant-loop-arg
-invariant-loop-arg l = fold mix l.number (map digest_of (drop l.arg-index l.args)) ≡ digest_of_application l.function l.args
+invariant-loop-arg l = fold sip.write l.state (flat_map fed_value (drop l.arg-index l.args)) ≡ fold sip.write sip.initial (fed.u32 l.function ++ flat_map fed_value l.args)

@@ -9,7 +9,8 @@ use Rattle.cq_theory.specs.Schema.{IsSchema, one_of}
 use Rattle.cq_theory.specs.SchemaData.{SchemaData as Schema}
 use Rattle.cq_model.specs.declared.places.Places.{Places}
 use Rattle.cq_model.proofs.AddedSides.{AreAtRow, HaveOneType, observation_typed, row_readable, row_none, row_more, next_found}
-use Rattle.cq_model.proofs.NumberedEquations.{found_at, found_more, number_within, entity_at_number, at_row_of_group}
+use Rattle.cq_instance.proofs.FoundEquations.{found_at, found_more}
+use Rattle.cq_model.proofs.NumberedEquations.{number_within, entity_at_number, at_row_of_group}
 use Rattle.cq_model.proofs.PushedTerms.{HavePlaces-wider}
 use Rattle.cq_model.proofs.equations.push_row.Goals as goal
 

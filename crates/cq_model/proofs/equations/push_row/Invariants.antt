@@ -1,7 +1,7 @@
 use Rattle.std.proofs.Common.{take}
 use Rattle.cq_tables.specs.Content.{entity_of as row_entity}
 use Rattle.cq_model.proofs.AddedSides.{AreAtRow}
-use Rattle.cq_model.proofs.NumberedEquations.{found_at}
+use Rattle.cq_instance.proofs.FoundEquations.{found_at}
 use Rattle.cq_model.proofs.equations.push_row.Given as goal
 
 abbrev pub invariant-loop-number : goal.invariant-loop-number

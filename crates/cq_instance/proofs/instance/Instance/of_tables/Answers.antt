@@ -1,4 +1,4 @@
-use Rattle.std.proofs.Common.{◌≤◌, map, rules, sym, ap, subst, ◌∙◌}
+use Rattle.std.proofs.Common.{true, ◌≤◌, map, rules, sym, ap, subst, ◌∙◌}
 use Rattle.cq_theory.specs.SchemaData.{SchemaData as Schema}
 use Rattle.cq_theory.specs.Schema.{IsSchema}
 use Rattle.cq_theory.specs.Tables.{Tables}
@@ -13,8 +13,8 @@ use Rattle.cq_instance.proofs.instance.Instance.of_tables.Goals as goal
 pub given_parts-requires-clause-model : goal.given_parts-requires-clause-model
 given_parts-requires-clause-model c = subst (λ (s : Schema). IsModel s (tables c.args.sheet c.args.algebra)) (sym c.deref-2.ensures) c.requires
 
-pub from_parts-requires : goal.from_parts-requires
-from_parts-requires c =
+pub from_given-requires : goal.from_given-requires
+from_given-requires c =
     let S : Schema = c.args.schema.value in
     let M : Tables = tables c.args.sheet c.args.algebra in
     let few : size_of M ≤ 16000000 = search rules in
@@ -24,6 +24,7 @@ from_parts-requires c =
       names = c.in_ok-parts.parts.names;
       tables = tables c.args.sheet algebra;
       assignment = map meaning c.in_ok-parts.parts.standings;
+      given = true;
     } in
     subst (λ (a : Algebra). IsInstance (with a)) (sym c.in_ok-parts.ensures.algebra)
     (parts_instance S M (subst IsSchema c.deref.ensures c.is_well_sorted.ensures) c.requires
@@ -40,12 +41,13 @@ returns-clause-instance c =
     let presentation = c.in_ok-parts.ensures.presentation ∙ ap (λ (s : Schema). canonical s M) c.deref-2.ensures in
     let names = c.in_ok-parts.ensures.names ∙ ap (λ (s : Schema). (given s M).names) c.deref-2.ensures in
     let standings = c.in_ok-parts.ensures.standings ∙ ap (λ (s : Schema). canonical_assignment s M) c.deref-2.ensures in
-    c.from_parts.ensures ∙ (λ j. record {
+    c.from_given.ensures ∙ (λ j. record {
       schema = S;
       presentation = presentation j;
       names = names j;
       tables = tables c.args.sheet (c.in_ok-parts.ensures.algebra j);
       assignment = standings j;
+      given = true;
     })
 
 pub returns-clause-initial : goal.returns-clause-initial
@@ -57,12 +59,13 @@ returns-clause-initial c =
     (c.in_ok-parts.ensures.presentation ∙ ap (λ (s : Schema). canonical s M) c.deref-2.ensures)
     (c.in_ok-parts.ensures.names ∙ ap (λ (s : Schema). (given s M).names) c.deref-2.ensures)
     (c.in_ok-parts.ensures.standings ∙ ap (λ (s : Schema). canonical_assignment s M) c.deref-2.ensures)
-    c.from_parts.result (c.from_parts.ensures ∙ (λ j. record {
+    c.from_given.result (c.from_given.ensures ∙ (λ j. record {
       schema = S;
       presentation = c.in_ok-parts.parts.presentation;
       names = c.in_ok-parts.parts.names;
       tables = tables c.args.sheet (c.in_ok-parts.ensures.algebra j);
       assignment = map meaning c.in_ok-parts.parts.standings;
+      given = true;
     }))
 
 pub returns-clause-least : goal.returns-clause-least
@@ -74,10 +77,11 @@ returns-clause-least c =
     (c.in_ok-parts.ensures.presentation ∙ ap (λ (s : Schema). canonical s M) c.deref-2.ensures)
     (c.in_ok-parts.ensures.names ∙ ap (λ (s : Schema). (given s M).names) c.deref-2.ensures)
     (c.in_ok-parts.ensures.standings ∙ ap (λ (s : Schema). canonical_assignment s M) c.deref-2.ensures)
-    c.from_parts.result (c.from_parts.ensures ∙ (λ j. record {
+    c.from_given.result (c.from_given.ensures ∙ (λ j. record {
       schema = S;
       presentation = c.in_ok-parts.parts.presentation;
       names = c.in_ok-parts.parts.names;
       tables = tables c.args.sheet (c.in_ok-parts.ensures.algebra j);
       assignment = map meaning c.in_ok-parts.parts.standings;
+      given = true;
     }))
