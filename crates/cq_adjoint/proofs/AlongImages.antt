@@ -11,7 +11,7 @@ use Rattle.cq_theory.specs.declared.value.Value.{Value}
 use Rattle.cq_theory.specs.SchemaData.{SchemaData as Schema}
 use Rattle.cq_theory.specs.Presentation.{IsPresentation}
 use Rattle.cq_theory.specs.Sorts.{sort_of}
-use Rattle.cq_theory.specs.Tables.{Tables, AtRow, Assignment, meaning_of, IsWellFormed, Satisfies, Holds, Initial}
+use Rattle.cq_theory.specs.Tables.{Tables, AtRow, Assignment, meaning_of, IsWellFormed, Satisfies, Holds, Initial, HasSort}
 use Rattle.cq_theory.specs.Homomorphism.{IsHomomorphism}
 use Rattle.cq_mapping.specs.MappingData.{MappingData as Mapping}
 use Rattle.cq_mapping.specs.Mapping.{IsMapping}
@@ -37,7 +37,7 @@ use Rattle.cq_adjoint.proofs.SameMeanings.{meaning_same, holds_pulled, holds_pus
 use Rattle.cq_adjoint.proofs.SentModels.{are_sided, sent_on, sent_at, sent_holds}
 use Rattle.cq_adjoint.proofs.SpelledImages.{IsImageOf}
 
-term_along : (F : Mapping) (image : Image) → term_of (image_along F image) ≡ term_image F (term_of image)
+pub term_along : (F : Mapping) (image : Image) → term_of (image_along F image) ≡ term_image F (term_of image)
 term_along F (Row t) = refl
 term_along F (ValueImage t) = refl
 
@@ -77,7 +77,7 @@ module _ (F : Mapping) (is : IsMapping F) (preserves : Preserves F) (i j a b : I
   initial_there = subst (λ (x : Schema). Initial x j.presentation j.tables j.assignment) there.over initial
 
   -- the presentation of j holds in what F pulls back from b
-  holds_there : Holds S j.presentation D b.assignment
+  pub holds_there : Holds S j.presentation D b.assignment
   holds_there =
       holds_pulled F is N well j.presentation presented' b.assignment formed satisfied
       (subst (λ (x : Schema × Presentation). Holds x.0 x.1 N b.assignment) (λ k. (there.schema k, there.presentation k)) there.initial.0.holds)
@@ -159,3 +159,8 @@ module _ (F : Mapping) (is : IsMapping F) (preserves : Preserves F) (i j a b : I
 
   pub kept : AreKept a b images
   kept = images_of.are_kept a b images C target_holds count right
+
+  -- what the images mean is of its sort in what F pulls back from b
+  pub sorted_there : (n : ℕ) (g : Name × Sort) → slice_get i.presentation.generators n ≡ Some g → HasSort S D g.1 (slice_index_or (meanings_in b images) n (AtRow 0))
+  sorted_there n g at =
+      subst (λ (X : Assignment). HasSort S D g.1 (slice_index_or X n (AtRow 0))) (sym (images_of.meanings_are a b images C target_holds count right)) (source_holds.sorts n g at)

@@ -1,7 +1,7 @@
 -- Lists whose members beside one another are related.
 use Rattle.std.proofs.Common.{ℕ, zero, suc, List, [], ◌∷◌, ◌++◌, Some, ◌≡◌, ◌<◌, ◌≤◌, ◌+◌, map, length, refl, ap, subst, arith}
 use Rattle.std.specs.Prelude.{slice_get}
-use Rattle.std.specs.List.{flat_map, range_with_len}
+use Rattle.std.specs.List.{flat_map, range_with_len, enumerate_from}
 
 pub data Beside {X Y : Type 0} (R : X → Y → Type 0) : List X → List Y → Type 0 where
   none : Beside R [] []
@@ -36,3 +36,12 @@ module _ {X Y : Type 0} (R : X → Y → Type 0) where
       more (subst (λ m. R (f z) (g m)) here (each zero z refl)) (beside_numbers f g zs (s + 1) (λ k w at.
       let there : s + suc k ≡ s + 1 + k = omega arith in
       subst (λ m. R (f w) (g m)) there (each (suc k) w at)))
+
+  -- the members of a list, and what is made of them with their numbers
+  pub beside_enumerated : {Z : Type 0} (f : Z → X) (g : ℕ × Z → Y) (zs : List Z) (s : ℕ) → ((k : ℕ) (z : Z) → slice_get zs k ≡ Some z → R (f z) (g (s + k, z))) → Beside R (map f zs) (map g (enumerate_from s zs))
+  beside_enumerated f g [] s each = none
+  beside_enumerated f g (z ∷ zs) s each =
+      let here : s + 0 ≡ s = omega arith in
+      more (subst (λ m. R (f z) (g (m, z))) here (each zero z refl)) (beside_enumerated f g zs (s + 1) (λ k w at.
+      let there : s + suc k ≡ s + 1 + k = omega arith in
+      subst (λ m. R (f w) (g (m, w))) there (each (suc k) w at)))

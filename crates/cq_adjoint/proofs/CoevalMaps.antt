@@ -39,6 +39,7 @@ use Rattle.cq_instance.specs.declared.transform.Transform.{Transform}
 use Rattle.cq_instance.proofs.Lists.{get-map, get-append, get-append_front, get-range, map-map}
 use Rattle.cq_transform.specs.Transforming.{AreKept, AreSorted}
 use Rattle.cq_transform.specs.Transforms.{term_of, meanings_in, GoesFrom}
+use Rattle.cq_transform.proofs.Kept as kept
 use Rattle.cq_transform.proofs.Loops.{member_at}
 use Rattle.cq_transform.proofs.Made.{meaning_sorted}
 use Rattle.cq_query.specs.QueryData.{QueryData as Query}
@@ -50,7 +51,7 @@ use Rattle.cq_query.specs.Coeval.{size_of, start_of, null_start, row_terms, row_
 use Rattle.cq_query.proofs.Copying.{const_sum}
 use Rattle.cq_query.proofs.Standing.{within_length}
 use Rattle.cq_adjoint.specs.Copies.{copy_of, copied_value}
-use Rattle.cq_adjoint.specs.QueryMoves.{IsCoeval, copy_sent, copies_of_row, null_sent, coeval_images}
+use Rattle.cq_adjoint.specs.QueryMoves.{IsCoeval, row_sent, value_sent, copy_sent, copies_of_row, null_sent, coeval_images}
 use Rattle.cq_adjoint.proofs.AnsweredRows.{same_list}
 use Rattle.cq_adjoint.proofs.Besides.{Beside, beside_count, beside_at, beside_append, beside_ranges, beside_numbers}
 use Rattle.cq_adjoint.proofs.CoevalTerms as coeval
@@ -109,8 +110,8 @@ module _ (Q : Query) (query : IsQuery Q) (h : Transform) (i j a b : InstanceData
   known = coeval.known Q query i a from source
 
   -- a row goes to a row
-  inside' : (e row : ℕ) → row < count_of M e → to_row e row < count_of L e
-  inside' e row inside =
+  pub goes_inside : (e row : ℕ) → row < count_of M e → to_row e row < count_of L e
+  goes_inside e row inside =
       let list = member_at h.rows e (omega (arith, homomorphism.entities, known e row inside)) in
       let are = homomorphism.each_row e list.0 list.1 in
       let is : to_row e row ≡ slice_index list.0 row = ap (λ (l : List ℕ). slice_index l row) (get_or_from_slice_get h.rows e list.0 [] list.1) in
@@ -139,7 +140,7 @@ module _ (Q : Query) (query : IsQuery Q) (h : Transform) (i j a b : InstanceData
   rows_size : length (flat_map of_entity (below n)) ≡ null_start Q counts
   rows_size = length-flat_map of_entity (below n) ∙ (λ k. sum_by (λ (e : ℕ). entity_size e k) (below n)) ∙ sym (sum-map (size_of Q counts) (below n))
 
-  image_at : (e row k : ℕ) → e < n → row < count_of M e → k < width e → slice_get images (start_of Q counts e + row * width e + k) ≡ Some (copy_sent Q h i j e row k)
+  pub image_at : (e row k : ℕ) → e < n → row < count_of M e → k < width e → slice_get images (start_of Q counts e + row * width e + k) ≡ Some (copy_sent Q h i j e row k)
   image_at e row k within inside less =
       let here : 0 + k ≡ k = omega arith in
       let zero_row : 0 + row ≡ row = omega arith in
@@ -155,7 +156,7 @@ module _ (Q : Query) (query : IsQuery Q) (h : Transform) (i j a b : InstanceData
       get-append_front (flat_map of_entity (below n)) (map (null_sent Q h i j) (below nulls)) (start_of Q counts e + row * width e + k) (copy_sent Q h i j e row k)
       (ap (slice_get (flat_map of_entity (below n))) place ∙ in_entity)
 
-  null_image_at : (label : ℕ) → label < nulls → slice_get images (null_start Q counts + label) ≡ Some (null_sent Q h i j label)
+  pub null_image_at : (label : ℕ) → label < nulls → slice_get images (null_start Q counts + label) ≡ Some (null_sent Q h i j label)
   null_image_at label less =
       let here : 0 + label ≡ label = omega arith in
       ap (λ m. slice_get images (m + label)) (sym rows_size)
@@ -176,13 +177,13 @@ module _ (Q : Query) (query : IsQuery Q) (h : Transform) (i j a b : InstanceData
   rows_same e row inside =
       let within = known e row inside in
       let size : length (rows_at e row) ≡ width e = length-map (row_terms Q counts e row) (row_of N B) ∙ (stand Q M e row within inside).count in
-      same_list (rows_at e row) (rows_at' e (to_row e row)) (size ∙ sym (copies.rows_count Q query L tables' N A holds e (to_row e row) within (inside' e row inside))) (λ k x y left right.
+      same_list (rows_at e row) (rows_at' e (to_row e row)) (size ∙ sym (copies.rows_count Q query L tables' N A holds e (to_row e row) within (goes_inside e row inside))) (λ k x y left right.
       let v = within_length (variables_at Q e) (rows_at e row) k x left (sym size) in
       let less : k < width e = slice_get_within (variables_at Q e) k v.0 v.1 in
       let here : slice_get (rows_at e row) k ≡ Some (row_of N B (copy_of Q M e row k)) =
       get-map (row_of N B) (row_terms Q counts e row) k (copy_of Q M e row k) (copy_term Q M e row k v.0 within inside v.1) in
       let over : slice_get (rows_at' e (to_row e row)) k ≡ Some (row_of N A (copy_of Q L e (to_row e row) k)) =
-      get-map (row_of N A) (row_terms Q L.sheet.counts e (to_row e row)) k (copy_of Q L e (to_row e row) k) (copy_term Q L e (to_row e row) k v.0 within (inside' e row inside) v.1) in
+      get-map (row_of N A) (row_terms Q L.sheet.counts e (to_row e row)) k (copy_of Q L e (to_row e row) k) (copy_term Q L e (to_row e row) k v.0 within (goes_inside e row inside) v.1) in
       let first : Some (row_of N B (copy_of Q M e row k)) ≡ Some x = sym here ∙ left in
       let second : Some (row_of N A (copy_of Q L e (to_row e row) k)) ≡ Some y = sym over ∙ right in
       let middle_is : row_of N B (copy_of Q M e row k) ≡ row_of N A (copy_of Q L e (to_row e row) k) =
@@ -279,7 +280,7 @@ module _ (Q : Query) (query : IsQuery Q) (h : Transform) (i j a b : InstanceData
       beside_numbers IsSorted (λ (v : Name × ℕ). Entity v.1) (copy_sent Q h i j e row) (variables_at Q e) 0 (λ k v at.
       let here : k ≡ 0 + k = omega arith in
       subst (λ m. IsSorted (Entity v.1) (copy_sent Q h i j e row m)) here
-      (ap (option_map Entity) (coeval.copy_over Q query j b to middle e (to_row e row) k v (inside' e row inside) at)))))
+      (ap (option_map Entity) (coeval.copy_over Q query j b to middle e (to_row e row) k v (goes_inside e row inside) at)))))
       )
       (beside_numbers IsSorted Plain (null_sent Q h i j) M.algebra.nulls 0 (λ k type at.
       let here : k ≡ 0 + k = omega arith in
@@ -289,7 +290,7 @@ module _ (Q : Query) (query : IsQuery Q) (h : Transform) (i j a b : InstanceData
   generators_are : (k : ℕ) (g : Name × Sort) → slice_get (coeval_of Q M).generators k ≡ Some g → slice_get sorts k ≡ Some g.1
   generators_are = sort_of_named sorts
 
-  image_count : length images ≡ length (coeval_of Q M).generators
+  pub image_count : length images ≡ length (coeval_of Q M).generators
   image_count = sym (beside_count IsSorted sorted_beside) ∙ sym (named_length sorts)
 
   meaning_right : (k : ℕ) (g : Name × Sort) → slice_get (coeval_of Q M).generators k ≡ Some g → HasSort Q.source N g.1 (slice_index_or B k (AtRow 0))
@@ -322,15 +323,15 @@ module _ (Q : Query) (query : IsQuery Q) (h : Transform) (i j a b : InstanceData
     count = length-map images (λ (x : Image). meaning_of N A (term_of x)) ∙ image_count;
     sorts = meaning_right;
     answer = λ e row within inside.
-        subst (IsAnswer Q N e) (sym (rows_same e row inside)) (copies.are_answer Q query L tables' N A holds e (to_row e row) within (inside' e row inside));
+        subst (IsAnswer Q N e) (sym (rows_same e row inside)) (copies.are_answer Q query L tables' N A holds e (to_row e row) within (goes_inside e row inside));
     key = λ k edge is row inside.
         rows_same edge.to (key_at M k row) (key_inside k edge is row inside)
         ∙ ap (rows_at' edge.to) (homomorphism.keys k edge is row inside)
-        ∙ copies.key_led Q query L tables' N A holds k edge is (to_row edge.from row) (inside' edge.from row inside)
+        ∙ copies.key_led Q query L tables' N A holds k edge is (to_row edge.from row) (goes_inside edge.from row inside)
         ∙ ap (led Q N k) (sym (rows_same edge.from row inside));
     cell = λ c edge is row inside.
         ap (λ (l : List ℕ). value_of N (stands Q N l) (attribute_term Q c)) (rows_same edge.from row inside)
-        ∙ copies.cell_means Q query L tables' N A holds c edge is (to_row edge.from row) (inside' edge.from row inside)
+        ∙ copies.cell_means Q query L tables' N A holds c edge is (to_row edge.from row) (goes_inside edge.from row inside)
         ∙ ap value_at' (sym (homomorphism.cells c edge is row inside))
         ∙ sym (value_same (cell_at M c row) edge.to (cell_typed c edge is row inside));
     entry = entry_same;
@@ -350,3 +351,20 @@ module _ (Q : Query) (query : IsQuery Q) (h : Transform) (i j a b : InstanceData
 
   pub schemas : b.schema ≡ a.schema
   schemas = to.schema ∙ sym from.schema
+
+  -- what is made of the images sends the copies of a row to those of the row to which it goes, and what values mean to what their images mean
+  module _ (made : Transform) (same : made.images ≡ images) (between : GoesFrom made a b) where
+    pub copy_goes : (e row k : ℕ) (v : Name × ℕ) → row < count_of M e → slice_get (variables_at Q e) k ≡ Some v
+        → row_sent made a b v.1 (copy_of Q M e row k) ≡ row_of N A (copy_of Q L e (to_row e row) k)
+    copy_goes e row k v inside at =
+        kept.row_goes a.schema a.presentation a.tables N a.assignment (meanings_in b made.images) made.rows made.nulls from.initial.0.holds between.homomorphism between.agrees (copy_of Q M e row k) v.1
+        (coeval.copy_over Q query i a from source e row k v inside at)
+        ∙ ap (λ (l : List Image). row_of N (meanings_in b l) (copy_of Q M e row k)) same
+        ∙ ap row_in (meant_at (start_of Q counts e + row * width e + k) (copy_sent Q h i j e row k) (image_at e row k (known e row inside) inside (slice_get_within (variables_at Q e) k v at)))
+
+    pub value_goes : (v : Value) (type : ℕ) → value_type T M.algebra.nulls v ≡ Some type → value_sent made a b (copied v) ≡ value_of N A (copied' (image v))
+    value_goes v type typed =
+        kept.value_goes a.schema a.presentation a.tables N a.assignment (meanings_in b made.images) made.rows made.nulls from.initial.0.holds between.homomorphism between.agrees (copied v) type
+        (coeval.value_over Q query i a from source v type typed)
+        ∙ ap (λ (l : List Image). value_of N (meanings_in b l) (copied v)) same
+        ∙ value_same v type typed

@@ -1,6 +1,8 @@
 -- A transform goes along to what a mapping pulls back.
-use Rattle.std.proofs.Common.{List, ◌≡◌, sym, ap, subst, ◌∙◌}
-use Rattle.std.specs.Prelude.{slice_index_or}
+use Rattle.std.proofs.Common.{ℕ, List, Some, ◌≡◌, sym, ap, subst, ◌∙◌}
+use Rattle.std.specs.Prelude.{slice_get, slice_index_or}
+use Rattle.cq_base.specs.declared.name.Name.{Name}
+use Rattle.cq_theory.specs.declared.presentation.Sort.{Sort}
 use Rattle.cq_theory.specs.SchemaData.{SchemaData as Schema}
 use Rattle.cq_theory.specs.Presentation.{IsPresentation}
 use Rattle.cq_theory.specs.Tables.{Tables, AtRow, IsWellFormed, Satisfies, Holds}
@@ -96,3 +98,10 @@ module _ (F : Mapping) (is : IsMapping F) (i j a b : InstanceData) (first : IsIn
   pub kept : AreKept a b (delta_images F h i j a b)
   kept = subst (AreKept a b) over_target
       (pulling.kept F is a b over start.presented i.tables j.tables a.assignment h.rows h.nulls homomorphism holds well satisfies pulled.instance formed satisfied)
+
+  -- what is made of the images sends what a generator stands for where h sends it, at the image of its sort
+  pub sends : (made : Transform) → made.images ≡ delta_images F h i j a b → GoesFrom made a b → (n : ℕ) (g : Name × Sort) → slice_get a.presentation.generators n ≡ Some g
+      → meaning_image a.schema a.tables b.tables made.rows made.nulls g.1 (slice_index_or a.assignment n (AtRow 0))
+      ≡ meaning_image F.target i.tables j.tables h.rows h.nulls (sort_image F g.1) (slice_index_or a.assignment n (AtRow 0))
+  sends made same goes =
+      pulling.transposed F is a b over start.presented i.tables j.tables a.assignment h.rows h.nulls homomorphism holds well satisfies pulled.instance formed satisfied made (same ∙ sym over_target) goes

@@ -1,13 +1,14 @@
 -- The images of a transform between instances of answers are sorted and keep the equations.
-use Rattle.std.proofs.Common.{ℕ, List, [], Some, ◌≡◌, ◌<◌, length, sym, ap, subst, ◌∙◌, arith}
-use Rattle.std.specs.Prelude.{slice_index_or}
+use Rattle.std.proofs.Common.{ℕ, List, [], Some, map, ◌≡◌, ◌<◌, length, sym, ap, subst, ◌∙◌, arith}
+use Rattle.std.specs.Prelude.{slice_get, slice_index, slice_index_or}
 use Rattle.cq_base.specs.declared.name.Name.{Name}
 use Rattle.cq_theory.specs.declared.presentation.Sort.{Sort}
 use Rattle.cq_theory.specs.declared.presentation.Sort.TheVariants.{Plain, Entity}
 use Rattle.cq_theory.specs.declared.value.Value.{Value}
+use Rattle.cq_theory.specs.declared.value.Value.TheVariants.{Null}
 use Rattle.cq_theory.specs.SchemaData.{SchemaData as Schema}
 use Rattle.cq_theory.specs.Canonical.{row_term, value_term}
-use Rattle.cq_theory.specs.Homomorphism.{value_image, IsHomomorphism}
+use Rattle.cq_theory.specs.Homomorphism.{row_image, value_image, IsHomomorphism}
 use Rattle.cq_theory.specs.Tables.{Tables, AtRow, AtValue, row_in, value_in, count_of, value_type, IsWellFormed, Satisfies}
 use Rattle.cq_instance.specs.InstanceData.{InstanceData, IsInstance}
 use Rattle.cq_instance.specs.declared.transform.Image.{Image}
@@ -21,6 +22,7 @@ use Rattle.cq_query.specs.IsQuery.{IsQuery}
 use Rattle.cq_query.proofs.Evaluated as evaluated
 use Rattle.cq_adjoint.specs.Copies.{answers_at, place_of}
 use Rattle.cq_adjoint.specs.QueryMoves.{answer_sent, eval_row, eval_value, eval_image, eval_images, AreEvaluated}
+use Rattle.cq_adjoint.proofs.AnsweredRows as answered
 use Rattle.cq_adjoint.proofs.AnsweredRows.{AreSent}
 use Rattle.cq_adjoint.proofs.EvalMaps as maps
 use Rattle.cq_adjoint.proofs.IntoEval as into
@@ -41,19 +43,19 @@ module _ (Q : Query) (query : IsQuery Q) (h : Transform) (i j a b : InstanceData
   abbrev T : Schema
   T = Q.target
 
-  well : IsWellFormed Q.source L
+  pub well : IsWellFormed Q.source L
   well = subst (λ (S : Schema). IsWellFormed S L) are.source.over source.well_formed
 
-  satisfies : Satisfies Q.source L
+  pub satisfies : Satisfies Q.source L
   satisfies = subst (λ (S : Schema). Satisfies S L) are.source.over source.satisfies
 
-  homomorphism : IsHomomorphism Q.source L N h.rows h.nulls
+  pub homomorphism : IsHomomorphism Q.source L N h.rows h.nulls
   homomorphism = subst (λ (S : Schema). IsHomomorphism S L N h.rows h.nulls) are.source.over goes.homomorphism
 
   over : a.schema ≡ T
   over = ap (λ (x : InstanceData). x.schema) are.source.given
 
-  tables : IsWellFormed T M
+  pub tables : IsWellFormed T M
   tables = subst (λ (S : Schema). IsWellFormed S M) over there.well_formed
 
   pub known : (e row : ℕ) → row < count_of M e → e < length T.entities
@@ -115,3 +117,27 @@ module _ (Q : Query) (query : IsQuery Q) (h : Transform) (i j a b : InstanceData
   -- what h sends has its type in b
   pub sent_typed : (v : Value) (type : ℕ) → value_type T M.algebra.nulls v ≡ Some type → value_type T b.tables.algebra.nulls (value_image i.schema L N h.rows h.nulls v) ≡ Some type
   sent_typed v type typed = into.value_typed Q a b N to is_into rows_at value_at sent v type typed
+
+  -- what is made of the images sends an answer to the answer with h applied to each row, and values where h sends them
+  module _ (made : Transform) (same : made.images ≡ eval_images Q h i j a b from to) (between : GoesFrom made a b) where
+    are_one : (into.rows_to Q a b N to is_into rows_at value_at sent ≡ made.rows) × (into.nulls_to Q a b N to is_into rows_at value_at sent ≡ made.nulls)
+    are_one = into.are_one Q a b N to is_into rows_at value_at sent image_at (record { of_row = of_row; of_value = of_value }) made same between
+
+    pub row_goes : (e row : ℕ) → row < count_of M e → slice_get (answers_at to e) (row_image a.schema M b.tables made.rows made.nulls e row) ≡ Some (rows_at e row)
+    row_goes e row inside =
+        ap (λ (l : List (List ℕ)). slice_get (answers_at to e) (slice_index (slice_index_or l e []) row)) (sym are_one.0) ∙ into.row_answered Q a b N to is_into rows_at value_at sent e row inside
+
+    pub value_goes : (v : Value) (type : ℕ) → value_type T M.algebra.nulls v ≡ Some type → value_image a.schema M b.tables made.rows made.nulls v ≡ value_at v
+    value_goes v type typed =
+        (λ k. value_image a.schema M b.tables (sym are_one.0 k) (sym are_one.1 k) v)
+        ∙ answered.value_goes Q query M tables N rows_at value_at sent b.tables are.target.tables to are.answered_there v type typed
+
+  -- nothing else does so
+  pub one_made : (made : Transform) → made.images ≡ eval_images Q h i j a b from to → GoesFrom made a b → (rows : List (List ℕ)) (nulls : List Value) → IsHomomorphism a.schema M b.tables rows nulls
+      → ((e row : ℕ) → row < count_of M e → slice_get (answers_at to e) (row_image a.schema M b.tables rows nulls e row) ≡ Some (rows_at e row))
+      → ((label : ℕ) → label < length M.algebra.nulls → value_image a.schema M b.tables rows nulls (Null label) ≡ value_at (Null label))
+      → (rows ≡ made.rows) × (nulls ≡ made.nulls)
+  one_made made same between rows nulls sends each_row each_null =
+      let one = into.one Q a b N to is_into rows_at value_at sent rows nulls sends each_row each_null in
+      let other = are_one made same between in
+      (one.0 ∙ other.0, one.1 ∙ other.1)

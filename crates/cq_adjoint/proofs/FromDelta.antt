@@ -22,7 +22,7 @@ use Rattle.cq_transform.specs.Transforming.{AreKept, AreSorted}
 use Rattle.cq_adjoint.specs.Moved.{IsSigmaOf, IsDeltaOf}
 use Rattle.cq_adjoint.specs.Moves.{named, each_generator, from_delta_images}
 use Rattle.cq_adjoint.specs.Nameable.{AreNameable, moved_name}
-use Rattle.cq_adjoint.specs.Spelling.{AreNullsSpelled}
+use Rattle.cq_instance.specs.Spelling.{AreNullsSpelled}
 use Rattle.cq_adjoint.specs.Transposed.{Transposed, IsOnlyOutOf}
 use Rattle.cq_adjoint.proofs.Grounds.{generator_ground}
 use Rattle.cq_adjoint.proofs.MovedImages.{same_image}

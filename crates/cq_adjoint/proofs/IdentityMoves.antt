@@ -45,7 +45,7 @@ same_each f f' G h = same_from f f' 0 G (λ n g at.
     subst (λ (m : ℕ). f m g.1 ≡ f' m g.1) here (h n g at))
 
 module _ (i : InstanceData) (holds : Holds i.schema i.presentation i.tables i.assignment) where
-  own_meaning : (n : ℕ) (name : Name) (sort : Sort) (m : Meaning) → slice_index_or i.assignment n (AtRow 0) ≡ m → HasSort i.schema i.tables sort m
+  pub own_meaning : (n : ℕ) (name : Name) (sort : Sort) (m : Meaning) → slice_index_or i.assignment n (AtRow 0) ≡ m → HasSort i.schema i.tables sort m
       → meaning_of i.tables i.assignment (term_of (itself (n, (name, sort)))) ≡ m
   own_meaning n name (Entity e) (AtRow r) is h = ap (λ (x : Meaning). AtRow (row_in x)) is
   own_meaning n name (Entity e) (AtValue v) is h = absurd h

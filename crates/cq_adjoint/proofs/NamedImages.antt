@@ -16,7 +16,7 @@ use Rattle.cq_theory.proofs.Sound.{is_type_some, applied_type_some}
 use Rattle.cq_instance.specs.InstanceData.{InstanceData}
 use Rattle.cq_instance.specs.Given.{HasLeastNames}
 use Rattle.cq_adjoint.specs.Moves.{spelled_step, spelled_value, named}
-use Rattle.cq_adjoint.specs.Spelling.{AreNullsSpelled}
+use Rattle.cq_instance.specs.Spelling.{AreNullsSpelled}
 use Rattle.cq_adjoint.proofs.SpelledImages.{IsImageOf}
 
 module _ (j : InstanceData) (null_term : ℕ → TypeTerm) (spell : AreNullsSpelled j null_term) where

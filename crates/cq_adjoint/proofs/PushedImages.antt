@@ -27,7 +27,7 @@ use Rattle.cq_transform.specs.Transforms.{meanings_in, GoesFrom}
 use Rattle.cq_transform.specs.Transforming.{AreKept, AreSorted}
 use Rattle.cq_transform.proofs.ExactlyOne.{one_homomorphism}
 use Rattle.cq_adjoint.specs.Moves.{named, each_generator}
-use Rattle.cq_adjoint.specs.Spelling.{AreNullsSpelled}
+use Rattle.cq_instance.specs.Spelling.{AreNullsSpelled}
 use Rattle.cq_adjoint.proofs.NamedImages.{named_image}
 use Rattle.cq_adjoint.proofs.PulledImages.{image_at, image_count}
 use Rattle.cq_adjoint.proofs.RightImages as images_of

@@ -63,10 +63,10 @@ module _ (Q : Query) (query : IsQuery Q) (h : Transform) (i a j d : InstanceData
   abbrev T : Schema
   T = Q.target
 
-  holds : Holds Q.source (coeval_of Q M) N B
+  pub holds : Holds Q.source (coeval_of Q M) N B
   holds = subst (λ (P : Presentation). Holds Q.source P N B) across.coeval.presentation (subst (λ (S : Schema). Holds S a.presentation N B) across.coeval.schema goes.holds)
 
-  tables : IsWellFormed T M
+  pub tables : IsWellFormed T M
   tables = coeval.tables Q query i a across.coeval source
 
   known : (e row : ℕ) → row < count_of M e → e < length T.entities
@@ -83,7 +83,7 @@ module _ (Q : Query) (query : IsQuery Q) (h : Transform) (i a j d : InstanceData
       ap (value_of N B) (values.fold-Fun TypeTerm (value_term_step (null_start Q M.sheet.counts) (length M.algebra.nulls)) f vs)
       ∙ fold-Fun Value (value_step N B) f (map (copied_value Q M) vs) ∙ ap (applied N f) (map-map (value_of N B) (copied_value Q M) vs)
 
-  are : AreSent Q M N rows_at value_at
+  pub are : AreSent Q M N rows_at value_at
   are = record {
     answer = λ e row inside. copies.are_answer Q query M tables N B holds e row (known e row inside) inside;
     key = copies.key_led Q query M tables N B holds;
@@ -98,7 +98,7 @@ module _ (Q : Query) (query : IsQuery Q) (h : Transform) (i a j d : InstanceData
   well = evaluated.well_formed Q query N (subst (λ (S : Schema). IsWellFormed S N) across.evaluated.over middle.well_formed)
       (subst (λ (S : Schema). Satisfies S N) across.evaluated.over middle.satisfies) D across.evaluated.tables
 
-  is_into : IsInto Q i d N answers
+  pub is_into : IsInto Q i d N answers
   is_into = record {
     query = query;
     source = source;
@@ -111,13 +111,13 @@ module _ (Q : Query) (query : IsQuery Q) (h : Transform) (i a j d : InstanceData
   }
 
   -- what h sends is what its images mean
-  row_meant : (e row k : ℕ) (v : Name × ℕ) → row < count_of M e → slice_get (variables_at Q e) k ≡ Some v
+  pub row_meant : (e row k : ℕ) (v : Name × ℕ) → row < count_of M e → slice_get (variables_at Q e) k ≡ Some v
       → row_sent h a j v.1 (copy_of Q M e row k) ≡ row_of N B (copy_of Q M e row k)
   row_meant e row k v inside at =
       kept.row_goes a.schema a.presentation a.tables N a.assignment B h.rows h.nulls across.coeval.initial.0.holds goes.homomorphism goes.agrees (copy_of Q M e row k) v.1
       (coeval.copy_over Q query i a across.coeval source e row k v inside at)
 
-  value_meant : (v : Value) (type : ℕ) → value_type T M.algebra.nulls v ≡ Some type → value_sent h a j (copied_value Q M v) ≡ value_at v
+  pub value_meant : (v : Value) (type : ℕ) → value_type T M.algebra.nulls v ≡ Some type → value_sent h a j (copied_value Q M v) ≡ value_at v
   value_meant v type typed =
       kept.value_goes a.schema a.presentation a.tables N a.assignment B h.rows h.nulls across.coeval.initial.0.holds goes.homomorphism goes.agrees (copied_value Q M v) type
       (coeval.value_over Q query i a across.coeval source v type typed)
@@ -125,7 +125,7 @@ module _ (Q : Query) (query : IsQuery Q) (h : Transform) (i a j d : InstanceData
   abbrev sent_in : ℕ → ℕ → ℕ × (Name × ℕ) → ℕ
   sent_in e row v = row_sent h a j v.1.1 (copy_of Q M e row v.0)
 
-  copies_are : (e row : ℕ) → row < count_of M e → copies_sent Q h i a j e row ≡ rows_at e row
+  pub copies_are : (e row : ℕ) → row < count_of M e → copies_sent Q h i a j e row ≡ rows_at e row
   copies_are e row inside = same_list (copies_sent Q h i a j e row) (rows_at e row)
       (length-map (enumerate_from 0 (variables_at Q e)) (sent_in e row) ∙ length-enumerate_from 0 (variables_at Q e) ∙ sym (copies.rows_count Q query M tables N B holds e row (known e row inside) inside))
       (λ k x y left right.
@@ -178,10 +178,10 @@ module _ (Q : Query) (query : IsQuery Q) (h : Transform) (i a j d : InstanceData
   abbrev nulls_to : List Value
   nulls_to = into.nulls_to Q i d N answers is_into rows_at value_at are
 
-  null_type_at : (label : ℕ) → label < length M.algebra.nulls → (type : ℕ) × (value_type T M.algebra.nulls (Null label) ≡ Some type)
+  pub null_type_at : (label : ℕ) → label < length M.algebra.nulls → (type : ℕ) × (value_type T M.algebra.nulls (Null label) ≡ Some type)
   null_type_at label within = let type = member_at M.algebra.nulls label within in (type.0, values.fold-Null (Option ℕ) (value_type_step T M.algebra.nulls) label ∙ type.1)
 
-  null_meant : (label : ℕ) → label < length M.algebra.nulls → value_sent h a j (copied_value Q M (Null label)) ≡ value_at (Null label)
+  pub null_meant : (label : ℕ) → label < length M.algebra.nulls → value_sent h a j (copied_value Q M (Null label)) ≡ value_at (Null label)
   null_meant label within = let typed = null_type_at label within in value_meant (Null label) typed.0 typed.1
 
   to_transposed : AreTransposed Q h i a j d answers rows_to nulls_to
@@ -189,6 +189,12 @@ module _ (Q : Query) (query : IsQuery Q) (h : Transform) (i a j d : InstanceData
     each_row = λ e row inside. into.row_answered Q i d N answers is_into rows_at value_at are e row inside ∙ ap (λ (l : List ℕ). Some l) (sym (copies_are e row inside));
     each_null = λ label within. into.null_valued Q i d N answers is_into rows_at value_at are label within ∙ sym (null_meant label within);
   }
+
+  -- nothing else is transposed to h
+  pub only_to : (rows : List (List ℕ)) (nulls : List Value) → IsHomomorphism i.schema M D rows nulls → AreTransposed Q h i a j d answers rows nulls → (rows ≡ rows_to) × (nulls ≡ nulls_to)
+  only_to rows nulls sends across' = into.one Q i d N answers is_into rows_at value_at are rows nulls sends
+      (λ e row inside. across'.each_row e row inside ∙ ap (λ (l : List ℕ). Some l) (copies_are e row inside))
+      (λ label within. across'.each_null label within ∙ null_meant label within)
 
   -- what is made of the images is transposed to h, and no other homomorphism is
   module _ (made : Transform) (same : made.images ≡ images) (there : GoesFrom made i d) where
@@ -200,9 +206,7 @@ module _ (Q : Query) (query : IsQuery Q) (h : Transform) (i a j d : InstanceData
 
     pub one : (rows : List (List ℕ)) (nulls : List Value) → IsHomomorphism i.schema M D rows nulls → AreTransposed Q h i a j d answers rows nulls → (rows ≡ made.rows) × (nulls ≡ made.nulls)
     one rows nulls sends across' =
-        let same = into.one Q i d N answers is_into rows_at value_at are rows nulls sends
-        (λ e row inside. across'.each_row e row inside ∙ ap (λ (l : List ℕ). Some l) (copies_are e row inside))
-        (λ label within. across'.each_null label within ∙ null_meant label within) in
+        let same = only_to rows nulls sends across' in
         (same.0 ∙ are_one.0, same.1 ∙ are_one.1)
 
   -- so for what a call answers

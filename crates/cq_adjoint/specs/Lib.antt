@@ -1,12 +1,16 @@
 pub mod Moved
 pub mod Moves
 pub mod Transposed
-pub mod Spelling
 pub mod Spellable
 pub mod Nameable
 pub mod Units
+pub mod QueryUnits
 pub mod Copies
 pub mod QueryMoves
+pub mod AnswerNames
 pub mod TransposedQueries
 pub mod Crossing
+pub mod Copying
+pub mod Answering
 pub mod Evaluating
+pub mod Along

@@ -78,11 +78,13 @@ pub record AreAcross (Q : Query) (i a j d : InstanceData) (answers : List (List 
 -- h goes from i to j: the answer in j for an answer in i, with h applied to each row
 module _ (Q : Query) (h : Transform) (i j : InstanceData) where
   abbrev pub answer_sent : ℕ → List ℕ → List ℕ
-  answer_sent entity rows = map (λ v. row_image i.schema i.tables j.tables h.rows h.nulls v.1.1 (slice_index rows v.0)) (enumerate_from 0 (variables_at Q entity))
+  answer_sent entity rows =
+      map (λ v. row_image i.schema i.tables j.tables h.rows h.nulls v.1.1 (slice_index rows v.0)) (enumerate_from 0 (variables_at Q entity))
 
 -- h goes from i to j, a is eval of i with the answers `from`, and b is eval of j with the answers `to`
 module _ (Q : Query) (h : Transform) (i j a b : InstanceData) (from to : List (List (List ℕ))) where
-  -- a generator of an answer goes to that of the answer with h applied to each row, and one of a null to the spelling of where h sends the null
+  -- a generator of an answer goes to that of the answer with h applied to each row, and one of a null to the spelling of where h sends the
+  -- null
   abbrev pub eval_row : ℕ → ℕ → Image
   eval_row entity row = Row (row_term b.schema b.tables entity
       (place_of (answers_at to entity) (answer_sent Q h i j entity (slice_index_or (answers_at from entity) row []))))
@@ -106,8 +108,8 @@ pub record AreEvaluated (Q : Query) (i j a b : InstanceData) (from to : List (Li
   pub answered : AreAllAnswers Q i.tables from
   pub answered_there : AreAllAnswers Q j.tables to
 
--- h goes from i to j; a and b are coeval of i and of j. The copy of a row goes to the copy, for the same variable, of the row to which h sends
--- the row, and a null's generator to the spelling of the value to which h sends the null.
+-- h goes from i to j; a and b are coeval of i and of j. The copy of a row goes to the copy, for the same variable, of the row to which h
+-- sends the row, and a null's generator to the spelling of the value to which h sends the null.
 module _ (Q : Query) (h : Transform) (i j : InstanceData) where
   abbrev pub copy_sent : ℕ → ℕ → ℕ → Image
   copy_sent entity row variable = Row (copy_of Q j.tables entity (row_image i.schema i.tables j.tables h.rows h.nulls entity row) variable)
@@ -119,5 +121,6 @@ module _ (Q : Query) (h : Transform) (i j : InstanceData) where
   null_sent label = ValueImage (copied_value Q j.tables (value_image i.schema i.tables j.tables h.rows h.nulls (Null label)))
 
   abbrev pub coeval_images : List Image
-  coeval_images = flat_map (λ entity. flat_map (copies_of_row entity) (below (count_of i.tables entity))) (below (length Q.target.entities))
+  coeval_images =
+      flat_map (λ entity. flat_map (copies_of_row entity) (below (count_of i.tables entity))) (below (length Q.target.entities))
       ++ map null_sent (below (length i.tables.algebra.nulls))

@@ -17,10 +17,10 @@ Transposed F i a j d h k = (n : ℕ) (g : Name × Sort) → slice_get i.presenta
 
 -- k is the only homomorphism from i to d that is transposed to h
 abbrev pub IsOnlyInto : Mapping → (i a j d : InstanceData) → (h k : Transform) → Type 0
-IsOnlyInto F i a j d h k = (other : Transform) → IsHomomorphism i.schema i.tables d.tables other.rows other.nulls → Transposed F i a j d h other
-    → (other.rows ≡ k.rows) × (other.nulls ≡ k.nulls)
+IsOnlyInto F i a j d h k = (other : Transform) → IsHomomorphism i.schema i.tables d.tables other.rows other.nulls
+    → Transposed F i a j d h other → (other.rows ≡ k.rows) × (other.nulls ≡ k.nulls)
 
 -- h is the only homomorphism from a to j to which k is transposed
 abbrev pub IsOnlyOutOf : Mapping → (i a j d : InstanceData) → (h k : Transform) → Type 0
-IsOnlyOutOf F i a j d h k = (other : Transform) → IsHomomorphism a.schema a.tables j.tables other.rows other.nulls → Transposed F i a j d other k
-    → (other.rows ≡ h.rows) × (other.nulls ≡ h.nulls)
+IsOnlyOutOf F i a j d h k = (other : Transform) → IsHomomorphism a.schema a.tables j.tables other.rows other.nulls
+    → Transposed F i a j d other k → (other.rows ≡ h.rows) × (other.nulls ≡ h.nulls)

@@ -13,7 +13,11 @@ use Rattle.cq_adjoint.specs.Moves.{spelled, named, each_generator}
 
 -- the identity of an instance
 abbrev pub identity_of : InstanceData → Transform
-identity_of i = record { images = identity_images i.presentation.generators; rows = identity_rows i.tables; nulls = identity_nulls i.tables }
+identity_of i = record {
+  images = identity_images i.presentation.generators;
+  rows = identity_rows i.tables;
+  nulls = identity_nulls i.tables;
+}
 
 -- x is sigma of i, and b is delta of x: each generator goes to the spelling in b of what it stands for in x
 abbrev pub unit_images : (i x b : InstanceData) → List Image
@@ -21,4 +25,5 @@ unit_images i x b = each_generator (λ n sort. spelled b sort (slice_index_or x.
 
 -- x is delta of i: the generator of a row or a null of x goes to its name in i
 abbrev pub counit_images : Mapping → (ℕ → TypeTerm) → (i x : InstanceData) → List Image
-counit_images F null_term i x = each_generator (λ n sort. named i null_term (sort_image F sort) (slice_index_or x.assignment n (AtRow 0))) x.presentation.generators
+counit_images F null_term i x =
+    each_generator (λ n sort. named i null_term (sort_image F sort) (slice_index_or x.assignment n (AtRow 0))) x.presentation.generators

@@ -1,9 +1,10 @@
 //! Laws of transforms along mappings. Each is the contract of a function that does nothing.
-ghost use Rattle.std.specs.Prelude.{ℕ, ◌≡◌, map};
+ghost use Rattle.std.specs.Prelude.{ℕ, [], ◌∷◌, ◌≡◌, All, map};
 ghost use Rattle.cq_theory.specs.Schema.{IsSchema};
 ghost use Rattle.cq_theory.specs.Sorts.{Generators};
-ghost use Rattle.cq_theory.specs.Tables.{Holds};
+ghost use Rattle.cq_theory.specs.Tables.{Holds, Initial};
 ghost use Rattle.cq_theory.specs.declared.term.TypeTerm.{TypeTerm};
+ghost use Rattle.cq_mapping.specs.Duties.{Preserves};
 ghost use Rattle.cq_mapping.specs.Images.{generator_images};
 ghost use Rattle.cq_mapping.specs.MappingData.{MappingData as Mapping};
 ghost use Rattle.cq_mapping.specs.Mapping.{IsMapping};
@@ -12,7 +13,9 @@ ghost use Rattle.cq_instance.specs.declared.transform.Transform.{Transform};
 ghost use Rattle.cq_transform.specs.Nulls.{IsInitial};
 ghost use Rattle.cq_transform.specs.Transforms.{GoesFrom};
 ghost use Rattle.cq_adjoint.specs.Moved.{IsSigmaOf, IsDeltaOf};
+ghost use Rattle.cq_transform.specs.Composing.{composed};
 ghost use Rattle.cq_transform.specs.Identities.{identity_images};
+ghost use Rattle.cq_adjoint.specs.Along.{IsAlongSigma, IsAlongDelta, SendAlike};
 ghost use Rattle.cq_adjoint.specs.Moves.{image_along, delta_images, to_delta_images, from_delta_images};
 ghost use Rattle.cq_adjoint.specs.Units.{identity_of, unit_images, counit_images};
 ghost use Rattle.cq_adjoint.specs.Transposed.{Transposed};
@@ -49,4 +52,19 @@ pub fn delta_keeps_identities()
     ensures { (F : Mapping) (i a : InstanceData) → IsMapping F → IsInstance i → IsInstance a → IsDeltaOf F i a
         → Holds i.schema i.presentation i.tables i.assignment
         → delta_images F (identity_of i) i i a a ≡ identity_images a.presentation.generators }
+{}
+
+/// Along a mapping's delta the composite of two transforms becomes the composite of what they become.
+pub fn delta_keeps_composites()
+    ensures { (F : Mapping) (i j k a b c : InstanceData) (h g s t u : Transform) → IsMapping F
+        → All IsInstance (i ∷ j ∷ k ∷ a ∷ b ∷ c ∷ []) → IsAlongDelta F i j a b h s → IsAlongDelta F j k b c g t
+        → IsAlongDelta F i k a c (composed j k h g) u → SendAlike (composed b c s t) u }
+{}
+
+/// Along a mapping's sigma the composite of two transforms becomes the composite of what they become.
+pub fn sigma_keeps_composites()
+    ensures { (F : Mapping) (i j k a b c : InstanceData) (h g s t u : Transform) → IsMapping F → Preserves F
+        → Initial k.schema k.presentation k.tables k.assignment → All IsInstance (i ∷ j ∷ k ∷ a ∷ b ∷ c ∷ [])
+        → IsAlongSigma F i j a b h s → IsAlongSigma F j k b c g t → IsAlongSigma F i k a c (composed j k h g) u
+        → SendAlike (composed b c s t) u }
 {}

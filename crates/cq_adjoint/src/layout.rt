@@ -1,5 +1,5 @@
 //! Where the generators of coeval stand.
-ghost use Rattle.std.specs.Prelude.{◌≡◌, ◌≤◌, IfOk, length};
+ghost use Rattle.std.specs.Prelude.{◌≡◌, ◌≤◌, ◌+◌, ◌*◌, IfOk, length, slice_index};
 ghost use Rattle.cq_query.specs.Translation.{variables_at};
 ghost use Rattle.cq_query.specs.Coeval.{starts as starts_of, null_start};
 
@@ -47,4 +47,12 @@ pub(crate) fn find_layout(
         starts,
         first_null: total,
     })
+}
+
+/// The first of the generators of coeval for a row, where each entity's begin at these starts.
+pub(crate) fn copy_at(query: &Query, starts: &[u32], entity: u32, row: u32) -> u32
+    requires few { slice_index starts.now entity + row * length (variables_at query.now entity) ≤ 16000000 }
+    ensures { result ≡ slice_index starts.now entity + row * length (variables_at query.now entity) }
+{
+    number_at(starts, entity as usize) + row * width(query, entity)
 }

@@ -6,7 +6,7 @@ ghost use Rattle.cq_move.specs.Pulling.{TellsSize};
 ghost use Rattle.cq_transform.specs.Composing.{has_long};
 ghost use Rattle.cq_adjoint.specs.Moves.{each_generator, spelled_value};
 ghost use Rattle.cq_adjoint.specs.Nameable.{IsNameable, AreNameable, moved_name};
-ghost use Rattle.cq_adjoint.specs.Spelling.{term_among};
+ghost use Rattle.cq_instance.specs.Spelling.{term_among};
 
 use crate::limits::push_image;
 use crate::sending::{sent_row, sent_value};
@@ -38,7 +38,11 @@ fn null_term(alloc: Global, null_terms: &[TypeTerm], label: u64) -> Result<TypeT
 }
 
 /// A value as a term, with the term of each null in the null's place.
-fn named_term(alloc: Global, naming: &Naming, value: &Value) -> Result<TypeTerm, AllocError>
+pub(crate) fn named_term(
+    alloc: Global,
+    naming: &Naming,
+    value: &Value,
+) -> Result<TypeTerm, AllocError>
     ensures { IfOk result (λ made. made ≡ spelled_value (term_among naming.now.null_terms.now) value.now) }
 {
     match value {

@@ -5,7 +5,7 @@ use Rattle.cq_theory.specs.declared.term.TypeTerm.TheVariants.{Const, Fun}
 use Rattle.cq_theory.specs.declared.value.Value.{Value}
 use Rattle.cq_theory.proofs.Values.{fold-Const, fold-Null, fold-Fun}
 use Rattle.cq_adjoint.specs.Moves.{spelled_step, spelled_value}
-use Rattle.cq_adjoint.specs.Spelling.{term_among}
+use Rattle.cq_instance.specs.Spelling.{term_among}
 use Rattle.cq_adjoint.proofs.named.+named_term.Goals as goal
 
 pub loop-arg-preserved : goal.loop-arg-preserved

@@ -1,6 +1,6 @@
 use Rattle.std.proofs.Common.{◌≡◌, map, take}
 use Rattle.cq_adjoint.specs.Moves.{spelled_value}
-use Rattle.cq_adjoint.specs.Spelling.{term_among}
+use Rattle.cq_instance.specs.Spelling.{term_among}
 use Rattle.cq_adjoint.proofs.named.+named_term.Given as goal
 
 abbrev pub decreases-named_term : goal.decreases-named_term

@@ -4,7 +4,7 @@ use Rattle.cq_theory.specs.declared.term.TypeTerm.{TypeTerm}
 use Rattle.cq_instance.specs.declared.transform.Image.{Image}
 use Rattle.cq_transform.proofs.Answered.{if_ok}
 use Rattle.cq_adjoint.specs.Nameable.{moved_name}
-use Rattle.cq_adjoint.specs.Spelling.{term_among}
+use Rattle.cq_instance.specs.Spelling.{term_among}
 use Rattle.cq_adjoint.proofs.named.named_image.Goals as goal
 
 pub returns-in-Entity : goal.returns-in-Entity

@@ -6,7 +6,7 @@ use Rattle.cq_instance.proofs.Enumerated.{enumerated_more}
 use Rattle.cq_transform.specs.Composing.{has_long}
 use Rattle.cq_transform.proofs.Loops.{read_at}
 use Rattle.cq_adjoint.specs.Nameable.{moved_name}
-use Rattle.cq_adjoint.specs.Spelling.{term_among}
+use Rattle.cq_instance.specs.Spelling.{term_among}
 use Rattle.cq_adjoint.proofs.Within.{fits_more, tells_numbered}
 use Rattle.cq_adjoint.proofs.named.named_images.Goals as goal
 

@@ -2,7 +2,7 @@ use Rattle.std.proofs.Common.{false, ◌≡◌, take}
 use Rattle.cq_transform.specs.Composing.{has_long}
 use Rattle.cq_adjoint.specs.Moves.{each_generator}
 use Rattle.cq_adjoint.specs.Nameable.{moved_name}
-use Rattle.cq_adjoint.specs.Spelling.{term_among}
+use Rattle.cq_instance.specs.Spelling.{term_among}
 use Rattle.cq_adjoint.proofs.named.named_images.Given as goal
 
 abbrev pub invariant-loop-number : goal.invariant-loop-number

@@ -6,7 +6,7 @@ use Rattle.cq_instance.specs.InstanceData.{InstanceData}
 use Rattle.cq_instance.specs.declared.transform.Image.TheVariants as image
 use Rattle.cq_adjoint.specs.Moves.{spelled_value}
 use Rattle.cq_adjoint.specs.Nameable.{moved}
-use Rattle.cq_adjoint.specs.Spelling.{term_among}
+use Rattle.cq_instance.specs.Spelling.{term_among}
 use Rattle.cq_adjoint.proofs.MovedImages.{value_found}
 use Rattle.cq_adjoint.proofs.named.named_value.Goals as goal
 

@@ -1,6 +1,6 @@
 use Rattle.std.proofs.Common.{sym, subst, ◌∙◌}
 use Rattle.cq_theory.specs.Schema.{IsSchema}
-use Rattle.cq_adjoint.specs.Spelling.{term_among}
+use Rattle.cq_instance.specs.Spelling.{term_among}
 use Rattle.cq_adjoint.proofs.FromDelta as lemmas
 use Rattle.cq_adjoint.proofs.pushed.from_delta_by.Goals as goal
 

@@ -7,7 +7,7 @@ use Rattle.cq_transform.specs.Composing.{has_long}
 use Rattle.cq_transform.specs.Transforming.{AreKept, AreSorted}
 use Rattle.cq_adjoint.specs.Moves.{each_generator}
 use Rattle.cq_adjoint.specs.Nameable.{AreNameable, moved_name}
-use Rattle.cq_adjoint.specs.Spelling.{term_among}
+use Rattle.cq_instance.specs.Spelling.{term_among}
 use Rattle.cq_adjoint.proofs.FromDelta as lemmas
 use Rattle.cq_adjoint.proofs.pushed.from_delta_images.Goals as goal
 

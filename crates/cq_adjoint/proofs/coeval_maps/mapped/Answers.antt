@@ -1,0 +1,31 @@
+use Rattle.std.proofs.Common.{List, true, false, ◌≡◌, refl, inr, sym, ap, subst, ◌∙◌}
+use Rattle.cq_instance.specs.InstanceData.{InstanceData}
+use Rattle.cq_transform.specs.Composing.{has_long}
+use Rattle.cq_transform.specs.Transforming.{AreKept, AreSorted}
+use Rattle.cq_adjoint.proofs.CoevalMaps.{schemas, sorted, are_kept}
+use Rattle.cq_adjoint.proofs.coeval_maps.mapped.Goals as goal
+
+pub transform_of_images-requires : goal.transform_of_images-requires
+transform_of_images-requires c =
+    let m = c.args.copying.now in
+    let a : InstanceData = m.copies.now in
+    let b : InstanceData = m.there.now in
+    record {
+      schema = schemas m.query.now c.is_well_sorted.ensures m.moved.now m.source.now m.target.now a b c.requires.copied c.requires.copied_there c.requires.goes c.is_instance.ensures c.is_instance-2.ensures c.is_instance-3.ensures;
+      sorted = subst (AreSorted a b) (sym c.in_ok-images.ensures)
+          (sorted m.query.now c.is_well_sorted.ensures m.moved.now m.source.now m.target.now a b c.requires.copied c.requires.copied_there c.requires.goes c.is_instance.ensures c.is_instance-2.ensures c.is_instance-3.ensures);
+      kept = subst (AreKept a b) (sym c.in_ok-images.ensures)
+          (are_kept m.query.now c.is_well_sorted.ensures m.moved.now m.source.now m.target.now a b c.requires.copied c.requires.copied_there c.requires.goes c.is_instance.ensures c.is_instance-2.ensures c.is_instance-3.ensures);
+    }
+
+pub returns-then-has_long-clause-refused : goal.returns-then-has_long-clause-refused
+returns-then-has_long-clause-refused c = inr (refl, ap has_long (sym (c.as_slice.ensures.value ∙ c.in_ok-images.ensures)) ∙ sym c.has_long.ensures ∙ c.if-has_long.true)
+
+pub returns-in-Ok-clause-images : goal.returns-in-Ok-clause-images
+returns-in-Ok-clause-images c = c.in-Ok.ensures.images ∙ c.in_ok-images.ensures
+
+pub returns-in-Ok-clause-goes : goal.returns-in-Ok-clause-goes
+returns-in-Ok-clause-goes c = c.in-Ok.ensures.goes c.requires.copied.initial
+
+pub returns-in-Ok-clause-fits : goal.returns-in-Ok-clause-fits
+returns-in-Ok-clause-fits c = ap has_long (c.in-Ok.ensures.images ∙ sym c.as_slice.ensures.value) ∙ sym c.has_long.ensures ∙ c.if-has_long.false
