@@ -8,7 +8,6 @@ use Rattle.cq_theory.specs.declared.presentation.Presentation.{Presentation}
 use Rattle.cq_theory.specs.declared.presentation.Equation.{Equation}
 use Rattle.cq_theory.specs.declared.presentation.Sort.{Sort}
 use Rattle.cq_theory.specs.declared.presentation.Sort.TheVariants.{Plain, Entity}
-use Rattle.cq_theory.specs.declared.term.EntTerm.{EntTerm}
 use Rattle.cq_theory.specs.declared.term.Term.{Term}
 use Rattle.cq_theory.specs.declared.term.Term.TheVariants.{Ent, Typ}
 use Rattle.cq_theory.specs.declared.value.Value.{Value}
@@ -73,12 +72,12 @@ meaning_sorted S P M A holds (Typ t) sort h =
 
 -- Along a homomorphism, images that mean what the generators are sent to are a transform.
 module _ (S : Schema) (P Q : Presentation) (M N : Tables) (A B : Assignment) (presented : IsPresentation S P) (start : Holds S P M A) (finish : Holds S Q N B)
-    (rows : List (List ℕ)) (nulls : List Value) (homomorphism : IsHomomorphism S M N rows nulls) (names names' : List (List EntTerm)) where
+    (rows : List (List ℕ)) (nulls : List Value) (homomorphism : IsHomomorphism S M N rows nulls) (one other : InstanceData) where
   abbrev from : InstanceData
-  from = record { schema = S; presentation = P; names = names; tables = M; assignment = A }
+  from = record one { schema = S; presentation = P; tables = M; assignment = A }
 
   abbrev to : InstanceData
-  to = record { schema = S; presentation = Q; names = names'; tables = N; assignment = B }
+  to = record other { schema = S; presentation = Q; tables = N; assignment = B }
 
   -- the image is a term of the generator's sort, and means what the generator is sent to
   record IsImageOf (n : ℕ) (g : Name × Sort) (image : Image) : Type 0 where
@@ -165,7 +164,7 @@ module _ (S : Schema) (P : Presentation) (M N : Tables) (A B : Assignment) (init
       ∙ value_goes S P N M B A rows' nulls' finish homomorphism' agrees' name.0 typed.0 typed.1 ∙ name.3
 
 module _ (S : Schema) (P : Presentation) (M N : Tables) (A B : Assignment) (schema : IsSchema S) (presented : IsPresentation S P) (first : Initial S P M A)
-    (canonical_presented : IsPresentation S (canonical S M)) (second : Initial S (canonical S M) N B) (names names' : List (List EntTerm)) where
+    (canonical_presented : IsPresentation S (canonical S M)) (second : Initial S (canonical S M) N B) (one other : InstanceData) where
   abbrev Q : Presentation
   Q = canonical S M
 
@@ -181,10 +180,10 @@ module _ (S : Schema) (P : Presentation) (M N : Tables) (A B : Assignment) (sche
   module _ (rows rows' : List (List ℕ)) (nulls nulls' : List Value) (onto : IsHomomorphism S M N rows nulls) (onto_agrees : Agrees S Q M N C B rows nulls)
       (back : IsHomomorphism S N M rows' nulls') (back_agrees : Agrees S Q N M B C rows' nulls') where
     abbrev Images : ℕ → Name × Sort → Image → Type 0
-    Images = IsImageOf S P Q M N A B presented first.holds second.holds rows nulls onto names names'
+    Images = IsImageOf S P Q M N A B presented first.holds second.holds rows nulls onto one other
 
     abbrev ImagesBack : ℕ → Name × Sort → Image → Type 0
-    ImagesBack = IsImageOf S Q P N M B A canonical_presented second.holds first.holds rows' nulls' back names' names
+    ImagesBack = IsImageOf S Q P N M B A canonical_presented second.holds first.holds rows' nulls' back other one
 
     -- what a generator stands for, as a term over the canonical presentation
     term_there : (sort : Sort) (m : Meaning) → HasSort S M sort m
@@ -247,15 +246,15 @@ module _ (S : Schema) (P : Presentation) (M N : Tables) (A B : Assignment) (sche
     image_back n g at = elim (generators.from_generator S M same n g at) [ inl r ↦ row_back n g at r | inr l ↦ null_back n g at l ]
 
     abbrev start : InstanceData
-    start = record { schema = S; presentation = P; names = names; tables = M; assignment = A }
+    start = record one { schema = S; presentation = P; tables = M; assignment = A }
 
     abbrev finish : InstanceData
-    finish = record { schema = S; presentation = canonical S M; names = names'; tables = N; assignment = B }
+    finish = record other { schema = S; presentation = canonical S M; tables = N; assignment = B }
 
     undone_both : (f : Transform) × (g : Transform) × AreOneToOne start finish f g
     undone_both =
-        let f = some_transform S P Q M N A B presented first.holds second.holds rows nulls onto names names' image_there in
-        let g = some_transform S Q P N M B A canonical_presented second.holds first.holds rows' nulls' back names' names image_back in (
+        let f = some_transform S P Q M N A B presented first.holds second.holds rows nulls onto one other image_there in
+        let g = some_transform S Q P N M B A canonical_presented second.holds first.holds rows' nulls' back other one image_back in (
           record { images = f.0; rows = rows; nulls = nulls },
           record { images = g.0; rows = rows'; nulls = nulls' },
           record {
@@ -272,8 +271,8 @@ module _ (S : Schema) (P : Presentation) (M N : Tables) (A B : Assignment) (sche
           },
         )
 
-  both_ways : (f : Transform) × (g : Transform) × AreOneToOne (record { schema = S; presentation = P; names = names; tables = M; assignment = A })
-      (record { schema = S; presentation = canonical S M; names = names'; tables = N; assignment = B }) f g
+  both_ways : (f : Transform) × (g : Transform) × AreOneToOne (record one { schema = S; presentation = P; tables = M; assignment = A })
+      (record other { schema = S; presentation = canonical S M; tables = N; assignment = B }) f g
   both_ways =
       let onto = some_homomorphism S Q M N C B schema own second.holds in
       let back = some_homomorphism S Q N M B C schema second own.holds in
@@ -285,6 +284,6 @@ pub one_to_one : (i j : InstanceData) → IsSchema i.schema → IsPresentation i
     → Initial j.schema j.presentation j.tables j.assignment → (f : Transform) × (g : Transform) × AreOneToOne i j f g
 one_to_one i j schema presented first canonical_presented same same_presentation second =
     let Claim : Schema × Presentation → Type 0 =
-    λ x. Initial x.0 x.1 j.tables j.assignment → (f : Transform) × (g : Transform) × AreOneToOne i (record { schema = x.0; presentation = x.1; names = j.names; tables = j.tables; assignment = j.assignment }) f g in
+    λ x. Initial x.0 x.1 j.tables j.assignment → (f : Transform) × (g : Transform) × AreOneToOne i (record j { schema = x.0; presentation = x.1 }) f g in
     subst Claim (λ k. (sym same k, sym same_presentation k))
-    (λ initial. both_ways i.schema i.presentation i.tables j.tables i.assignment j.assignment schema presented first canonical_presented initial i.names j.names) second
+    (λ initial. both_ways i.schema i.presentation i.tables j.tables i.assignment j.assignment schema presented first canonical_presented initial i j) second
