@@ -11,3 +11,4 @@ pub mod OneMeaning
 pub mod Breaches
 pub mod GluedPresentations
 pub mod Answered
+pub mod Initials

@@ -1,3 +1,4 @@
 pub mod Program
 pub mod Judging
 pub mod Named
+pub mod Initial
