@@ -1,5 +1,5 @@
 -- The words of the forms in which transforms are moved.
-use Rattle.std.specs.Prelude.{Option, Some, None, is_some}
+use Rattle.std.specs.Prelude.{Bool, Option, Some, None, is_some}
 use Rattle.std.specs.Option.{unwrap_or}
 use Rattle.cq_lex.specs.declared.token.Token.{Token}
 use Rattle.cq_rules.specs.declared.class.Class.{Class}
