@@ -211,6 +211,37 @@ def paths(n):
     return schema("entities E foreign_keys k : E -> E path_equations k.k = k") + instance(f"{names('x', n)} : E", rows)
 
 
+def queried(variables, tests, generators, equations=""):
+    """An instance, and the answers of a query over it with so many variables `a0`, `a1` .. of one entity."""
+    head = schema("entities E foreign_keys f : E -> E attributes v : E -> s") + "schema R = literal : T { entities P }\n"
+    query = f"query Q = literal : S -> R {{ entity P -> {{ from {names('a', variables)} : E where {tests} }} }}\n"
+    return head + query + instance(f"{generators} : E", equations) + "instance J = eval Q I\n"
+
+
+@file("variables tied by their ends", 40, "instance I")
+def ends(n):
+    n = max(n, 2)
+    return queried(n, f"p(a{n - 1}.v, a0.v) = c", "x y", "x.f = x y.f = y")
+
+
+@file("variables that stand apart from one that has no row", 40, "instance I")
+def apart(n):
+    n = max(n, 2)
+    return queried(n, f"a{n - 1}.v = c", names("x", 10), " ".join(f"x{k}.f = x{k}" for k in range(10)))
+
+
+@file("a clique of five variables", 100, "instance I")
+def clique(n):
+    pairs = " ".join(f"p(a{k}.v, a{m}.v) = c" for k in range(5) for m in range(k))
+    near = " ".join(f"p(x{k}.v, x{m}.v) = c" for k in range(n) for m in range(max(0, k - 2), k))
+    return queried(5, pairs, names("x", n), " ".join(f"x{k}.f = x{k}" for k in range(n)) + " " + near)
+
+
+@file("variables tied to one", 5_000, "instance I")
+def one_tied(n):
+    return queried(n, " ".join(f"a{k}.f = a0" for k in range(1, n)), "x y", "x.f = x y.f = y")
+
+
 def run(program, folder, wanted):
     """Processor seconds and peak memory in bytes of one run in a folder, whose output goes into a file."""
     child = os.fork()

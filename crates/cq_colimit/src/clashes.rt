@@ -13,6 +13,7 @@ ghost use Rattle.indexmap.specs.IndexMap.{get};
 use crate::refusal::ColimitRefusal;
 use crate::text::Text;
 use crate::texts::Texts;
+use cq_base::Hashing;
 use cq_theory::Typeside;
 use indexmap::IndexMap;
 use std::alloc::{AllocError, Global};
@@ -54,7 +55,7 @@ fn ordered(left: u32, right: u32) -> (u32, u32)
 /// Notes that a part gives a name, where the least part that has given it so far is known. The answer is the least of a
 /// pair so far and of that of this part with it.
 fn note(
-    givers: &mut IndexMap<Text, u32>,
+    givers: &mut IndexMap<Text, u32, Hashing>,
     name: &(Text, u32),
     least: Option<(u32, u32)>,
 ) -> Result<Option<(u32, u32)>, AllocError>
@@ -83,7 +84,7 @@ fn least_clash(
 ) -> Result<Option<(u32, u32)>, AllocError>
     ensures { IfOk result (λ found. found ≡ clash_of least [] given.now) }
 {
-    let mut givers = IndexMap::new(alloc);
+    let mut givers = IndexMap::with_hasher(alloc, Hashing::new());
     let mut least = least;
     for name in given {
         least = note(&mut givers, name, least)?;

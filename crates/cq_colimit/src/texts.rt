@@ -5,7 +5,7 @@ ghost use Rattle.cq_base.specs.declared.name.Name.{Name as AnyName};
 ghost use Rattle.cq_theory.specs.Paths.{is_among};
 
 use crate::text::Text;
-use cq_base::Name;
+use cq_base::{Hashing, Name};
 use cq_theory::Fun;
 use indexmap::IndexSet;
 use std::alloc::{AllocError, Global};
@@ -13,7 +13,7 @@ use std::marker::Model;
 
 /// Texts. Contracts see the list of those that were added, each once.
 pub(crate) struct Texts {
-    texts: IndexSet<Text>,
+    texts: IndexSet<Text, Hashing>,
 }
 
 impl Model for Texts {
@@ -36,7 +36,7 @@ impl Texts {
         ensures { result ≡ [] }
     {
         Texts {
-            texts: IndexSet::new(alloc),
+            texts: IndexSet::with_hasher(alloc, Hashing::new()),
         }
     }
 

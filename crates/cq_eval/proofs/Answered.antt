@@ -57,7 +57,7 @@ module _ {X : Type 0} (f : X → Bool) where
   all_at (y ∷ xs) h zero x at = let same : y ≡ x = cc in ap f (sym same) ∙ (and_parts (f y) (list_all f xs) h).0
   all_at (y ∷ xs) h (suc n) x at = all_at xs (and_parts (f y) (list_all f xs) h).1 n x at
 
-  all_from_each : (xs : List X) → ((n : ℕ) (x : X) → slice_get xs n ≡ Some x → f x ≡ true) → list_all f xs ≡ true
+  pub all_from_each : (xs : List X) → ((n : ℕ) (x : X) → slice_get xs n ≡ Some x → f x ≡ true) → list_all f xs ≡ true
   all_from_each [] h = refl
   all_from_each (y ∷ xs) h = and_from (f y) (list_all f xs) (h 0 y refl) (all_from_each xs (λ n x at. h (suc n) x at))
 

@@ -67,7 +67,7 @@ one_within s some r n true zero less rest at = let same : s ≡ r = cc in omega 
 one_within s some r n true (suc k) less rest at = rest k at
 one_within s some r n false k less rest at = rest k at
 
-position_within : (s : ℕ) (xs : List ℕ) (e k r : ℕ) → slice_get (positions_from s xs e) k ≡ Some r → r < s + length xs
+pub position_within : (s : ℕ) (xs : List ℕ) (e k r : ℕ) → slice_get (positions_from s xs e) k ≡ Some r → r < s + length xs
 position_within s [] e k r at = cc
 position_within s (x ∷ xs) e k r at =
     one_within s (positions_from (s + 1) xs e) r (s + length (x ∷ xs)) (x == e) k (omega arith) (λ j there. let inside : r < s + 1 + length xs = position_within (s + 1) xs e j r there in omega arith) at

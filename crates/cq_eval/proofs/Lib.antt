@@ -1,12 +1,17 @@
 pub mod Answered
 pub mod Chosen
+pub mod Counted
 pub mod Covered
 pub mod Extended
 pub mod Filled
 pub mod Indexed
 pub mod Joined
 pub mod Keeping
+pub mod Ordered
 pub mod Placed
+pub mod Renamed
+pub mod Reordered
+pub mod Staged
 pub mod Tested
 pub mod Told
 pub mod Typed

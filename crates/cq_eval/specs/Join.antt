@@ -1,8 +1,9 @@
 -- Answers that are found one variable at a time.
-use Rattle.std.specs.Prelude.{ℕ, Bool, not, List, [], ◌∷◌, ◌++◌, ◌≡◌, ◌==◌, ◌||◌, if◌then◌else◌, Some, map, filter, length, slice_get}
+use Rattle.std.specs.Prelude.{ℕ, Bool, not, List, [], ◌∷◌, ◌++◌, ◌≡◌, ◌+◌, ◌==◌, ◌||◌, if◌then◌else◌, Some, map, filter, length, slice_get}
 use Rattle.std.specs.List.{list_all, flat_map}
 use Rattle.cq_theory.specs.declared.presentation.Equation.{Equation}
 use Rattle.cq_theory.specs.Canonical.{below}
+use Rattle.cq_theory.specs.Groups.{positions}
 use Rattle.cq_theory.specs.SchemaData.{SchemaData as Schema}
 use Rattle.cq_theory.specs.Tables.{Tables, count_of}
 use Rattle.cq_blocks.specs.declared.block.Block.{Block}
@@ -24,9 +25,10 @@ module _ {E : Type 0} (stage_of : E → ℕ) (holds : List ℕ → E → Bool) (
   found [] bound = bound ∷ []
   found (count ∷ counts) bound = flat_map (found counts) (filter passes (map (λ row. bound ++ row ∷ []) (below count)))
 
--- what a search for answers starts from: the where equations with their stages, and how many rows there are for each variable
-pub record IsJoin (S : Schema) (M : Tables) (tests : List Equation) (stages counts : List ℕ) : Type 0 where
-  pub staged : stages ≡ map (stage (length counts)) tests
+-- what a search for answers starts from: the where equations, the places of those of each stage, and how many rows there are for
+-- each variable
+pub record IsJoin (S : Schema) (M : Tables) (tests : List Equation) (groups : List (List ℕ)) (counts : List ℕ) : Type 0 where
+  pub staged : groups ≡ map (positions (map (stage (length counts)) tests)) (below (length counts + 1))
   pub typed : (rows : List ℕ) → IsTuple rows counts → (n : ℕ) (e : Equation) → slice_get tests n ≡ Some e → IsTestAt S M rows e
 
 module _ (M : Tables) (tests : List Equation) (counts : List ℕ) where

@@ -1,22 +1,30 @@
 //! The answers of a query for an entity.
-ghost use Rattle.std.specs.Prelude.{◌≡◌, ◌==◌, ◌<◌, ◌≤◌, All, IfOk, OnOk, IfErr, length, map, vec_len};
+ghost use Rattle.std.specs.Prelude.{ℕ, List, ◌≡◌, ◌==◌, ◌<◌, ◌≤◌, All, IfOk, OnOk, IfErr, Some, length, map, vec_len};
+ghost use Rattle.std.specs.Prelude.{slice_get};
 ghost use Rattle.std.specs.List.{list_any};
+ghost use Rattle.cq_theory.specs.declared.presentation.Equation.{Equation};
 ghost use Rattle.cq_theory.specs.Tables.{count_of};
-ghost use Rattle.cq_query.specs.Answers.{AreAnswers};
+ghost use Rattle.cq_query.specs.Answers.{AreAnswers, IsTuple};
 ghost use Rattle.cq_eval.specs.Join.{IsTested};
 ghost use Rattle.cq_eval.specs.Kept.{AreKept};
 ghost use Rattle.cq_eval.specs.Made.{answers_with, answers_of, StandOnce};
+ghost use Rattle.cq_eval.specs.Order.{IsOrder};
 ghost use Rattle.cq_eval.specs.Refused.{TellsMany, TellsOver};
+ghost use Rattle.cq_eval.specs.Testing.{IsTestAt};
 
 use crate::index::indexes;
 use crate::joining::Join;
 use crate::kept::Kept;
-use crate::reaches::stages;
+use crate::order::{Order, picked, renamed_tests};
+use crate::plan::order_of;
+use crate::reaches::by_stage;
 use crate::refusal::EvalRefusal;
 use crate::rows::Rows;
+use crate::sorted::sorted_back;
 use cq_base::{Name, Seq};
 use cq_instance::Instance;
 use cq_query::{Block, Query};
+use cq_theory::Equation;
 use std::alloc::{AllocError, Global};
 
 /// All choices of a row for each variable of an entity's block at which the where equations hold, in lexicographic
@@ -121,6 +129,72 @@ fn has_none(counts: &[u32]) -> bool
     counts.iter().any(|count| *count == 0)
 }
 
+/// The choices of a row below each count at which the where equations hold, found one variable after the other.
+fn searched(
+    alloc: Global,
+    instance: &Instance,
+    kept: &mut Kept,
+    tests: &[Equation],
+    counts: Seq<u32>,
+    entity: u32,
+) -> Result<Vec<Rows>, EvalRefusal>
+    requires kept { AreKept instance.now.tables kept.old }
+    requires typed { (rows : List ℕ) → IsTuple rows counts → (n : ℕ) (e : Equation) → slice_get tests.now n ≡ Some e
+        → IsTestAt instance.now.schema instance.now.tables rows e }
+    ensures kept { OnOk result (AreKept instance.now.tables kept.new) }
+    ensures answers { IfOk result (λ found. found.items ≡ answers_with instance.now.tables tests.now counts) }
+    ensures few { IfOk result (λ found. length found.items ≤ 1000000) }
+    ensures refused { IfErr result (TellsOver entity (length (answers_with instance.now.tables tests.now counts))) }
+{
+    if has_none(counts.as_slice()) {
+        return Ok(Vec::new(alloc));
+    }
+    let groups = by_stage(alloc, tests, counts.as_slice())?;
+    let indexes = indexes(alloc, instance, kept, counts.as_slice(), tests)?;
+    let join = Join {
+        entity,
+        instance,
+        tests,
+        groups,
+        counts,
+        indexes,
+    };
+    join.answers(alloc)
+}
+
+/// The answers for the entity of a block, whose variables are bound in this order.
+fn reordered(
+    alloc: Global,
+    instance: &Instance,
+    kept: &mut Kept,
+    block: &Block,
+    entity: u32,
+    order: &Order,
+) -> Result<Vec<Rows>, EvalRefusal>
+    requires kept { AreKept instance.now.tables kept.old }
+    requires entities { All (λ v. v.1 < length instance.now.schema.entities) block.now.vars }
+    requires tested { IsTested instance.now.schema instance.now.tables block.now }
+    requires order { IsOrder (length block.now.vars) order.now.order order.now.places }
+    ensures kept { OnOk result (AreKept instance.now.tables kept.new) }
+    ensures answers { IfOk result (λ found. found.items ≡ answers_with instance.now.tables block.now.tests
+        (map (λ v. count_of instance.now.tables v.1) block.now.vars)) }
+    ensures few { IfOk result (λ found. length found.items ≤ 1000000) }
+    ensures refused { IfErr result (TellsOver entity
+        (length (answers_with instance.now.tables block.now.tests
+        (map (λ v. count_of instance.now.tables v.1) block.now.vars)))) }
+{
+    let counts = variable_counts(alloc, instance, block.vars.as_slice())?;
+    let moved = Seq::from_vec(picked(alloc, order.order.as_slice(), counts.as_slice())?);
+    let tests = renamed_tests(alloc, order.places.as_slice(), block.tests.as_slice())?;
+    match searched(alloc, instance, kept, tests.as_slice(), moved, entity) {
+        Ok(found) => match sorted_back(alloc, order.places.as_slice(), found) {
+            Ok(sorted) => Ok(sorted),
+            Err(_) => Err(EvalRefusal::Memory),
+        },
+        Err(refusal) => Err(refusal),
+    }
+}
+
 /// The answers for the entity of a block.
 fn block_answers(
     alloc: Global,
@@ -140,25 +214,17 @@ fn block_answers(
         (length (answers_with instance.now.tables block.now.tests
         (map (λ v. count_of instance.now.tables v.1) block.now.vars)))) }
 {
-    let counts = variable_counts(alloc, instance, block.vars.as_slice())?;
-    if has_none(counts.as_slice()) {
-        return Ok(Vec::new(alloc));
+    let found = order_of(alloc, block.tests.as_slice(), block.vars.len())?;
+    if let Some(order) = found {
+        return reordered(alloc, instance, kept, block, entity, &order);
     }
-    let stages = stages(alloc, block.tests.as_slice(), block.vars.len())?;
-    let indexes = indexes(
+    let counts = variable_counts(alloc, instance, block.vars.as_slice())?;
+    searched(
         alloc,
         instance,
         kept,
-        counts.as_slice(),
         block.tests.as_slice(),
-    )?;
-    let join = Join {
-        entity,
-        instance,
-        tests: block.tests.as_slice(),
-        stages,
         counts,
-        indexes,
-    };
-    join.answers(alloc)
+        entity,
+    )
 }

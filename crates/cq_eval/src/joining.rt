@@ -1,21 +1,22 @@
 //! The search for answers, one variable at a time.
 ghost use Rattle.std.specs.Prelude.{ℕ, ◌≡◌, ◌+◌, ◌<◌, ◌≤◌, ◌==◌, ◌++◌, ◌∷◌, [], false, IfOk, IfSome, OnOk, IfErr};
-ghost use Rattle.std.specs.Prelude.{length, map, take, drop, slice_get, slice_index, option_copied};
+ghost use Rattle.std.specs.Prelude.{length, map, take, drop, slice_get, slice_index, slice_index_or, option_copied, Some};
 ghost use Rattle.std.specs.List.{list_any};
+ghost use Rattle.cq_theory.specs.declared.presentation.Equation.{Equation};
 ghost use Rattle.cq_theory.specs.Tables.{AtRow, value_of};
 ghost use Rattle.cq_instance.specs.Terms.{IsTypeTermOf};
 ghost use Rattle.cq_query.specs.Answers.{IsTuple};
 ghost use Rattle.cq_eval.specs.Join.{IsJoin, test_passes_at, found_from, found_by};
 ghost use Rattle.cq_eval.specs.Index.{AreIndexes, IsCover, rows_of_value, listed_rows};
 ghost use Rattle.cq_eval.specs.Made.{answers_with};
-ghost use Rattle.cq_eval.specs.Testing.{IsTestAt};
+ghost use Rattle.cq_eval.specs.Testing.{IsTestAt, holds_at};
 ghost use Rattle.cq_eval.specs.Refused.{TellsOver};
 
 use crate::choice::Choice;
 use crate::index::TestIndex;
 use crate::refusal::EvalRefusal;
 use crate::rows::Rows;
-use crate::testing::passes_test;
+use crate::testing::holds;
 use cq_base::Seq;
 use cq_instance::Instance;
 use cq_theory::{Equation, TypeTerm};
@@ -24,13 +25,13 @@ use std::alloc::{AllocError, Global};
 /// The most answers for an entity.
 const MOST_ANSWERS: usize = 1_000_000;
 
-/// What the answers for an entity are searched by: the where equations of its block, when each is tested, and how many
-/// rows there are for each variable.
+/// What the answers for an entity are searched by: the where equations of its block, which of them are tested when so
+/// many variables are bound, and how many rows there are for each variable.
 pub(crate) struct Join<'a> {
     pub(crate) entity: u32,
     pub(crate) instance: &'a Instance,
     pub(crate) tests: &'a [Equation],
-    pub(crate) stages: Seq<usize>,
+    pub(crate) groups: Seq<Seq<usize>>,
     pub(crate) counts: Seq<u32>,
     pub(crate) indexes: Seq<Option<TestIndex>>,
 }
@@ -41,7 +42,7 @@ impl Drop for Join<'_> {
             entity: _,
             instance: _,
             tests: _,
-            stages: _,
+            groups: _,
             counts: _,
             indexes: _,
         } = self;
@@ -93,17 +94,42 @@ fn indexed<'b>(
 }
 
 impl Join<'_> {
+    /// The places of the where equations that are tested when so many variables are bound.
+    fn tested(&self, bound: usize) -> &[usize]
+        ensures { result.now ≡ slice_index_or self.now.groups bound [] }
+    {
+        match self.groups.as_slice().get(bound) {
+            Some(places) => places.as_slice(),
+            None => &[],
+        }
+    }
+
+    /// Whether the where equation at a place holds.
+    fn is_met(&self, alloc: Global, choice: &Choice, place: usize) -> Result<bool, AllocError>
+        requires join { IsJoin self.now.instance.now.schema self.now.instance.now.tables self.now.tests.now
+            self.now.groups self.now.counts }
+        requires choice { IsTuple choice.now self.now.counts }
+        requires place { place < length self.now.tests.now }
+        ensures { IfOk result (λ met. (e : Equation) → slice_get self.now.tests.now place ≡ Some e
+            → met ≡ holds_at self.now.instance.now.tables choice.now e) }
+    {
+        let test = &self.tests[place];
+        let met = holds(alloc, self.instance, choice, test)?;
+        Ok(met)
+    }
+
     /// Whether the where equations hold that are tested when so many variables are bound.
     fn passes(&self, alloc: Global, choice: &Choice, bound: usize) -> Result<bool, AllocError>
         requires join { IsJoin self.now.instance.now.schema self.now.instance.now.tables self.now.tests.now
-            self.now.stages self.now.counts }
+            self.now.groups self.now.counts }
         requires choice { IsTuple choice.now self.now.counts }
+        requires bound { bound ≤ length self.now.counts }
         ensures { IfOk result (λ passes. passes ≡ test_passes_at self.now.instance.now.tables self.now.tests.now
             self.now.counts bound choice.now) }
     {
-        for (place, test) in self.tests.iter().enumerate() {
-            let stage = self.stages.as_slice()[place];
-            if !passes_test(alloc, self.instance, choice, test, stage, bound)? {
+        let places = self.tested(bound);
+        for place in places {
+            if !self.is_met(alloc, choice, *place)? {
                 return Ok(false);
             }
         }
@@ -143,7 +169,7 @@ impl Join<'_> {
         fewest: Option<&'b [u32]>,
     ) -> Result<Option<&'b [u32]>, AllocError>
         requires join { IsJoin self.now.instance.now.schema self.now.instance.now.tables self.now.tests.now
-            self.now.stages self.now.counts }
+            self.now.groups self.now.counts }
         requires indexed { AreIndexes self.now.instance.now.tables self.now.counts self.now.tests.now self.now.indexes }
         requires choice { IsTuple choice.now self.now.counts }
         requires place { place < length self.now.tests.now }
@@ -183,16 +209,21 @@ impl Join<'_> {
         bound: usize,
     ) -> Result<Option<&[u32]>, AllocError>
         requires join { IsJoin self.now.instance.now.schema self.now.instance.now.tables self.now.tests.now
-            self.now.stages self.now.counts }
+            self.now.groups self.now.counts }
         requires indexed { AreIndexes self.now.instance.now.tables self.now.counts self.now.tests.now self.now.indexes }
         requires choice { IsTuple choice.now self.now.counts }
+        requires bound { bound < length self.now.counts }
         ensures { IfOk result (λ found. IfSome found
             (λ rows. IsCover self.now.instance.now.tables self.now.tests.now self.now.counts (take bound choice.now)
             (slice_index self.now.counts bound) rows.now)) }
     {
+        // A length fits, and so does the number behind one that is less.
+        let _width = self.counts.len();
+        // An equation that has an index for this variable is tested as soon as it is bound.
+        let places = self.tested(bound + 1);
         let mut fewest = None;
-        for place in 0..self.tests.len() {
-            fewest = self.fewer(alloc, choice, bound, place, fewest)?;
+        for place in places {
+            fewest = self.fewer(alloc, choice, bound, *place, fewest)?;
         }
         Ok(fewest)
     }
@@ -207,7 +238,7 @@ impl Join<'_> {
         found: &mut Vec<Rows>,
     ) -> Result<(), EvalRefusal>
         requires join { IsJoin self.now.instance.now.schema self.now.instance.now.tables self.now.tests.now
-            self.now.stages self.now.counts }
+            self.now.groups self.now.counts }
         requires indexed { AreIndexes self.now.instance.now.tables self.now.counts self.now.tests.now self.now.indexes }
         requires choice { IsTuple choice.old self.now.counts }
         requires bound { bound ≤ length self.now.counts }
@@ -247,7 +278,7 @@ impl Join<'_> {
         found: &mut Vec<Rows>,
     ) -> Result<(), EvalRefusal>
         requires join { IsJoin self.now.instance.now.schema self.now.instance.now.tables self.now.tests.now
-            self.now.stages self.now.counts }
+            self.now.groups self.now.counts }
         requires indexed { AreIndexes self.now.instance.now.tables self.now.counts self.now.tests.now self.now.indexes }
         requires choice { IsTuple choice.old self.now.counts }
         requires bound { bound < length self.now.counts }
@@ -283,7 +314,7 @@ impl Join<'_> {
         found: &mut Vec<Rows>,
     ) -> Result<(), EvalRefusal>
         requires join { IsJoin self.now.instance.now.schema self.now.instance.now.tables self.now.tests.now
-            self.now.stages self.now.counts }
+            self.now.groups self.now.counts }
         requires indexed { AreIndexes self.now.instance.now.tables self.now.counts self.now.tests.now self.now.indexes }
         requires choice { IsTuple choice.old self.now.counts }
         requires bound { bound < length self.now.counts }
@@ -311,7 +342,7 @@ impl Join<'_> {
     /// All answers, in lexicographic order.
     pub(crate) fn answers(&self, alloc: Global) -> Result<Vec<Rows>, EvalRefusal>
         requires join { IsJoin self.now.instance.now.schema self.now.instance.now.tables self.now.tests.now
-            self.now.stages self.now.counts }
+            self.now.groups self.now.counts }
         requires indexed { AreIndexes self.now.instance.now.tables self.now.counts self.now.tests.now self.now.indexes }
         requires rows { list_any (λ count. count == 0) self.now.counts ≡ false }
         ensures answers { IfOk result (λ found. found.items ≡ answers_with self.now.instance.now.tables

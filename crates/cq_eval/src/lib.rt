@@ -1,24 +1,31 @@
 //! Queries that are evaluated: the answers for an entity, and the instance of all answers.
 //!
 //! `answers` and `eval` search one variable at a time (`joining`), depth first, so that only whole answers are kept,
-//! each once. When a where equation is tested follows from the greatest variable in it (`reaches`). A where equation
-//! that joins a new variable to earlier ones gives lists of rows (`index`), by an attribute (a `CellIndex`) or by a
-//! path of keys (a `KeyIndex`). The index of an attribute's cells, or of one foreign key, is made once a run and kept
-//! for further equations and entities (`kept`). Answers are kept in a set with places (`table`), by which the columns
-//! of keys are filled (`keys`); `cells` has the columns of attributes, `evaluating` the tables and limits.
+//! each once. Variables are bound in an order that follows the where equations (`plan`, which claims nothing, and
+//! `order`, which tests it and numbers the equations by it); where it isn't their own, the answers are put back and
+//! sorted (`sorted`). When a where equation is tested follows from the greatest variable in it (`reaches`); those of
+//! one stage are listed together (`grouping`), so no binding goes over all. A where equation that joins a new variable
+//! to earlier ones gives lists of rows (`index`), by an attribute (a `CellIndex`) or by a path of keys (a `KeyIndex`).
+//! The index of an attribute's cells, or of one foreign key, is made once a run and kept for further equations and
+//! entities (`kept`). Answers are kept in a set with places (`table`), by which the columns of keys are filled
+//! (`keys`); `cells` has the columns of attributes, `evaluating` the tables and limits.
 #![tactic(auto)]
 
 pub mod answering;
 mod cells;
 mod choice;
 pub mod evaluating;
+mod grouping;
 mod index;
 mod joining;
 mod kept;
 mod keys;
+mod order;
+mod plan;
 mod reaches;
 pub mod refusal;
 mod rows;
+mod sorted;
 mod table;
 mod testing;
 

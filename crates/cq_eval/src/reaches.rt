@@ -1,8 +1,11 @@
-//! How many variables a where equation needs.
-ghost use Rattle.std.specs.Prelude.{◌≡◌, IfOk, map};
+//! How many variables a where equation needs, and so when it is tested.
+ghost use Rattle.std.specs.Prelude.{◌≡◌, ◌+◌, IfOk, map, length};
+ghost use Rattle.cq_theory.specs.Canonical.{below};
+ghost use Rattle.cq_theory.specs.Groups.{positions};
 ghost use Rattle.cq_eval.specs.Testing.{reach_of_entity as entity_reach, reach_of as type_reach};
 ghost use Rattle.cq_eval.specs.Testing.{reach as equation_reach, stage};
 
+use crate::grouping::grouped;
 use cq_base::Seq;
 use cq_theory::{EntTerm, Equation, TypeTerm};
 use std::alloc::{AllocError, Global};
@@ -43,16 +46,26 @@ fn reach(test: &Equation) -> usize
 }
 
 /// When each where equation is tested, if there are `width` variables: as soon as those that it needs are bound.
-pub(crate) fn stages(
-    alloc: Global,
-    tests: &[Equation],
-    width: usize,
-) -> Result<Seq<usize>, AllocError>
-    ensures { IfOk result (λ made. made ≡ map (stage width) tests.now) }
+fn stages(alloc: Global, tests: &[Equation], width: usize) -> Result<Vec<usize>, AllocError>
+    ensures { IfOk result (λ made. made.items ≡ map (stage width) tests.now) }
 {
     let mut made = Vec::with_capacity(alloc, tests.len())?;
     for test in tests {
         made.push(width.min(reach(test)))?;
     }
-    Ok(Seq::from_vec(made))
+    Ok(made)
+}
+
+/// The places of the where equations that are tested when so many of the variables with these counts are bound.
+pub(crate) fn by_stage(
+    alloc: Global,
+    tests: &[Equation],
+    counts: &[u32],
+) -> Result<Seq<Seq<usize>>, AllocError>
+    ensures { IfOk result (λ groups. groups ≡ map (positions (map (stage (length counts.now)) tests.now))
+        (below (length counts.now + 1))) }
+{
+    let width = counts.len();
+    let stages = stages(alloc, tests, width)?;
+    grouped(alloc, width + 1, stages.as_slice())
 }

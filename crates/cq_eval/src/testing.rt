@@ -1,5 +1,5 @@
 //! Tests of where equations.
-ghost use Rattle.std.specs.Prelude.{◌≡◌, ◌==◌, ◌||◌, not, IfOk};
+ghost use Rattle.std.specs.Prelude.{◌≡◌, IfOk};
 ghost use Rattle.cq_eval.specs.Testing.{holds_at, IsTestAt};
 
 use crate::choice::Choice;
@@ -31,24 +31,4 @@ pub(crate) fn holds(
             Ok(is_same_value(&left, &right))
         }
     }
-}
-
-/// Whether a where equation of this stage holds at these rows, of which so many are bound. One of another stage isn't
-/// tested.
-pub(crate) fn passes_test(
-    alloc: Global,
-    instance: &Instance,
-    choice: &Choice,
-    test: &Equation,
-    stage: usize,
-    bound: usize,
-) -> Result<bool, AllocError>
-    requires { IsTestAt instance.now.schema instance.now.tables choice.now test.now }
-    ensures { IfOk result (λ passes. passes ≡ (not (stage == bound)
-        || holds_at instance.now.tables choice.now test.now)) }
-{
-    if stage != bound {
-        return Ok(true);
-    }
-    holds(alloc, instance, choice, test)
 }

@@ -1,6 +1,6 @@
 -- From what each step of reading a question answers to the equation that is asked about.
-use Rattle.std.proofs.Common.{◌≡◌, ◌∙◌, ℕ, Bool, true, false, List, Option, Some, None, refl, sym, ap, subst}
-use Rattle.std.specs.Prelude.{is_some, IfOk, Result, Ok, Err}
+use Rattle.std.proofs.Common.{◌≡◌, ◌∙◌, ◌||◌, ℕ, Bool, true, false, not, List, Option, Some, None, refl, sym, ap, subst}
+use Rattle.std.specs.Prelude.{is_some, if◌then◌else◌, IfOk, Result, Ok, Err}
 use Rattle.cq_base.specs.declared.name.Name.{Name}
 use Rattle.cq_base.specs.declared.raw.Raw.{Raw}
 use Rattle.cq_theory.specs.declared.lookup.TermRefusal.{TermRefusal}
@@ -9,11 +9,14 @@ use Rattle.cq_theory.specs.declared.presentation.Presentation.{Presentation}
 use Rattle.cq_theory.specs.declared.presentation.Sort.{Sort}
 use Rattle.cq_theory.specs.declared.term.Term.{Term}
 use Rattle.cq_theory.specs.Parts.{equation_of}
-use Rattle.cq_theory.specs.Resolve.{equation_fault}
+use Rattle.cq_theory.specs.declared.lookup.TermRefusal.TheVariants.{Unknown, WrongCount, WrongSort, Reserved, TooLarge}
+use Rattle.cq_theory.specs.Resolve.{equation_fault, has_unknown, has_wrong_count, has_reserved, raw_sort, are_of_one_sort, is_too_large}
 use Rattle.cq_theory.specs.Resolved.{resolved}
 use Rattle.cq_theory.specs.SchemaData.{SchemaData as Schema}
 use Rattle.cq_theory.specs.Sorts.{Generators}
 use Rattle.cq_terms.specs.Generators.{names_of, sorts_of}
+use Rattle.cq_scope.specs.Firsts.{AreFirsts}
+use Rattle.cq_scope.proofs.Over.{has_unknown_over, raw_sort_over}
 use Rattle.cq_explain.specs.Question.{Asks, IsTextOfTerm, Makes}
 use Rattle.cq_explain.specs.declared.question.QuestionRefusal.{QuestionRefusal}
 
@@ -21,34 +24,41 @@ none_of : (o : Option TermRefusal) → is_some o ≡ false → o ≡ None
 none_of None h = refl
 none_of (Some r) h = cc
 
--- the same fault by tables that have the names and the sorts
-fault_over : (S : Schema) (G : Generators) (left right : Raw) (names : List Name) (sorts : List Sort) → names ≡ names_of G → sorts ≡ sorts_of G
+-- the same fault by the first generators of their names
+fault_over : (S : Schema) (G : Generators) (left right : Raw) (names : List Name) (sorts : List Sort) (numbers : List ℕ) → AreFirsts G names sorts numbers
     → equation_fault S (names_of G) (sorts_of G) (left, right) ≡ equation_fault S names sorts (left, right)
-fault_over S G left right names sorts names_are sorts_are =
-    ap (λ (ns : List Name). equation_fault S ns (sorts_of G) (left, right)) (sym names_are)
-    ∙ ap (λ (ss : List Sort). equation_fault S names ss (left, right)) (sym sorts_are)
+fault_over S G left right names sorts numbers firsts =
+    let unknown : has_unknown S (names_of G) ≡ has_unknown S names = sym (has_unknown_over S G names sorts numbers firsts) in
+    let sort : raw_sort S (names_of G) (sorts_of G) ≡ raw_sort S names sorts = sym (raw_sort_over S G names sorts numbers firsts) in
+    λ i. if unknown i left || unknown i right then Some Unknown
+    else (if has_wrong_count S left || has_wrong_count S right then Some WrongCount
+    else (if not (are_of_one_sort (sort i left) (sort i right)) then Some WrongSort
+    else (if has_reserved S left || has_reserved S right then Some Reserved
+    else (if is_too_large left || is_too_large right then Some TooLarge
+    else None))))
+
+-- the fault that was found, over the generators
+found_over : (S : Schema) (G : Generators) (left right : Raw) (names : List Name) (sorts sorts' : List Sort) (numbers : List ℕ) (broken : Bool) → AreFirsts G names sorts numbers → sorts' ≡ sorts
+    → broken ≡ is_some (equation_fault S names sorts' (left, right)) → is_some (equation_fault S (names_of G) (sorts_of G) (left, right)) ≡ broken
+found_over S G left right names sorts sorts' numbers broken firsts sorts_are is =
+    ap is_some (fault_over S G left right names sorts numbers firsts) ∙ ap (λ (ss : List Sort). is_some (equation_fault S names ss (left, right))) (sym sorts_are) ∙ sym is
 
 -- no equation is made of terms that break a rule
-pub broken_makes_none : (S : Schema) (G : Generators) (left right : Raw) (names : List Name) (sorts : List Sort) (broken : Bool) (e : Equation)
-    → names ≡ names_of G → sorts ≡ sorts_of G → broken ≡ is_some (equation_fault S names sorts (left, right)) → broken ≡ true
+pub broken_makes_none : (S : Schema) (G : Generators) (left right : Raw) (names : List Name) (sorts sorts' : List Sort) (numbers : List ℕ) (broken : Bool) (e : Equation)
+    → AreFirsts G names sorts numbers → sorts' ≡ sorts → broken ≡ is_some (equation_fault S names sorts' (left, right)) → broken ≡ true
     → Makes S G left right e → ⊥
-broken_makes_none S G left right names sorts broken e names_are sorts_are is true_is makes =
-    let some : is_some (equation_fault S (names_of G) (sorts_of G) (left, right)) ≡ true =
-    ap is_some (fault_over S G left right names sorts names_are sorts_are) ∙ sym is ∙ true_is in
-    let none = makes.faultless in
-    let bad : is_some (equation_fault S (names_of G) (sorts_of G) (left, right)) ≡ false = ap is_some none in
+broken_makes_none S G left right names sorts sorts' numbers broken e firsts sorts_are is true_is makes =
+    let some : is_some (equation_fault S (names_of G) (sorts_of G) (left, right)) ≡ true = found_over S G left right names sorts sorts' numbers broken firsts sorts_are is ∙ true_is in
+    let bad : is_some (equation_fault S (names_of G) (sorts_of G) (left, right)) ≡ false = ap is_some makes.faultless in
     absurd (cc (some, bad))
 
 -- the equation that was made
-pub makes_it : (S : Schema) (G : Generators) (left right : Raw) (names : List Name) (sorts : List Sort) (broken : Bool) (t u : Term) (e : Equation)
-    → names ≡ names_of G → sorts ≡ sorts_of G → broken ≡ is_some (equation_fault S names sorts (left, right)) → broken ≡ false
-    → t ≡ resolved S names sorts left → u ≡ resolved S names sorts right → e ≡ equation_of t u → Makes S G left right e
-makes_it S G left right names sorts broken t u e names_are sorts_are is false_is t_is u_is e_is = record {
-  faultless = fault_over S G left right names sorts names_are sorts_are ∙ none_of (equation_fault S names sorts (left, right)) (sym is ∙ false_is);
-  equation =
-      e_is ∙ ap (λ (s : Term). equation_of s u) t_is ∙ ap (λ (s : Term). equation_of (resolved S names sorts left) s) u_is
-      ∙ ap (λ (ns : List Name). equation_of (resolved S ns sorts left) (resolved S ns sorts right)) names_are
-      ∙ ap (λ (ss : List Sort). equation_of (resolved S (names_of G) ss left) (resolved S (names_of G) ss right)) sorts_are;
+pub makes_it : (S : Schema) (G : Generators) (left right : Raw) (names : List Name) (sorts sorts' : List Sort) (numbers : List ℕ) (broken : Bool) (t u : Term) (e : Equation)
+    → AreFirsts G names sorts numbers → sorts' ≡ sorts → broken ≡ is_some (equation_fault S names sorts' (left, right)) → broken ≡ false
+    → t ≡ resolved S (names_of G) (sorts_of G) left → u ≡ resolved S (names_of G) (sorts_of G) right → e ≡ equation_of t u → Makes S G left right e
+makes_it S G left right names sorts sorts' numbers broken t u e firsts sorts_are is false_is t_is u_is e_is = record {
+  faultless = none_of (equation_fault S (names_of G) (sorts_of G) (left, right)) (found_over S G left right names sorts sorts' numbers broken firsts sorts_are is ∙ false_is);
+  equation = e_is ∙ (λ i. equation_of (t_is i) (u_is i));
 }
 
 -- two terms make one equation

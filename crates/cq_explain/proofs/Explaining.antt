@@ -5,7 +5,6 @@ use Rattle.std.specs.declared.alloc.Global.{Global}
 use Rattle.std.specs.declared.vec.Vec.{Vec}
 use Rattle.cq_theory.specs.declared.presentation.Equation.{Equation}
 use Rattle.cq_theory.specs.declared.presentation.Presentation.{Presentation}
-use Rattle.cq_theory.specs.Presentation.{IsEquation}
 use Rattle.cq_theory.specs.SchemaData.{SchemaData as Schema}
 use Rattle.cq_instance.specs.InstanceData.{InstanceData}
 use Rattle.cq_proof.specs.Answers as answers
@@ -35,7 +34,7 @@ by_difference i e answer text is explains text_is =
     different said.1 text_is
 
 -- an equation that is asked about is one over the presentation
-pub asked_is : (S : Schema) (P : Presentation) (left right : List ℕ) (e : Equation) → Asks S P left right e → IsEquation S P e
+pub asked_is : (S : Schema) (P : Presentation) (left right : List ℕ) (e : Equation) → Asks S P left right e → answers.IsWellSorted S P e
 asked_is S P left right e asks = made_is S P asks.left_term asks.right_term e asks.makes
 
 -- the same over the schema and the presentation that were read

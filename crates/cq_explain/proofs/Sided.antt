@@ -1,5 +1,5 @@
 -- The equation that two faultless terms make is one over the presentation.
-use Rattle.std.proofs.Common.{ℕ, true, false, not, Option, Some, None, ◌≡◌, ◌≤◌, ◌||◌, refl, sym, ap, subst, ◌∙◌, arith}
+use Rattle.std.proofs.Common.{ℕ, true, not, Option, Some, None, ◌≡◌, ◌||◌, refl, sym, ap, ◌∙◌}
 use Rattle.std.specs.Prelude.{slice_get}
 use Rattle.std.proofs.lemmas.Option.{slice_get-map}
 use Rattle.std.proofs.lemmas.Bool.{eqb-true}
@@ -15,14 +15,13 @@ use Rattle.cq_theory.specs.declared.term.Term.{Term}
 use Rattle.cq_theory.specs.declared.term.Term.TheVariants.{Ent, Typ}
 use Rattle.cq_theory.specs.Sorts.{Generators, entity_of, type_of, sort_of}
 use Rattle.cq_theory.specs.Derivation.{left_of, right_of}
-use Rattle.cq_theory.specs.Presentation.{IsEquation, term_symbols}
-use Rattle.cq_theory.specs.Resolve.{raw_sort, raw_symbols, has_unknown, has_wrong_count, has_reserved, is_too_large, are_of_one_sort}
+use Rattle.cq_theory.specs.Resolve.{raw_sort, has_unknown, has_wrong_count, has_reserved, is_too_large, are_of_one_sort}
 use Rattle.cq_theory.specs.Resolved.{resolved}
 use Rattle.cq_theory.specs.Parts.{equation_of}
-use Rattle.cq_theory.proofs.Faults.{of_five, not_false, neither, at_most}
-use Rattle.cq_theory.proofs.RawSymbols.{resolved-no_longer}
+use Rattle.cq_theory.proofs.Faults.{of_five, not_false, neither}
 use Rattle.cq_theory.proofs.ResolvedSorts.{map_some, sort_of-resolved}
 use Rattle.cq_terms.specs.Generators.{names_of, sorts_of}
+use Rattle.cq_proof.specs.Answers.{IsWellSorted}
 use Rattle.cq_explain.specs.Question.{Makes}
 
 apart : (e t : ℕ) → Entity e ≡ Plain t → ⊥
@@ -56,13 +55,7 @@ module _ (S : Schema) (G : Generators) where
   abbrev side : Raw → Term
   side = resolved S (names_of G) (sorts_of G)
 
-  fits : (raw : Raw) → has_wrong_count S raw ≡ false → is_too_large raw ≡ false → term_symbols (side raw) ≤ 1024
-  fits raw counted short =
-      let a = resolved-no_longer S (names_of G) (sorts_of G) raw counted in
-      let b = at_most 1024 (raw_symbols raw) short in
-      omega arith
-
-pub made_is : (S : Schema) (P : Presentation) (left right : Raw) (e : Equation) → Makes S P.generators left right e → IsEquation S P e
+pub made_is : (S : Schema) (P : Presentation) (left right : Raw) (e : Equation) → Makes S P.generators left right e → IsWellSorted S P e
 made_is S P left right e makes =
     let G : Generators = P.generators in
     let names = names_of G in
@@ -70,9 +63,7 @@ made_is S P left right e makes =
     let rules = of_five (has_unknown S names left || has_unknown S names right) (has_wrong_count S left || has_wrong_count S right)
     (not (are_of_one_sort (raw_sort S names sorts left) (raw_sort S names sorts right))) (has_reserved S left || has_reserved S right) (is_too_large left || is_too_large right)
     term_refusal.Unknown term_refusal.WrongCount term_refusal.WrongSort term_refusal.Reserved term_refusal.TooLarge makes.faultless in
-    let counted = neither (has_wrong_count S left) (has_wrong_count S right) rules.1 in
     let free = neither (has_reserved S left) (has_reserved S right) rules.3 in
-    let short = neither (is_too_large left) (is_too_large right) rules.4 in
     let found = one_sort (raw_sort S names sorts left) (raw_sort S names sorts right) (not_false _ rules.2) in
     let first : sort_of S G (side S G left) ≡ Some found.0 = sort_of-resolved S G names sorts (agrees S G) left free.0 found.0 found.1 in
     let second : sort_of S G (side S G right) ≡ Some found.0 = sort_of-resolved S G names sorts (agrees S G) right free.1 found.0 found.2 in
@@ -83,6 +74,4 @@ made_is S P left right e makes =
       sort = found.0;
       left = ap (sort_of S G) left_is ∙ first;
       right = ap (sort_of S G) right_is ∙ second;
-      left_fits = subst (λ (t : Term). term_symbols t ≤ 1024) (sym left_is) (fits S G left counted.0 short.0);
-      right_fits = subst (λ (t : Term). term_symbols t ≤ 1024) (sym right_is) (fits S G right counted.1 short.1);
     }

@@ -1,8 +1,7 @@
 //! The text that explains whether an equation holds in an instance.
 ghost use Rattle.std.specs.Prelude.{◌≡◌, IfOk, MatchResult};
-ghost use Rattle.cq_theory.specs.Presentation.{IsEquation};
 ghost use Rattle.cq_theory.specs.declared.presentation.Equation.{Equation};
-ghost use Rattle.cq_proof.specs.Answers.{IsInitial};
+ghost use Rattle.cq_proof.specs.Answers.{IsInitial, IsWellSorted};
 ghost use Rattle.cq_explain.specs.Explained.{Explains, IsExplanation};
 ghost use Rattle.cq_explain.specs.Question.{Asks};
 ghost use Rattle.cq_explain.specs.declared.question.QuestionRefusal.{QuestionRefusal};
@@ -46,7 +45,7 @@ pub fn explanation(
 /// The text that explains whether an equation holds.
 fn explained(alloc: Global, instance: &Instance, equation: &Equation) -> Result<Vec<u8>, AllocError>
     requires initial { IsInitial instance.now }
-    requires equation { IsEquation instance.now.schema instance.now.presentation equation.now }
+    requires equation { IsWellSorted instance.now.schema instance.now.presentation equation.now }
     ensures { IfOk result (λ text. IsExplanation instance.now equation.now text.items) }
 {
     match explain(alloc, instance, equation)? {

@@ -3,9 +3,8 @@ ghost use Rattle.std.specs.Prelude.{◌≡◌, ◌++◌, codes, IfOk, OnOk};
 ghost use Rattle.std.specs.List.{flat_map};
 ghost use Rattle.cq_theory.specs.declared.term.Term.TheVariants.{Ent, Typ};
 ghost use Rattle.cq_theory.specs.Derivation.{left_of, right_of};
-ghost use Rattle.cq_theory.specs.Presentation.{IsEquation};
 ghost use Rattle.cq_theory.specs.Sorts.{IsGround};
-ghost use Rattle.cq_proof.specs.Answers.{IsInitial};
+ghost use Rattle.cq_proof.specs.Answers.{IsInitial, IsWellSorted};
 ghost use Rattle.cq_explain.specs.Explanation.{different_text, ent_text, equal_text, ordinal, premise_text, rule_text};
 ghost use Rattle.cq_explain.specs.Explanation.{shown_term, step_line, step_lines};
 
@@ -182,7 +181,7 @@ fn push_sides(
     text: &mut Vec<u8>,
 ) -> Result<(), AllocError>
     requires initial { IsInitial instance.now }
-    requires equation { IsEquation instance.now.schema instance.now.presentation equation.now }
+    requires equation { IsWellSorted instance.now.schema instance.now.presentation equation.now }
     ensures { OnOk result (text.new.items ≡ text.old.items ++ shown_term instance.now (left_of equation.now)
         ++ codes " " ++ shown_term instance.now (right_of equation.now)) }
 {
@@ -209,7 +208,7 @@ pub fn different_text(
     equation: &Equation,
 ) -> Result<Vec<u8>, AllocError>
     requires initial { IsInitial instance.now }
-    requires equation { IsEquation instance.now.schema instance.now.presentation equation.now }
+    requires equation { IsWellSorted instance.now.schema instance.now.presentation equation.now }
     ensures { IfOk result (λ text. text.items ≡ different_text instance.now equation.now) }
 {
     let mut text = Vec::from_slice(alloc, b"different ")?;

@@ -11,9 +11,9 @@ ghost use Rattle.cq_explain.specs.declared.question.QuestionRefusal.{QuestionRef
 use cq_base::{Name, Names, Raw};
 use cq_lex::{LexRefusal, Token, lex};
 use cq_parse::{ParseRefusal, parse_term};
-use cq_terms::{names_of, sorts_of};
+use cq_scope::{build_over, firsts_of};
 use cq_theory::lookup::{
-    build, has_reserved, has_unknown, has_wrong_count, have_one_sort, is_too_large, make_equation,
+    has_reserved, has_unknown, has_wrong_count, have_one_sort, is_too_large, make_equation,
     sort_of_raw,
 };
 use cq_theory::{Equation, Presentation, Schema, Sort};
@@ -96,7 +96,7 @@ fn term_in(alloc: Global, tokens: &[Token]) -> Result<Raw, QuestionRefusal>
     }
 }
 
-/// The equation that two terms make over generators.
+/// The equation that two terms make over generators. A name stands for the first generator that has it.
 fn equation_over(
     alloc: Global,
     schema: &Schema,
@@ -109,14 +109,13 @@ fn equation_over(
     ensures only { (equation : Equation) → Makes schema.now generators.now left.now right.now equation
         → MatchResult result (λ found. found ≡ equation) (λ refusal. refusal ≡ QuestionRefusal.Memory) }
 {
-    let names = names_of(alloc, generators)?;
-    let sorts = sorts_of(alloc, generators)?;
-    let sorts = sorts.as_slice();
-    if breaks_rule(schema, &names, sorts, left, right) {
+    let firsts = firsts_of(alloc, generators)?;
+    let sorts = firsts.scope.sorts.as_slice();
+    if breaks_rule(schema, &firsts.scope.names, sorts, left, right) {
         return Err(QuestionRefusal::BadTerm);
     }
-    let left = build(alloc, schema, &names, sorts, left)?;
-    let right = build(alloc, schema, &names, sorts, right)?;
+    let left = build_over(alloc, schema, &firsts, left)?;
+    let right = build_over(alloc, schema, &firsts, right)?;
     Ok(make_equation(left, right))
 }
 

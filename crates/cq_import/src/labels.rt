@@ -4,7 +4,7 @@ ghost use Rattle.cq_theory.specs.declared.presentation.Sort.TheVariants.{Plain};
 ghost use Rattle.cq_import.specs.Labels.{function_types, place_of_label, type_of_label, use_trouble, uses_in};
 ghost use Rattle.cq_import.specs.Labels.{uses_trouble, with_use, with_uses, value_term as term_of_value};
 
-use cq_base::Seq;
+use cq_base::{Hashing, Seq};
 use cq_theory::{Sort, TypeTerm, Typeside, Value};
 use indexmap::IndexMap;
 use std::alloc::{AllocError, Global};
@@ -21,7 +21,7 @@ pub enum Trouble {
 
 /// Labels with their types, in order of first appearance. Contracts see the list of the pairs.
 pub struct Labels {
-    types: IndexMap<u64, u32>,
+    types: IndexMap<u64, u32, Hashing>,
 }
 
 impl Model for Labels {
@@ -44,7 +44,7 @@ impl Labels {
         ensures { result ≡ [] }
     {
         Labels {
-            types: IndexMap::new(alloc),
+            types: IndexMap::with_hasher(alloc, Hashing::new()),
         }
     }
 

@@ -1,5 +1,5 @@
 -- Terms that spell the nulls of an instance.
-use Rattle.std.specs.Prelude.{ℕ, Bool, false, List, Some, ◌≡◌, ◌==◌, if◌then◌else◌, find, length, map, slice_get, slice_index_or}
+use Rattle.std.specs.Prelude.{ℕ, Bool, true, false, List, Some, ◌≡◌, ◌==◌, if◌then◌else◌, find, length, map, slice_get, slice_index_or}
 use Rattle.std.specs.Option.{unwrap_or}
 use Rattle.cq_theory.specs.declared.constant.Con.TheVariants.{Named}
 use Rattle.cq_theory.specs.declared.term.TypeTerm.{TypeTerm}
@@ -19,8 +19,7 @@ term_among terms label = slice_index_or terms label (Const (Named 0))
 -- each null has a term of its type that means it
 abbrev pub AreNullsSpelled : InstanceData → (ℕ → TypeTerm) → Type 0
 AreNullsSpelled j null_term = (label type : ℕ) → slice_get j.tables.algebra.nulls label ≡ Some type
-    → (type_of j.schema j.presentation.generators (null_term label) ≡ Some type)
-    × (value_of j.tables j.assignment (null_term label) ≡ Null label)
+    → (type_of j.schema j.presentation.generators (null_term label) ≡ Some type) × (value_of j.tables j.assignment (null_term label) ≡ Null label)
 
 abbrev pub is_null : ℕ → Value → Bool
 is_null label (Null n) = n == label

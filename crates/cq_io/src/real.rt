@@ -227,7 +227,19 @@ fn path_in(alloc: Global, dir: &str, name: &str) -> Result<String, AllocError>
 /// Makes the folders that the file needs, and writes it.
 fn write_file<R: Files>(rt: &R, path: &str, bytes: &[u8]) -> io::Result<()> {
     if let Some((folder, _)) = path.rsplit_once('/') {
-        fs::create_dir_all(rt, folder)?;
+        make_folder(rt, folder)?;
     }
     fs::write(rt, path, bytes)
+}
+
+/// Makes a folder and those above it, where they aren't there. It is tried again where a signal interrupts it, as
+/// opening, reading and writing are.
+fn make_folder<R: Files>(rt: &R, folder: &str) -> io::Result<()> {
+    for _ in 0..u64::MAX {
+        match fs::create_dir_all(rt, folder) {
+            Err(error) if error.kind() == ErrorKind::Interrupted => {}
+            answer => return answer,
+        }
+    }
+    Err(io::Error::from(ErrorKind::Interrupted))
 }

@@ -32,3 +32,4 @@ pub mod NamedLeaves
 pub mod AllNodes
 pub mod ModelMade
 pub mod BuildingRefusals
+pub mod CanonicalCloses

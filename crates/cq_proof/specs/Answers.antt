@@ -3,6 +3,8 @@ use Rattle.std.specs.Prelude.{List, [], ◌∷◌, Option, Some, None, ◌≡◌
 use Rattle.cq_theory.specs.SchemaData.{SchemaData as Schema}
 use Rattle.cq_theory.specs.declared.presentation.Presentation.{Presentation}
 use Rattle.cq_theory.specs.declared.presentation.Equation.{Equation}
+use Rattle.cq_theory.specs.declared.presentation.Sort.{Sort}
+use Rattle.cq_theory.specs.Sorts.{sort_of}
 use Rattle.cq_theory.specs.Derivation.{Derives, left_of, right_of}
 use Rattle.cq_theory.specs.Tables.{Initial, meaning_of}
 use Rattle.cq_instance.specs.InstanceData.{InstanceData}
@@ -14,6 +16,12 @@ use Rattle.cq_proof.specs.declared.answer.Answer.TheVariants.{Steps, Different}
 -- the instance is the model that its presentation presents
 abbrev pub IsInitial : InstanceData → Type 0
 IsInitial i = Initial i.schema i.presentation i.tables i.assignment
+
+-- both sides have one sort over the presentation's generators
+pub record IsWellSorted (S : Schema) (P : Presentation) (e : Equation) : Type 0 where
+  pub sort : Sort
+  pub left : sort_of S P.generators (left_of e) ≡ Some sort
+  pub right : sort_of S P.generators (right_of e) ≡ Some sort
 
 -- both sides have one row or one value in the instance
 abbrev pub AreOne : InstanceData → Equation → Type 0

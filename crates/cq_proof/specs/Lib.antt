@@ -2,3 +2,4 @@ pub mod Answers
 pub mod Drafts
 pub mod Counting
 pub mod Written
+pub mod Searching

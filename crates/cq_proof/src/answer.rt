@@ -1,7 +1,6 @@
 //! Why an equation holds in an instance, or that it doesn't.
 ghost use Rattle.std.specs.Prelude.{◌↔◌, IfOk, IsTrue};
-ghost use Rattle.cq_theory.specs.Presentation.{IsEquation};
-ghost use Rattle.cq_proof.specs.Answers.{IsInitial, AreOne, Proves, Explains};
+ghost use Rattle.cq_proof.specs.Answers.{IsInitial, IsWellSorted, AreOne, Proves, Explains};
 
 use crate::enumeration::{proves, sought_among_all};
 use cq_instance::Instance;
@@ -20,14 +19,15 @@ pub enum Answer {
 
 /// A derivation of the equation from the instance's presentation, exactly where both sides have one row or one value in
 /// the instance; `Different` exactly where not, and then the equation isn't derivable. The steps are a right list whose
-/// last equation is this one. The equation is one over the presentation. The only refusal is want of memory.
+/// last equation is this one. The equation is one over the presentation: its terms are in range, and of one sort. The
+/// only refusal is want of memory.
 pub fn explain(
     alloc: Global,
     instance: &Instance,
     equation: &Equation,
 ) -> Result<Answer, AllocError>
     requires initial { IsInitial instance.now }
-    requires equation { IsEquation instance.now.schema instance.now.presentation equation.now }
+    requires equation { IsWellSorted instance.now.schema instance.now.presentation equation.now }
     ensures { IfOk result (λ answer. Explains instance.now equation.now answer) }
 {
     if !are_one(alloc, instance, equation)? {
@@ -40,7 +40,7 @@ pub fn explain(
 
 /// Whether both sides have one row or one value in the instance.
 fn are_one(alloc: Global, instance: &Instance, equation: &Equation) -> Result<bool, AllocError>
-    requires { IsEquation instance.now.schema instance.now.presentation equation.now }
+    requires { IsWellSorted instance.now.schema instance.now.presentation equation.now }
     ensures { IfOk result (λ one. IsTrue one ↔ AreOne instance.now equation.now) }
 {
     match equation {
@@ -68,5 +68,8 @@ fn derivation(
             return Ok(steps);
         }
     }
-    sought_among_all(alloc, schema, presentation, equation)
+    match sought_among_all(alloc, schema, presentation, equation) {
+        Ok(steps) => Ok(steps),
+        Err(_) => Err(AllocError),
+    }
 }

@@ -1,8 +1,8 @@
 //! The search for a list of steps among all there are.
-ghost use Rattle.std.specs.Prelude.{ℕ, List, ◌≡◌, ◌↔◌, IsTrue, IfOk, IfSome, IfNone};
+ghost use Rattle.std.specs.Prelude.{◌≡◌, ◌↔◌, IsTrue, IfOk, IfErr, IfSome, IfNone};
 ghost use Rattle.cq_proof.specs.Answers.{last_of, Proves};
-ghost use Rattle.cq_proof.specs.Counting.{AreDigits};
 ghost use Rattle.cq_proof.specs.Drafts.{spelled as spelled_by};
+ghost use Rattle.cq_proof.specs.Searching.{AreFirst, AreSpelledBy, NoneIsOf, NoneIsShorter};
 
 use crate::counter::{next, zeros};
 use crate::draft::spelled;
@@ -44,6 +44,7 @@ fn tried(
 ) -> Result<Option<Vec<Step>>, AllocError>
     ensures proved { IfOk result (λ found. IfSome found (λ steps. Proves schema.now presentation.now steps.items
         equation.now)) }
+    ensures spelled { IfOk result (λ found. IfSome found (λ steps. spelled_by numbers.now ≡ steps.items)) }
     ensures none { IfOk result (λ found. IfNone found (Proves schema.now presentation.now (spelled_by numbers.now)
         equation.now → ⊥)) }
 {
@@ -66,8 +67,9 @@ pub(crate) fn sought_among(
 ) -> Result<Option<Vec<Step>>, AllocError>
     ensures proved { IfOk result (λ found. IfSome found (λ steps. Proves schema.now presentation.now steps.items
         equation.now)) }
-    ensures none { IfOk result (λ found. IfNone found ((numbers : List ℕ) → AreDigits count numbers
-        → Proves schema.now presentation.now (spelled_by numbers) equation.now → ⊥)) }
+    ensures spelled { IfOk result (λ found. IfSome found (λ steps. AreSpelledBy schema.now presentation.now
+        equation.now count steps.items)) }
+    ensures none { IfOk result (λ found. IfNone found (NoneIsOf schema.now presentation.now equation.now count)) }
 {
     let mut digits = zeros(alloc, count)?;
     loop {
@@ -82,22 +84,25 @@ pub(crate) fn sought_among(
     }
 }
 
-/// A list of steps that proves the equation, by the lists of ever more numbers. It goes on until there is one or memory
-/// runs out, and passes over none. There are 2 ^ 64 lists of one number, so it shows that a list is found, and isn't
-/// meant to be waited for.
+/// A list of steps that proves the equation, by the lists of ever more numbers, from none on: none that fewer numbers
+/// spell proves it. Else the count of numbers at which memory ran out; no list that fewer spell proves the equation.
+/// There are 2 ^ 64 lists of one number, so it shows that a list is found, and isn't meant to be waited for.
 pub(crate) fn sought_among_all(
     alloc: Global,
     schema: &Schema,
     presentation: &Presentation,
     equation: &Equation,
-) -> Result<Vec<Step>, AllocError>
-    ensures { IfOk result (λ steps. Proves schema.now presentation.now steps.items equation.now) }
+) -> Result<Vec<Step>, usize>
+    ensures first { IfOk result (λ steps. AreFirst schema.now presentation.now equation.now steps.items) }
+    ensures none { IfErr result (NoneIsShorter schema.now presentation.now equation.now) }
 {
     for count in 0..usize::MAX {
-        if let Some(steps) = sought_among(alloc, schema, presentation, equation, count)? {
-            return Ok(steps);
+        match sought_among(alloc, schema, presentation, equation, count) {
+            Ok(Some(steps)) => return Ok(steps),
+            Ok(None) => {}
+            Err(_) => return Err(count),
         }
     }
     // No list of more numbers has room in memory.
-    Err(AllocError)
+    Err(usize::MAX)
 }

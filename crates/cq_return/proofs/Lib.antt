@@ -36,3 +36,5 @@ pub mod Declared
 pub mod Whole
 pub mod Sides
 pub mod LiteralReturned
+pub mod AcceptedAgain
+pub mod ListedCells

@@ -98,7 +98,7 @@ module _ (S : Schema) (M : Tables) (schema : IsSchema S) (well : IsWellFormed S 
   front0 : Every Plain0 ((cells0 ++ gens0) ++ eqs0) × Every Plain0 obs0
   front0 = Every-parts Plain0 ((cells0 ++ gens0) ++ eqs0) obs0 every_plain0
 
-  plain_cells : Every (HasPlain S M schema well) cells
+  pub plain_cells : Every (HasPlain S M schema well) cells
   plain_cells = alike_every M A B IsPlain cells0 cells (cells_alike S M schema well P A lists)
       (Every-parts Plain0 cells0 gens0 (Every-parts Plain0 (cells0 ++ gens0) eqs0 front0.0).0).0
 

@@ -112,7 +112,7 @@ module _ (S : Schema) (M : Tables) (schema : IsSchema S) (well : IsWellFormed S 
 
   -- Equations.
   module _ (plain : Every (HasPlain S M schema well) (flat_map (cell_nodes S (canonical S M) (map (row_names S M) (below (length S.entities)))) (below (length S.entities)))) where
-    cell_plain : (e row a : ℕ) (edge : Edge) → e < length S.entities → row < count_of M e → slice_get S.attributes a ≡ Some edge → edge.from ≡ e → HasPlain S M schema well (term.Att a (row_term S M e row))
+    pub cell_plain : (e row a : ℕ) (edge : Edge) → e < length S.entities → row < count_of M e → slice_get S.attributes a ≡ Some edge → edge.from ≡ e → HasPlain S M schema well (term.Att a (row_term S M e row))
     cell_plain e row a edge within inside at from =
         let f : EntTerm → List TypeTerm = λ t. map (λ (x : ℕ × Edge). term.Att x.0 t) (edges_from e S.attributes) in
         let e_is : 0 + e ≡ e = omega arith in

@@ -2,3 +2,4 @@ pub mod Return
 pub mod WrittenTerms
 pub mod Literals
 pub mod Writable
+pub mod Accepted

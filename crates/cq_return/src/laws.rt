@@ -1,6 +1,6 @@
 //! Laws of what an instance gives and is read back: its files, its literal, its tables. Each is the contract of a
 //! function that does nothing.
-ghost use Rattle.std.specs.Prelude.{List, ◌≡◌, ℕ, [], None, Result, false, All, IfErr, IfOk, codes, map};
+ghost use Rattle.std.specs.Prelude.{List, ◌≡◌, ◌≤◌, ℕ, [], None, Result, false, All, IfErr, IfOk, codes, map, sum};
 ghost use Rattle.std.specs.List.{flat_map};
 ghost use Rattle.cq_base.specs.declared.name.Name.{Name};
 ghost use Rattle.cq_base.specs.Names.{same_name};
@@ -12,13 +12,17 @@ ghost use Rattle.cq_theory.specs.Schema.{IsSchema};
 ghost use Rattle.cq_theory.specs.Tables.{Initial, Assignment, Tables};
 ghost use Rattle.cq_theory.specs.Parts.{presentation_fault, presented};
 ghost use Rattle.cq_theory.specs.Listed.{Lists};
-ghost use Rattle.cq_theory.specs.Presentation.{IsPresentation};
 ghost use Rattle.cq_theory.specs.SchemaData.{SchemaData as Schema};
+ghost use Rattle.cq_instance.specs.Given.{size_of};
 ghost use Rattle.cq_instance.specs.InstanceData.{InstanceData, IsInstance};
+ghost use Rattle.cq_instance.specs.Listed.{IsListed};
+ghost use Rattle.cq_instance.specs.declared.transform.Transform.{Transform};
 ghost use Rattle.cq_import.specs.declared.refusal.CsvRefusal.{CsvRefusal};
 ghost use Rattle.cq_import.specs.Entries.{IsImport2, fault2_of, imported2};
 ghost use Rattle.cq_csv.specs.Files.{files_of};
 ghost use Rattle.cq_text.specs.Literal.{literal_of};
+ghost use Rattle.cq_transform.specs.OneToOne.{AreOneToOne};
+ghost use Rattle.cq_return.specs.Accepted.{IsAccepted};
 ghost use Rattle.cq_return.specs.Return.{HoldsFiles, IsNoFault, IsReturnable};
 ghost use Rattle.cq_return.specs.Literals.{Declares, IsDeclaration, equation_part, group_parts};
 ghost use Rattle.cq_return.specs.Writable.{IsWritable};
@@ -89,12 +93,41 @@ pub fn literal_returns()
         (map equation_part declares.literal.equations)) i.tables (canonical_assignment i.schema i.tables) }
 {}
 
+/// The literal of an instance of at most 200,000 rows is accepted again, at each depth from 1 on: the presentation that
+/// its declaration gives closes at each, is wide at none and makes no two constants equal. Between the instance and the
+/// one that is then made of it there are transforms both ways, each of which undoes the other.
+pub fn literal_is_accepted()
+    ensures accepted { (i : InstanceData) (name schema : Name) → IsInstance i → IsWritable i
+        → sum i.tables.sheet.counts ≤ 200000
+        → (d : Decl) → (declares : Declares i.schema (canonical i.schema i.tables) name schema d)
+        → IsAccepted i.schema (presented i.schema (flat_map group_parts declares.literal.generators)
+        (map equation_part declares.literal.equations)) }
+    ensures same { (i j : InstanceData) (name schema : Name) → IsInstance i → IsWritable i
+        → Initial i.schema i.presentation i.tables i.assignment
+        → (d : Decl) → (declares : Declares i.schema (canonical i.schema i.tables) name schema d)
+        → j.schema ≡ i.schema → j.presentation ≡ presented i.schema
+        (flat_map group_parts declares.literal.generators) (map equation_part declares.literal.equations)
+        → IsListed j → (f : Transform) × (g : Transform) × AreOneToOne i j f g }
+{}
+
+/// So are the files of an instance, by `import2`.
+pub fn files_are_accepted()
+    ensures accepted { (i : InstanceData) (path name : Name) (files : List File) → IsInstance i → IsReturnable i
+        → HoldsFiles files path name i → sum i.tables.sheet.counts ≤ 200000
+        → IsAccepted i.schema (imported2 files (path_of path name) i.schema) }
+    ensures same { (i j : InstanceData) (path name : Name) (files : List File) → IsInstance i → IsReturnable i
+        → HoldsFiles files path name i → Initial i.schema i.presentation i.tables i.assignment
+        → j.schema ≡ i.schema → j.presentation ≡ imported2 files (path_of path name) i.schema
+        → IsListed j → (f : Transform) × (g : Transform) × AreOneToOne i j f g }
+{}
+
 /// The tables of a listed model, as `build` makes them, are the listed model of their canonical presentation too, with
 /// each row and each null as what its generator stands for. So whatever is built of this presentation has the very
-/// same tables: the same rows, nulls and entries, in the same order.
+/// same tables: the same rows, nulls and entries, in the same order. That there are at most 16,000,000 rows and nulls
+/// together is asked for by the limit on generators.
 pub fn tables_return()
     ensures lists { (S : Schema) (P : Presentation) (M : Tables) (A : Assignment) → IsSchema S → Lists S P M A
         → Lists S (canonical S M) M (canonical_assignment S M) }
-    ensures same { (S : Schema) (P : Presentation) (M N : Tables) (A B : Assignment) → IsSchema S → Lists S P M A
-        → IsPresentation S (canonical S M) → Lists S (canonical S M) N B → N ≡ M }
+    ensures same { (i : InstanceData) (N : Tables) (B : Assignment) → IsInstance i → IsSchema i.schema → IsListed i
+        → size_of i.tables ≤ 16000000 → Lists i.schema (canonical i.schema i.tables) N B → N ≡ i.tables }
 {}

@@ -19,3 +19,6 @@ pub mod SortedValues
 pub mod Composed
 pub mod Composites
 pub mod Placed
+pub mod BothWays
+pub mod Overs
+pub mod Checked

@@ -1,16 +1,16 @@
 -- Images that break no rule are of the sorts of their generators.
-use Rattle.std.proofs.Common.{ℕ, zero, suc, Bool, true, false, not, List, [], ◌∷◌, Option, Some, None, ◌≡◌, ◌<◌, ◌||◌, map, length, get_or, refl, sym, ap, subst, ◌∙◌}
+use Rattle.std.proofs.Common.{ℕ, zero, suc, Bool, true, false, not, List, [], ◌∷◌, ◌++◌, Option, Some, None, ◌≡◌, ◌<◌, ◌||◌, ◌&&◌, map, length, get_or, refl, sym, ap, subst, ◌∙◌, append_assoc}
 use Rattle.std.specs.Prelude.{slice_get, is_none, is_some, cond, option_map, option_and_then, position, All}
 use Rattle.std.specs.List.{IsDistinct, AllByRecursion}
 use Rattle.std.specs.Cmp.Lexicographic.{nat_list_eq_equiv, same_text}
 use Rattle.std.proofs.lemmas.Bool.{eqb-true}
-use Rattle.std.proofs.lemmas.List.{length-map}
+use Rattle.std.proofs.lemmas.List.{append-nil, length-map}
 use Rattle.std.proofs.lemmas.List.Quantifiers.{position-Some}
 use Rattle.std.proofs.lemmas.Option.{slice_get-get_or, slice_get-map}
 use Rattle.cq_base.specs.declared.name.Name.{Name}
 use Rattle.cq_base.specs.declared.raw.Raw.{Raw}
 use Rattle.cq_base.specs.Names.{same_name, number_of, AreDistinct}
-use Rattle.cq_base.proofs.Numbers.{position-cons, number_of-within}
+use Rattle.cq_base.proofs.Numbers.{position-cons, AreDistinct-more}
 use Rattle.cq_theory.specs.declared.lookup.TermRefusal.{TermRefusal}
 use Rattle.cq_theory.specs.declared.lookup.TermRefusal.TheVariants.{Unknown, WrongCount, WrongSort, Reserved, TooLarge}
 use Rattle.cq_theory.specs.declared.lookup.TheoryRefusal.{TheoryRefusal}
@@ -32,8 +32,8 @@ use Rattle.cq_instance.specs.declared.transform.Image.{Image}
 use Rattle.cq_instance.proofs.Lists.{get-map, get-map_from}
 use Rattle.cq_transform.specs.declared.refusal.TransformRefusal.{TransformRefusal}
 use Rattle.cq_transform.specs.declared.refusal.TransformRefusal.TheVariants.{Missing}
-use Rattle.cq_transform.specs.declared.scope.Scope.{Scope}
-use Rattle.cq_transform.specs.Images.{of_transform, names_of, sorts_of, scope_of, sort_in, image_rule, image_fault, parts_fault, given, first_missing, image_of, image_in, image_named, fault_over, made_over, images_fault, images_made}
+use Rattle.cq_scope.specs.declared.names.Scope.{Scope}
+use Rattle.cq_transform.specs.Images.{of_transform, names_of, sorts_of, scope_of, sort_in, image_rule, image_fault, parts_fault, given, first_missing, has_image, image_of, image_in, image_named, fault_over, made_over, images_fault, images_made}
 use Rattle.cq_transform.specs.Transforms.{term_of}
 use Rattle.cq_transform.specs.Transforming.{AreSorted}
 
@@ -82,16 +82,44 @@ some_when : (o : Option ℕ) → is_some o ≡ true → (n : ℕ) × (o ≡ Some
 some_when None h = cc
 some_when (Some n) h = (n, refl)
 
--- each wanted name is given
-given_each : (names wanted : List Name) → first_missing names wanted ≡ None → (k : ℕ) (name : Name) → slice_get wanted k ≡ Some name → (m : ℕ) × (number_of names name ≡ Some m)
-given_each names [] h k name at = cc
-given_each names (x ∷ xs) h k name at = at_test (is_among names x) refl k at h (λ rest m there. given_each names xs rest m name there)
-  where
-    at_test : (b : Bool) → is_among names x ≡ b → (k : ℕ) → slice_get (x ∷ xs) k ≡ Some name → cond b (first_missing names xs) (Some (Missing x)) ≡ None
-        → (first_missing names xs ≡ None → (m : ℕ) → slice_get xs m ≡ Some name → (n : ℕ) × (number_of names name ≡ Some n)) → (n : ℕ) × (number_of names name ≡ Some n)
-    at_test true e zero there none next = let same : x ≡ name = cc in some_when (number_of names name) (ap (is_among names) (sym same) ∙ e)
-    at_test true e (suc m) there none next = next none m there
-    at_test false e k there none next = cc
+-- where each generator has an image, its name is given, and stands for no earlier one
+module _ (names : List Name) where
+  passes : (a b : Bool) → (a && not b) ≡ true → (a ≡ true) × (b ≡ false)
+  passes true false h = (refl, refl)
+  passes true true h = cc
+  passes false b h = cc
+
+  -- the first one has one, and so have the others
+  first_passes : (earlier : List Name) (x : Name) (xs : List Name) → first_missing names earlier (x ∷ xs) ≡ None
+      → (is_among names x ≡ true) × (is_among earlier x ≡ false) × (first_missing names (earlier ++ x ∷ []) xs ≡ None)
+  first_passes earlier x xs h = at_test (has_image names earlier x) refl h
+    where
+      at_test : (b : Bool) → has_image names earlier x ≡ b → cond b (first_missing names (earlier ++ x ∷ []) xs) (Some (Missing x)) ≡ None
+          → (is_among names x ≡ true) × (is_among earlier x ≡ false) × (first_missing names (earlier ++ x ∷ []) xs ≡ None)
+      at_test true e rest = let both = passes (is_among names x) (is_among earlier x) e in (both.0, both.1, rest)
+      at_test false e rest = cc
+
+  given_each : (earlier wanted : List Name) → first_missing names earlier wanted ≡ None → (k : ℕ) (name : Name) → slice_get wanted k ≡ Some name → (m : ℕ) × (number_of names name ≡ Some m)
+  given_each earlier [] h k name at = cc
+  given_each earlier (x ∷ xs) h zero name at =
+      let same : x ≡ name = cc in
+      some_when (number_of names name) (ap (is_among names) (sym same) ∙ (first_passes earlier x xs h).0)
+  given_each earlier (x ∷ xs) h (suc k) name at = given_each (earlier ++ x ∷ []) xs (first_passes earlier x xs h).2 k name at
+
+  none_when : (o : Option ℕ) → is_some o ≡ false → o ≡ None
+  none_when None h = refl
+  none_when (Some n) h = cc
+
+  distinct_after : (earlier wanted : List Name) → first_missing names earlier wanted ≡ None → AreDistinct earlier → AreDistinct (earlier ++ wanted)
+  distinct_after earlier [] h distinct = subst AreDistinct (sym (append-nil earlier)) distinct
+  distinct_after earlier (x ∷ xs) h distinct =
+      let first = first_passes earlier x xs h in
+      subst AreDistinct (append_assoc earlier (x ∷ []) xs)
+      (distinct_after (earlier ++ x ∷ []) xs first.2 (AreDistinct-more earlier x distinct (none_when (number_of earlier x) first.1)))
+
+  no_names : AreDistinct []
+  unfolding IsDistinct
+  no_names = tt
 
 image_term : (t : Term) → term_of (image_of t) ≡ t
 image_term (Ent t) = refl
@@ -117,9 +145,12 @@ module _ (S : Schema) (G H : Generators) where
       let one = one_sort (raw_sort S to.names to.sorts part.1) (sort_in from part.0) (not_false _ rules.2) in
       (one.0, one.2, sort_of-resolved S H to.names to.sorts agrees part.1 rules.3 one.0 one.1)
 
-  module _ (parts : List (Name × Raw)) (distinct : AreDistinct (names_of G)) (none : fault_over S G H parts ≡ None) where
-    both_none : (option_map of_transform (parts_fault S from to parts) ≡ None) × (first_missing (given parts) (names_of G) ≡ None)
-    both_none = or_else_none (option_map of_transform (parts_fault S from to parts)) (first_missing (given parts) (names_of G)) none
+  module _ (parts : List (Name × Raw)) (none : fault_over S G H parts ≡ None) where
+    both_none : (option_map of_transform (parts_fault S from to parts) ≡ None) × (first_missing (given parts) [] (names_of G) ≡ None)
+    both_none = or_else_none (option_map of_transform (parts_fault S from to parts)) (first_missing (given parts) [] (names_of G)) none
+
+    distinct : AreDistinct (names_of G)
+    distinct = distinct_after (given parts) [] (names_of G) both_none.1 (no_names (given parts))
 
     part_right : (k : ℕ) (part : Name × Raw) → slice_get parts k ≡ Some part → image_rule S from to part ≡ None
     part_right k part at =
@@ -132,7 +163,7 @@ module _ (S : Schema) (G H : Generators) where
         → sort_of S H (term_of image) ≡ Some g.1
     made_sorted n g image at here =
         let named : slice_get (names_of G) n ≡ Some g.0 = get-map (λ (x : Name × Sort). x.0) G n g at in
-        let number = given_each (given parts) (names_of G) both_none.1 n g.0 named in
+        let number = given_each (given parts) [] (names_of G) both_none.1 n g.0 named in
         let found = get-map_from (λ (p : Name × Raw). p.0) parts number.0 g.0 (found_name (given parts) g.0 number.0 number.1) in
         let kept = rules_kept found.0 (part_right number.0 found.0 found.1) in
         let place : number_of (names_of G) g.0 ≡ Some n = number_of-at (names_of G) n g.0 distinct named in
@@ -149,10 +180,10 @@ module _ (S : Schema) (G H : Generators) where
     made_count = length-map (names_of G) (image_named S to (given parts) parts) ∙ length-map G (λ (g : Name × Sort). g.0)
 
 -- so for the images that parts give to the generators of one instance over another one
-pub images_sorted : (i j : InstanceData) (parts : List (Name × Raw)) (images : List Image) → j.schema ≡ i.schema → AreDistinct (names_of i.presentation.generators)
+pub images_sorted : (i j : InstanceData) (parts : List (Name × Raw)) (images : List Image) → j.schema ≡ i.schema
     → images_fault i j parts ≡ None → images ≡ images_made i j parts → AreSorted i j images
-images_sorted i j parts images same distinct none made = subst (AreSorted i j) (sym made) (record {
-  count = made_count i.schema i.presentation.generators j.presentation.generators parts distinct none;
+images_sorted i j parts images same none made = subst (AreSorted i j) (sym made) (record {
+  count = made_count i.schema i.presentation.generators j.presentation.generators parts none;
   sorts = λ n g image at here. ap (λ (T : Schema). sort_of T j.presentation.generators (term_of image)) same
-      ∙ made_sorted i.schema i.presentation.generators j.presentation.generators parts distinct none n g image at here;
+      ∙ made_sorted i.schema i.presentation.generators j.presentation.generators parts none n g image at here;
 })

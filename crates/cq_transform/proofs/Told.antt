@@ -1,5 +1,5 @@
 -- What the refusals of a transform tell.
-use Rattle.std.proofs.Common.{ℕ, List, [], ◌∷◌, Option, Some, None, Bool, true, false, ◌≡◌, ◌⊎◌, inl, inr, cond, length, refl, sym, ap, subst, ◌∙◌}
+use Rattle.std.proofs.Common.{ℕ, List, [], ◌∷◌, ◌++◌, Option, Some, None, Bool, true, false, ◌≡◌, ◌⊎◌, inl, inr, cond, length, refl, sym, ap, subst, ◌∙◌}
 use Rattle.std.specs.Prelude.{slice_get, option_map}
 use Rattle.std.proofs.lemmas.Option.{slice_get_within}
 use Rattle.cq_base.specs.declared.name.Name.{Name}
@@ -10,13 +10,12 @@ use Rattle.cq_theory.specs.declared.presentation.Equation.{Equation}
 use Rattle.cq_theory.specs.SchemaData.{SchemaData as Schema}
 use Rattle.cq_theory.specs.Sorts.{Generators}
 use Rattle.cq_theory.specs.Resolve.{or_else}
-use Rattle.cq_theory.specs.Paths.{is_among}
 use Rattle.cq_theory.specs.Tables.{Assignment}
 use Rattle.cq_instance.specs.InstanceData.{InstanceData}
 use Rattle.cq_instance.specs.declared.transform.Image.{Image}
 use Rattle.cq_transform.specs.declared.refusal.TransformRefusal.{TransformRefusal}
 use Rattle.cq_transform.specs.declared.refusal.TransformRefusal.TheVariants.{Duplicate, Unknown, WrongCount, WrongSort, Reserved, TooLarge, Missing, Broken, Memory}
-use Rattle.cq_transform.specs.Images.{of_transform, names_of, scope_of, parts_fault, given, first_missing, fault_over, images_fault, images_made}
+use Rattle.cq_transform.specs.Images.{of_transform, names_of, scope_of, parts_fault, given, first_missing, has_image, fault_over, images_fault, images_made}
 use Rattle.cq_transform.specs.Refusals.{IsEqual, IsFirstUnequal, AreEqualBefore, TellsUnequal}
 use Rattle.cq_transform.specs.Transforming.{AreKept, Tells}
 use Rattle.cq_transform.specs.Transforms.{meanings_in}
@@ -32,11 +31,11 @@ no_part (Some (theory_refusal.Reserved m)) n h = cc
 no_part (Some (theory_refusal.TooLarge m)) n h = cc
 no_part (Some theory_refusal.Memory) n h = cc
 
-none_missing : (names wanted : List Name) (n : ℕ) → first_missing names wanted ≡ Some (Broken n) → ⊥
-none_missing names [] n h = cc
-none_missing names (x ∷ xs) n h = at_test (is_among names x) h (none_missing names xs n)
+none_missing : (names earlier wanted : List Name) (n : ℕ) → first_missing names earlier wanted ≡ Some (Broken n) → ⊥
+none_missing names earlier [] n h = cc
+none_missing names earlier (x ∷ xs) n h = at_test (has_image names earlier x) h (none_missing names (earlier ++ x ∷ []) xs n)
   where
-    at_test : (b : Bool) → cond b (first_missing names xs) (Some (Missing x)) ≡ Some (Broken n) → (first_missing names xs ≡ Some (Broken n) → ⊥) → ⊥
+    at_test : (b : Bool) → cond b (first_missing names (earlier ++ x ∷ []) xs) (Some (Missing x)) ≡ Some (Broken n) → (first_missing names (earlier ++ x ∷ []) xs ≡ Some (Broken n) → ⊥) → ⊥
     at_test true e rest = rest e
     at_test false e rest = cc
 
@@ -54,7 +53,7 @@ module _ (i j : InstanceData) (parts : List (Name × Raw)) where
   tells (TooLarge n) h = h
   tells (Missing name) h = h
   tells (Broken n) h = absurd (no_broken (parts_fault i.schema (scope_of i.presentation.generators) (scope_of j.presentation.generators) parts)
-      (first_missing (given parts) (names_of i.presentation.generators)) n (none_missing (given parts) (names_of i.presentation.generators) n) h)
+      (first_missing (given parts) [] (names_of i.presentation.generators)) n (none_missing (given parts) [] (names_of i.presentation.generators) n) h)
   tells Memory h = tt
 
   -- the first fault of the images, over lists that are those of the instances

@@ -1,6 +1,6 @@
 -- The first fault of the images that are given to generators, and the images that they give.
-use Rattle.std.specs.Prelude.{ℕ, not, List, [], ◌∷◌, ◌||◌, if◌then◌else◌, map, slice_get, Option, Some, None, is_none, option_map}
-use Rattle.std.specs.Prelude.{option_and_then}
+use Rattle.std.specs.Prelude.{ℕ, Bool, not, List, [], ◌∷◌, ◌++◌, ◌||◌, ◌&&◌, if◌then◌else◌, map, slice_get}
+use Rattle.std.specs.Prelude.{Option, Some, None, is_none, option_map, option_and_then}
 use Rattle.cq_base.specs.declared.name.Name.{Name}
 use Rattle.cq_base.specs.declared.raw.Raw.{Raw}
 use Rattle.cq_base.specs.Names.{number_of}
@@ -24,7 +24,7 @@ use Rattle.cq_instance.specs.declared.transform.Image.TheVariants.{Row, Value}
 use Rattle.cq_transform.specs.declared.refusal.TransformRefusal.{TransformRefusal}
 use Rattle.cq_transform.specs.declared.refusal.TransformRefusal.TheVariants.{Duplicate, Unknown, WrongCount, WrongSort, Reserved, TooLarge}
 use Rattle.cq_transform.specs.declared.refusal.TransformRefusal.TheVariants.{Missing, Memory}
-use Rattle.cq_transform.specs.declared.scope.Scope.{Scope}
+use Rattle.cq_scope.specs.declared.names.Scope.{Scope}
 
 -- the same refusal, of a transform
 abbrev pub of_transform : TheoryRefusal → TransformRefusal
@@ -72,10 +72,15 @@ module _ (S : Schema) (from to : Scope) where
 abbrev pub given : List (Name × Raw) → List Name
 given parts = map (λ part. part.0) parts
 
--- the first of the wanted names that isn't given
-abbrev pub first_missing : List Name → List Name → Option TransformRefusal
-first_missing given [] = None
-first_missing given (name ∷ names) = if is_among given name then first_missing given names else Some (Missing name)
+-- a generator with this name after earlier ones has an image: its name is given, and stands for no earlier one
+abbrev pub has_image : List Name → List Name → Name → Bool
+has_image given earlier name = is_among given name && not (is_among earlier name)
+
+-- the first generator without an image, of those with these names after earlier ones
+abbrev pub first_missing : List Name → List Name → List Name → Option TransformRefusal
+first_missing given earlier [] = None
+first_missing given earlier (name ∷ names) =
+    if has_image given earlier name then first_missing given (earlier ++ name ∷ []) names else Some (Missing name)
 
 abbrev pub image_of : Term → Image
 image_of (Ent t) = Row t
@@ -94,7 +99,8 @@ module _ (S : Schema) (to : Scope) where
 module _ (S : Schema) (G H : Generators) (parts : List (Name × Raw)) where
   -- the first image that breaks a rule, with the least rule that it breaks, and then the first generator without an image
   abbrev pub fault_over : Option TransformRefusal
-  fault_over = or_else (option_map of_transform (parts_fault S (scope_of G) (scope_of H) parts)) (first_missing (given parts) (names_of G))
+  fault_over =
+      or_else (option_map of_transform (parts_fault S (scope_of G) (scope_of H) parts)) (first_missing (given parts) [] (names_of G))
 
   -- the image of each generator
   abbrev pub made_over : List Image

@@ -8,3 +8,4 @@ pub mod Nulls
 pub mod Transforming
 pub mod Composing
 pub mod Sent
+pub mod OneToOne

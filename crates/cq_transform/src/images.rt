@@ -1,21 +1,23 @@
 //! The images of generators, by parts that name them.
 ghost use Rattle.std.specs.Prelude.{◌≡◌, ◌≤◌, ◌-◌, ◌<◌, ◌^◌, ◌⊎◌, ◌||◌, ◌++◌, ◌∷◌, [], IfOk, IfErr, Some, None};
-ghost use Rattle.std.specs.Prelude.{is_none, length, map, option_map, option_copied};
-ghost use Rattle.cq_base.specs.Names.{AreDistinct};
-ghost use Rattle.cq_theory.specs.Resolve.{or_else, has_unknown as is_unknown_in};
+ghost use Rattle.std.specs.Prelude.{true, false, is_none, length, map, option_copied};
+ghost use Rattle.cq_scope.specs.Firsts.{AreFirstsOf};
+ghost use Rattle.cq_theory.specs.Resolve.{has_unknown as is_unknown_in};
 ghost use Rattle.cq_theory.specs.Resolved.{resolved};
-ghost use Rattle.cq_transform.specs.Images.{of_transform as transform_refusal, image_rule as rule_of_image};
+ghost use Rattle.cq_theory.specs.Sorts.{Generators};
+ghost use Rattle.cq_transform.specs.Images.{image_rule as rule_of_image};
 ghost use Rattle.cq_transform.specs.Images.{late_rule as rule_of_sorted, image_fault, parts_fault, given as given_by};
-ghost use Rattle.cq_transform.specs.Images.{first_missing, image_of as image_of_term, image_in as image_by};
-ghost use Rattle.cq_transform.specs.Images.{image_named, names_of, scope_of, fault_over, made_over};
+ghost use Rattle.cq_transform.specs.Images.{first_missing, has_image, image_of as image_of_term, image_in as image_by};
+ghost use Rattle.cq_transform.specs.Images.{image_named, names_of, sorts_of, scope_of, fault_over, made_over};
 
 use crate::refusal::{TransformRefusal, of_transform};
-use crate::scope::{Scope, make_scope, sort_of};
+use crate::scope::sort_of;
 use cq_base::{Name, Names, Raw, Seq};
 use cq_instance::Image;
+use cq_scope::{Firsts, Scope, build_over, firsts_of};
 use cq_theory::lookup::{
-    build, declare, has_reserved, has_unknown, has_wrong_count, have_one_sort, in_part_of,
-    is_too_large, sort_of_raw,
+    declare, has_reserved, has_unknown, has_wrong_count, have_one_sort, in_part_of, is_too_large,
+    sort_of_raw,
 };
 use cq_theory::{EntTerm, Schema, Sort, Term, TermRefusal, TheoryRefusal};
 use std::alloc::{AllocError, Global};
@@ -112,16 +114,41 @@ fn missing(name: &Name) -> TransformRefusal
     }
 }
 
-/// Whether each generator has an image. Otherwise the first one that hasn't.
-fn check_given(given: &Names, generators: &[(Name, Sort)]) -> Result<(), TransformRefusal>
-    ensures accepted { IfOk result (λ _. first_missing given.now (names_of generators.now) ≡ None) }
+/// Adds the name of a generator to those of earlier ones, where it has an image: its name is given, and a name stands
+/// for the first generator that has it.
+fn add_given(given: &Names, earlier: &mut Names, name: &Name) -> Result<(), TransformRefusal>
+    requires { length earlier.old < 2 ^ 32 - 1 }
+    ensures accepted { IfOk result (λ _. (has_image given.now earlier.old name.now ≡ true)
+        × (earlier.new ≡ earlier.old ++ name.now ∷ [])) }
     ensures refused { IfErr result (λ refusal. (refusal ≡ TransformRefusal.Memory)
-        ⊎ (first_missing given.now (names_of generators.now) ≡ Some refusal)) }
+        ⊎ ((has_image given.now earlier.old name.now ≡ false) × (refusal ≡ TransformRefusal.Missing name.now))) }
 {
+    if given.find(name).is_none() {
+        return Err(missing(name));
+    }
+    if earlier.find(name).is_some() {
+        return Err(missing(name));
+    }
+    match earlier.add(name.clone()?) {
+        Ok(_) => Ok(()),
+        Err(_) => Err(TransformRefusal::Memory),
+    }
+}
+
+/// Whether each generator has an image. Otherwise the first one that hasn't.
+fn check_given(
+    alloc: Global,
+    given: &Names,
+    generators: &[(Name, Sort)],
+) -> Result<(), TransformRefusal>
+    requires { length generators.now ≤ 16000000 }
+    ensures accepted { IfOk result (λ _. first_missing given.now [] (names_of generators.now) ≡ None) }
+    ensures refused { IfErr result (λ refusal. (refusal ≡ TransformRefusal.Memory)
+        ⊎ (first_missing given.now [] (names_of generators.now) ≡ Some refusal)) }
+{
+    let mut earlier = Names::new(alloc);
     for generator in generators {
-        if given.find(&generator.0).is_none() {
-            return Err(missing(&generator.0));
-        }
+        add_given(given, &mut earlier, &generator.0)?;
     }
     Ok(())
 }
@@ -137,10 +164,11 @@ fn image_of(term: Term) -> Image
 }
 
 /// The image that a raw term gives.
-fn image_from(alloc: Global, schema: &Schema, to: &Scope, raw: &Raw) -> Result<Image, AllocError>
-    ensures { IfOk result (λ made. made ≡ image_of_term (resolved schema.now to.now.names to.now.sorts raw.now)) }
+fn image_from(alloc: Global, schema: &Schema, to: &Firsts, raw: &Raw) -> Result<Image, AllocError>
+    ensures { (H : Generators) → AreFirstsOf H to.now
+        → IfOk result (λ made. made ≡ image_of_term (resolved schema.now (names_of H) (sorts_of H) raw.now)) }
 {
-    let term = build(alloc, schema, &to.names, to.sorts.as_slice(), raw)?;
+    let term = build_over(alloc, schema, to, raw)?;
     Ok(image_of(term))
 }
 
@@ -148,10 +176,11 @@ fn image_from(alloc: Global, schema: &Schema, to: &Scope, raw: &Raw) -> Result<I
 fn image_in(
     alloc: Global,
     schema: &Schema,
-    to: &Scope,
+    to: &Firsts,
     part: Option<&(Name, Raw)>,
 ) -> Result<Image, AllocError>
-    ensures { IfOk result (λ made. made ≡ image_by schema.now to.now (option_copied part.entry)) }
+    ensures { (H : Generators) → AreFirstsOf H to.now
+        → IfOk result (λ made. made ≡ image_by schema.now (scope_of H) (option_copied part.entry)) }
 {
     match part {
         Some(part) => image_from(alloc, schema, to, &part.1),
@@ -166,12 +195,13 @@ fn image_in(
 fn make_image(
     alloc: Global,
     schema: &Schema,
-    to: &Scope,
+    to: &Firsts,
     given: &Names,
     parts: &[(Name, Raw)],
     name: &Name,
 ) -> Result<Image, AllocError>
-    ensures { IfOk result (λ made. made ≡ image_named schema.now to.now given.now parts.now name.now) }
+    ensures { (H : Generators) → AreFirstsOf H to.now
+        → IfOk result (λ made. made ≡ image_named schema.now (scope_of H) given.now parts.now name.now) }
 {
     match given.find(name) {
         Some(place) => image_in(alloc, schema, to, parts.get(place as usize)),
@@ -183,13 +213,13 @@ fn make_image(
 fn make_images(
     alloc: Global,
     schema: &Schema,
-    to: &Scope,
+    to: &Firsts,
     given: &Names,
     parts: &[(Name, Raw)],
     generators: &[(Name, Sort)],
 ) -> Result<Vec<Image>, AllocError>
-    ensures { IfOk result (λ made. made.items
-        ≡ map (image_named schema.now to.now given.now parts.now) (names_of generators.now)) }
+    ensures { (H : Generators) → AreFirstsOf H to.now → IfOk result (λ made. made.items
+        ≡ map (image_named schema.now (scope_of H) given.now parts.now) (names_of generators.now)) }
 {
     let mut images = Vec::new(alloc);
     for generator in generators {
@@ -202,32 +232,33 @@ fn make_images(
 fn images_over(
     alloc: Global,
     schema: &Schema,
-    from: &Scope,
-    to: &Scope,
+    from: &Firsts,
+    to: &Firsts,
     generators: &[(Name, Sort)],
     parts: &[(Name, Raw)],
 ) -> Result<Vec<Image>, TransformRefusal>
+    requires few { length generators.now ≤ 16000000 }
     requires parts { length parts.now < 2 ^ 32 }
-    requires from { from.now ≡ scope_of generators.now }
-    ensures accepted { IfOk result (λ _. or_else (option_map transform_refusal (parts_fault schema.now from.now to.now
-        parts.now)) (first_missing (given_by parts.now) (names_of generators.now)) ≡ None) }
-    ensures made { IfOk result (λ made. made.items
-        ≡ map (image_named schema.now to.now (given_by parts.now) parts.now) (names_of generators.now)) }
-    ensures refused { IfErr result (λ refusal. (refusal ≡ TransformRefusal.Memory)
-        ⊎ (or_else (option_map transform_refusal (parts_fault schema.now from.now to.now parts.now)) (first_missing
-        (given_by parts.now) (names_of generators.now)) ≡ Some refusal)) }
+    requires from { AreFirstsOf generators.now from.now }
+    ensures accepted { (H : Generators) → AreFirstsOf H to.now
+        → IfOk result (λ _. fault_over schema.now generators.now H parts.now ≡ None) }
+    ensures made { (H : Generators) → AreFirstsOf H to.now
+        → IfOk result (λ made. made.items ≡ made_over schema.now generators.now H parts.now) }
+    ensures refused { (H : Generators) → AreFirstsOf H to.now
+        → IfErr result (λ refusal. (refusal ≡ TransformRefusal.Memory)
+        ⊎ (fault_over schema.now generators.now H parts.now ≡ Some refusal)) }
 {
-    let given = match add_images(alloc, schema, from, to, parts) {
+    let given = match add_images(alloc, schema, &from.scope, &to.scope, parts) {
         Ok(given) => given,
         Err(refusal) => return Err(of_transform(refusal)),
     };
-    check_given(&given, generators)?;
+    check_given(alloc, &given, generators)?;
     let images = make_images(alloc, schema, to, &given, parts, generators)?;
     Ok(images)
 }
 
-/// The images that the parts give to the generators of one presentation over those of another. There are none where
-/// two generators of one presentation have the same name.
+/// The images that the parts give to the generators of one presentation over those of another. Of generators with one
+/// name, the name stands for the first, so that there are none where two of the former have one.
 pub(crate) fn images(
     alloc: Global,
     schema: &Schema,
@@ -238,13 +269,12 @@ pub(crate) fn images(
     requires few { length generators.now ≤ 16000000 }
     requires few_others { length others.now ≤ 16000000 }
     requires parts { length parts.now < 2 ^ 32 }
-    ensures distinct { IfOk result (λ _. AreDistinct (names_of generators.now)) }
     ensures accepted { IfOk result (λ _. fault_over schema.now generators.now others.now parts.now ≡ None) }
     ensures made { IfOk result (λ made. made.items ≡ made_over schema.now generators.now others.now parts.now) }
     ensures refused { IfErr result (λ refusal. (refusal ≡ TransformRefusal.Memory)
         ⊎ (fault_over schema.now generators.now others.now parts.now ≡ Some refusal)) }
 {
-    let from = make_scope(alloc, generators)?;
-    let to = make_scope(alloc, others)?;
+    let from = firsts_of(alloc, generators)?;
+    let to = firsts_of(alloc, others)?;
     images_over(alloc, schema, &from, &to, generators, parts)
 }

@@ -1,7 +1,7 @@
 //! Transforms between instances.
 //!
-//! `transform` looks up the generators of both instances by name (`scope`), tests the images in their order and makes
-//! them (`images`), reads what each means in the target (`meant`), and tests the source's equations one by one
+//! `transform` looks up the generators of both instances by name (`cq_scope`), tests the images in their order and
+//! makes them (`images`), reads what each means in the target (`meant`), and tests the source's equations one by one
 //! (`equations`). Rows then go where their names lead (`rows`), in one walk over the rows. The values of nulls are
 //! found from the generators that stand for them, from the cells that hold them, and from the entries whose arguments
 //! have values (`nulls`, `entries`). `compose` puts the second transform's images in place of the generators

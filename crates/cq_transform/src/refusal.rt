@@ -7,8 +7,9 @@ use cq_theory::TheoryRefusal;
 use std::alloc::AllocError;
 
 /// Why there is no transform by given images: a rule of `ArrowRefusal`, broken by the image with this number, from 0;
-/// the first generator that has no image; or the number, from 1, of the first equation that isn't kept. `Memory` is
-/// also answered where two generators of one instance have the same name.
+/// the first generator that has no image; or the number, from 1, of the first equation that isn't kept. Generators are
+/// told apart by their numbers, and a name stands for the first generator that has it: of the source, one with the name
+/// of an earlier one has no image.
 #[derive(Drop)]
 pub enum TransformRefusal {
     Duplicate(u32),

@@ -1,7 +1,5 @@
-use Rattle.std.proofs.Common.{None, ◌≡◌, sym, subst, ◌∙◌}
-use Rattle.cq_base.specs.Names.{AreDistinct}
-use Rattle.cq_theory.specs.Sorts.{Generators}
-use Rattle.cq_transform.specs.Images.{names_of, fault_over, made_over, images_fault, images_made}
+use Rattle.std.proofs.Common.{None, ◌≡◌, sym, ◌∙◌}
+use Rattle.cq_transform.specs.Images.{fault_over, made_over, images_fault, images_made}
 use Rattle.cq_transform.proofs.SortedImages.{images_sorted}
 use Rattle.cq_transform.proofs.Told.{tells_fault}
 use Rattle.cq_transform.proofs.transforming.sorted_images.Goals as goal
@@ -24,8 +22,7 @@ returns-in-Ok-clause-sorted c =
     let made : c.in-Ok.images.items ≡ images_made c.args.source.now c.args.target.now c.args.parts.now =
     c.in-Ok.ensures.made
     ∙ (λ k. made_over (c.schema_of-schema.ensures k) (c.generators_of-generators.ensures.generators k) (c.generators_of-others.ensures.generators k) c.args.parts.now) in
-    images_sorted c.args.source.now c.args.target.now c.args.parts.now c.in-Ok.images.items c.requires.schema
-    (subst (λ (G : Generators). AreDistinct (names_of G)) c.generators_of-generators.ensures.generators c.in-Ok.ensures.distinct) none made
+    images_sorted c.args.source.now c.args.target.now c.args.parts.now c.in-Ok.images.items c.requires.schema none made
 
 pub returns-in-Err-clause-refused : goal.returns-in-Err-clause-refused
 returns-in-Err-clause-refused c =

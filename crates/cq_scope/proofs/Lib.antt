@@ -1,0 +1,3 @@
+mod Places
+mod Added
+pub mod Over
