@@ -4,7 +4,7 @@ use cq_io::{DirExporter, DirFolder, Exporter, Folder, Format, Sink, StdSink};
 use cq_run::run;
 use std::alloc::Global;
 
-const FILES: [&str; 23] = [
+const FILES: [&str; 24] = [
     "examples/first-run.cql",
     "examples/orders.cql",
     "examples/departments.cql",
@@ -17,6 +17,7 @@ const FILES: [&str; 23] = [
     "examples/moves.cql",
     "examples/questions.cql",
     "examples/composed.cql",
+    "examples/moved.cql",
     "examples/exercises/chief.cql",
     "examples/exercises/merged.cql",
     "examples/exercises/streets.cql",

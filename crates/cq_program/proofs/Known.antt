@@ -1,5 +1,5 @@
 -- What is known of a declared name: its instance is built, and is what the declaration makes of its operand.
-use Rattle.std.proofs.Common.{◌≡◌, Bool, true, false, Option, Some, None, inl, inr, refl, sym, ap, ◌∙◌, subst}
+use Rattle.std.proofs.Common.{◌≡◌, Bool, true, false, Some, None, inl, inr, refl, sym, ap, ◌∙◌, subst}
 use Rattle.std.specs.Prelude.{if◌then◌else◌, not, Ok, Err}
 use Rattle.cq_base.specs.declared.name.Name.{Name}
 use Rattle.cq_base.specs.declared.place.Place.{Place}
@@ -9,20 +9,18 @@ use Rattle.cq_syntax.specs.declared.program.Decl.{Decl}
 use Rattle.cq_syntax.specs.declared.program.Body.{Body}
 use Rattle.cq_syntax.specs.declared.program.Body.TheVariants.{Typeside, Schema, Colimit, Instance, Mapping, Query, Transform as Transformed}
 use Rattle.cq_syntax.specs.declared.program.InstanceExp.TheVariants as instance_exp
-use Rattle.cq_theory.specs.SchemaData.{SchemaData}
 use Rattle.cq_mapping.specs.Images.{sigma}
 use Rattle.cq_query.specs.Coeval.{coeval_of}
-use Rattle.cq_stating.specs.declared.moved.Moved.{Moved}
 use Rattle.cq_stating.specs.declared.moved.Operation.TheVariants as operation
 use Rattle.cq_stating.specs.declared.reason.Reason.{Reason}
 use Rattle.cq_stating.specs.Moves.{moved_by, moved_of}
 use Rattle.cq_stating.specs.Meanings.{Checked, Environment, InstanceMeant, MappingMeant, Meant, QueryMeant, and_then, binding}
 use Rattle.cq_stating.specs.Meanings.{typeside, schema, colimit, mapping, query, instance, transform, instance_used, mapping_used, query_used}
 use Rattle.cq_stating.specs.Routes.{by_sigma, by_delta, by_eval, by_coeval}
-use Rattle.cq_stating.specs.Checks.{Posed, Stated, at_once, body_stated, stated_by}
+use Rattle.cq_stating.specs.Checks.{Posed, Stated, at_once, body_stated}
 use Rattle.cq_stating.specs.Checks.{a_typeside, a_schema, a_mapping, an_identity, a_colimit, an_inclusion, a_query, a_composite, a_mapping_query, a_presentation, a_made, a_delta, an_eval, a_transform, a_move}
 use Rattle.cq_stating.specs.Checks.{delta_between, delta_posed, sigma_between, sigma_posed, eval_between, eval_posed, coeval_between, coeval_posed}
-use Rattle.cq_stating.specs.Environment.{AreSettled, IsBuiltAs, IsKnown, IsMovedAs, IsPrinted}
+use Rattle.cq_stating.specs.Environment.{AreSettled, IsBuiltAs, IsKnown, IsMovedAs}
 use Rattle.cq_stating.specs.Folders.{Told, Reads}
 use Rattle.cq_stating.proofs.Known.{after, one_ok}
 use Rattle.cq_stating.proofs.Poses.{fresh, stated_on}

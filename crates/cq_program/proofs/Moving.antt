@@ -1,5 +1,5 @@
 -- What the calls that move transforms ask, and what they answer.
-use Rattle.std.proofs.Common.{◌≡◌, true, false, ℕ, List, ◌⊎◌, inl, inr, refl, sym, ap, subst, ◌∙◌}
+use Rattle.std.proofs.Common.{◌≡◌, true, false, List, ◌⊎◌, inl, inr, refl, sym, ap, subst}
 use Rattle.std.specs.Prelude.{Result, Ok, Err, IfOk, IfErr}
 use Rattle.cq_theory.specs.declared.lookup.SizeRefusal.{SizeRefusal}
 use Rattle.cq_theory.specs.declared.lookup.SizeRefusal.TheVariants.{TooLarge, Memory}

@@ -5,7 +5,6 @@ ghost use Rattle.cq_stating.specs.Environment.{IsModelled, ends_meant, meant, mo
 ghost use Rattle.cq_stating.specs.Environment.{transform_meant};
 ghost use Rattle.cq_stating.specs.Meanings.{transform as meant_transform};
 ghost use Rattle.cq_stating.specs.Posing.{IsMovement, IsMoving, IsMovingAlong, IsMovingAround, carried};
-ghost use Rattle.cq_transform.specs.Transforms.{GoesFrom};
 ghost use Rattle.cq_program.specs.Carrying.{carried_as};
 ghost use Rattle.cq_program.specs.Judging.{Withholds};
 ghost use Rattle.cq_program.specs.Movements.{AreAround, AreImages, AreMoved, HasImages, TellsLong};

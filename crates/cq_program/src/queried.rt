@@ -1,5 +1,5 @@
 //! Transforms along queries, and the units and counits of coeval and eval.
-ghost use Rattle.std.specs.Prelude.{◌≡◌, IfOk, IfErr, OnOk, map};
+ghost use Rattle.std.specs.Prelude.{◌≡◌, IfOk, IfErr, map};
 ghost use Rattle.cq_adjoint.specs.Copies.{AreAllAnswers};
 ghost use Rattle.cq_stating.specs.Posing.{IsMovingAlong, IsMovingAround};
 ghost use Rattle.cq_stating.specs.Routes.{by_eval, by_coeval};

@@ -2,12 +2,10 @@
 use Rattle.std.proofs.Common.{◌≡◌, Bool, true, false, refl, sym, ap, ◌∙◌, subst}
 use Rattle.std.specs.Prelude.{if◌then◌else◌, not, Ok, Err}
 use Rattle.cq_base.specs.declared.name.Name.{Name}
-use Rattle.cq_base.specs.declared.place.Place.{Place}
 use Rattle.cq_base.specs.Names.{same_name}
 use Rattle.cq_instance.specs.InstanceData.{InstanceData}
 use Rattle.cq_syntax.specs.declared.part.Spot.{Spot}
 use Rattle.cq_stating.specs.declared.moved.Operation.{Operation}
-use Rattle.cq_stating.specs.declared.reason.Reason.{Reason}
 use Rattle.cq_stating.specs.declared.reason.Reason.TheVariants.{WrongOperand, WrongSchema}
 use Rattle.cq_stating.specs.declared.reason.ProgramRefusal.{ProgramRefusal}
 use Rattle.cq_stating.specs.Meanings.{Checked, Ends, Environment, InstanceMeant, TransformMeant, and_then, instance_used, transform_used}

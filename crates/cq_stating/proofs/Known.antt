@@ -1,5 +1,5 @@
 -- What is known of declared names: what their instances are made of, and where routes lead.
-use Rattle.std.proofs.Common.{◌≡◌, ℕ, Bool, true, false, List, [], ◌∷◌, ◌&&◌, Option, Some, None, refl, sym, ap, ◌∙◌, subst}
+use Rattle.std.proofs.Common.{◌≡◌, Bool, true, false, [], ◌∷◌, ◌&&◌, Option, Some, None, refl, sym, ap, ◌∙◌, subst}
 use Rattle.std.specs.Prelude.{if◌then◌else◌, option_and_then, All, Ok, Err}
 use Rattle.std.specs.Cmp.Lexicographic.{same_text}
 use Rattle.std.proofs.lemmas.List.Elements.{All-head, All-tail}
@@ -8,19 +8,18 @@ use Rattle.cq_base.specs.declared.place.Place.{Place}
 use Rattle.cq_base.specs.Names.{same_name}
 use Rattle.cq_syntax.specs.declared.part.Spot.{Spot}
 use Rattle.cq_instance.specs.InstanceData.{InstanceData}
-use Rattle.cq_transform.specs.Transforms.{GoesFrom}
 use Rattle.cq_stating.specs.declared.moved.Moved.{Moved}
 use Rattle.cq_stating.specs.declared.moved.Operation.{Operation}
 use Rattle.cq_stating.specs.declared.moved.Operation.TheVariants as operation
 use Rattle.cq_stating.specs.Moves.{back, is_left, moved_by, same_operation}
-use Rattle.cq_stating.specs.Meanings.{Binding, Checked, Ends, Environment, InstanceMeant, MappingMeant, Meant, QueryMeant, TransformMeant}
+use Rattle.cq_stating.specs.Meanings.{Checked, Ends, Environment, InstanceMeant, MappingMeant, Meant, QueryMeant, TransformMeant}
 use Rattle.cq_stating.specs.Meanings.{and_then, colimit, instance, mapping, meant_by, moved_under, query, schema, transform, typeside}
 use Rattle.cq_stating.specs.Meanings.{instance_used, mapping_used, query_used, transform_used}
 use Rattle.cq_stating.specs.Routes.{IsAround, IsMovedAlong, IsSound, Route, by_coeval, by_delta, by_eval, by_sigma, route_of}
 use Rattle.cq_stating.specs.Movements.{between_used, ends_used, instance_between, instance_by, instance_named, is_declared, is_named}
 use Rattle.cq_stating.specs.Movements.{middle_named, operand_in, operand_of, or_wrong_operand, route_used, two_ends}
-use Rattle.cq_stating.specs.Environment.{AreEnds, AreSettled, IsBuiltAs, IsKnown, IsMovedAs, IsMovedBy, IsSettled}
-use Rattle.cq_stating.specs.Posing.{Carried, carried, IsMovingAlong, IsMovingAround, IsWhole}
+use Rattle.cq_stating.specs.Environment.{AreEnds, AreSettled, IsBuiltAs, IsKnown, IsMovedAs, IsMovedBy}
+use Rattle.cq_stating.specs.Posing.{carried, IsMovingAlong, IsMovingAround, IsWhole}
 use Rattle.cq_stating.proofs.Settled.{instance_meant_by, mapping_meant_by, mapping_settled, meant_settled, query_meant_by, query_settled, transform_settled}
 
 -- what a name stands for, and by what it is moved, are known together

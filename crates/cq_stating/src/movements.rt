@@ -2,12 +2,11 @@
 ghost use Rattle.std.specs.Prelude.{◌≡◌, true, false, IfOk, option_map};
 ghost use Rattle.cq_base.specs.declared.name.Name.{Name as TheName};
 ghost use Rattle.cq_stating.specs.Checks.{move_posed};
-ghost use Rattle.cq_stating.specs.Environment.{Answers, AreSettled, ends_meant, environment_of, named_route_meant};
-ghost use Rattle.cq_stating.specs.Environment.{move_meant};
+ghost use Rattle.cq_stating.specs.Environment.{Answers, AreEnds, AreSettled, ends_meant, environment_of, move_meant};
+ghost use Rattle.cq_stating.specs.Environment.{named_route_meant};
 ghost use Rattle.cq_stating.specs.Moves.{is_left};
 ghost use Rattle.cq_stating.specs.Movements as check;
 ghost use Rattle.cq_stating.specs.Posing.{IsGrounded, IsMoving, IsPosed, posed_as};
-ghost use Rattle.cq_stating.specs.Environment.{AreEnds};
 
 use crate::environment::{Environment, Meaning, NamedEnds, NamedTransform};
 use crate::moved::Operation;

@@ -1,8 +1,5 @@
-use Rattle.std.proofs.Common.{◌≡◌, ◌∷◌, ◌++◌, [], false, Option, subst, sym, ◌∙◌}
-use Rattle.std.specs.Prelude.{is_some}
-use Rattle.cq_base.specs.declared.name.Name.{Name}
-use Rattle.cq_stating.specs.declared.moved.Moved.{Moved}
-use Rattle.cq_stating.specs.Meanings.{Binding, Environment, binding}
+use Rattle.std.proofs.Common.{◌≡◌, ◌∷◌, ◌++◌, [], subst, sym, ◌∙◌}
+use Rattle.cq_stating.specs.Meanings.{Environment, binding}
 use Rattle.cq_stating.specs.Environment.{AreSettled, environment_of, meant}
 use Rattle.cq_stating.proofs.Poses.{fresh}
 use Rattle.cq_stating.proofs.Settled.{AreSettled-more}

@@ -1,4 +1,4 @@
-use Rattle.std.proofs.Common.{ℕ, List, ◌≡◌, map, refl, subst, sym}
+use Rattle.std.proofs.Common.{map, refl}
 use Rattle.cq_adjoint.specs.Copies.{AreAllAnswers}
 use Rattle.cq_adjoint.specs.QueryMoves.{eval_images}
 use Rattle.cq_stating.specs.Routes.{by_eval}

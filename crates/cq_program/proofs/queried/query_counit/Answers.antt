@@ -1,4 +1,4 @@
-use Rattle.std.proofs.Common.{ℕ, List, ◌≡◌, ap, map, sym, ◌∙◌}
+use Rattle.std.proofs.Common.{◌≡◌, ap, map}
 use Rattle.cq_adjoint.specs.AnswerNames.{from_eval_images}
 use Rattle.cq_adjoint.specs.Copies.{AreAllAnswers}
 use Rattle.cq_adjoint.specs.Units.{identity_of}

@@ -1,4 +1,4 @@
-use Rattle.std.proofs.Common.{◌≡◌, true, sym, ◌∙◌}
+use Rattle.std.proofs.Common.{sym, ◌∙◌}
 use Rattle.std.proofs.lemmas.Result.{err_from_is_err_and}
 use Rattle.cq_stating.specs.Meanings.{Ends, Environment, TransformMeant}
 use Rattle.cq_stating.specs.Environment.{ends_meant, environment_of, named_route_meant, transform_meant}

@@ -1,4 +1,3 @@
-use Rattle.std.proofs.Common.{◌≡◌, true}
 use Rattle.std.proofs.lemmas.Result.{err_from_is_err_and}
 use Rattle.cq_stating.specs.Meanings.{Ends, Environment, InstanceMeant}
 use Rattle.cq_stating.specs.Environment.{ends_meant, environment_of, instance_meant, named_route_meant}
