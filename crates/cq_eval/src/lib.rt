@@ -15,6 +15,7 @@ pub mod answering;
 mod cells;
 mod choice;
 pub mod evaluating;
+mod free;
 mod grouping;
 mod index;
 mod joining;
