@@ -237,6 +237,11 @@ def clique(n):
     return queried(5, pairs, names("x", n), " ".join(f"x{k}.f = x{k}" for k in range(n)) + " " + near)
 
 
+@file("variables in no where equation", 1_000, "refused")
+def free(n):
+    return queried(max(n, 30), "a0.f = a0", "x y", "x.f = x y.f = y")
+
+
 @file("variables tied to one", 5_000, "instance I")
 def one_tied(n):
     return queried(n, " ".join(f"a{k}.f = a0" for k in range(1, n)), "x y", "x.f = x y.f = y")

@@ -19,7 +19,7 @@ ghost use Rattle.cq_adjoint.specs.QueryMoves.{row_sent, value_sent, to_eval_row,
 ghost use Rattle.cq_adjoint.specs.QueryMoves.{to_eval_images};
 ghost use Rattle.cq_adjoint.specs.Crossing.{IsCrossing};
 
-use crate::layout::width;
+use crate::layout::copy_at;
 use crate::places::{Places, places_at};
 use crate::rows::Rows;
 use cq_base::{Name, Seq, number_at};
@@ -116,9 +116,7 @@ fn first_copy(crossing: &Crossing, entity: u32, row: u32) -> u32
     query.is_well_sorted();
     source.is_instance();
     copies.is_instance();
-    let start = number_at(crossing.starts, entity as usize);
-    let count = width(query, entity);
-    start + row * count
+    copy_at(query, crossing.starts, entity, row)
 }
 
 /// The generator of the answer that has these rows, in an instance of the answers at these places.

@@ -15,3 +15,4 @@ pub mod Staged
 pub mod Tested
 pub mod Told
 pub mod Typed
+pub mod Untested

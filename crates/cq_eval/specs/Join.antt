@@ -1,5 +1,6 @@
 -- Answers that are found one variable at a time.
-use Rattle.std.specs.Prelude.{ℕ, Bool, not, List, [], ◌∷◌, ◌++◌, ◌≡◌, ◌+◌, ◌==◌, ◌||◌, if◌then◌else◌, Some, map, filter, length, slice_get}
+use Rattle.std.specs.Prelude.{ℕ, Bool, not, List, [], ◌∷◌, ◌++◌, ◌≡◌, ◌≤◌, ◌+◌, ◌*◌, ◌==◌, ◌||◌, if◌then◌else◌, Some, map, filter, length}
+use Rattle.std.specs.Prelude.{slice_get}
 use Rattle.std.specs.List.{list_all, flat_map}
 use Rattle.cq_theory.specs.declared.presentation.Equation.{Equation}
 use Rattle.cq_theory.specs.Canonical.{below}
@@ -30,6 +31,15 @@ module _ {E : Type 0} (stage_of : E → ℕ) (holds : List ℕ → E → Bool) (
 pub record IsJoin (S : Schema) (M : Tables) (tests : List Equation) (groups : List (List ℕ)) (counts : List ℕ) : Type 0 where
   pub staged : groups ≡ map (positions (map (stage (length counts)) tests)) (below (length counts + 1))
   pub typed : (rows : List ℕ) → IsTuple rows counts → (n : ℕ) (e : Equation) → slice_get tests n ≡ Some e → IsTestAt S M rows e
+
+-- no where equation is tested when more variables are bound than this
+abbrev pub IsLast : List Equation → List ℕ → ℕ → Type 0
+IsLast tests counts last = (n : ℕ) (e : Equation) → slice_get tests n ≡ Some e → stage (length counts) e ≤ last
+
+-- how many choices there are of a row below each count
+abbrev pub combinations : List ℕ → ℕ
+combinations [] = 1
+combinations (count ∷ counts) = count * combinations counts
 
 module _ (M : Tables) (tests : List Equation) (counts : List ℕ) where
   abbrev pub test_passes_at : ℕ → List ℕ → Bool

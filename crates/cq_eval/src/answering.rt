@@ -17,7 +17,7 @@ use crate::joining::Join;
 use crate::kept::Kept;
 use crate::order::{Order, picked, renamed_tests};
 use crate::plan::order_of;
-use crate::reaches::by_stage;
+use crate::reaches::{by_stage, last_stage};
 use crate::refusal::EvalRefusal;
 use crate::rows::Rows;
 use crate::sorted::sorted_back;
@@ -150,12 +150,14 @@ fn searched(
         return Ok(Vec::new(alloc));
     }
     let groups = by_stage(alloc, tests, counts.as_slice())?;
+    let last = last_stage(tests, counts.as_slice());
     let indexes = indexes(alloc, instance, kept, counts.as_slice(), tests)?;
     let join = Join {
         entity,
         instance,
         tests,
         groups,
+        last,
         counts,
         indexes,
     };

@@ -1,18 +1,20 @@
 //! The search for answers, one variable at a time.
-ghost use Rattle.std.specs.Prelude.{ℕ, ◌≡◌, ◌+◌, ◌<◌, ◌≤◌, ◌==◌, ◌++◌, ◌∷◌, [], false, IfOk, IfSome, OnOk, IfErr};
-ghost use Rattle.std.specs.Prelude.{length, map, take, drop, slice_get, slice_index, slice_index_or, option_copied, Some};
+ghost use Rattle.std.specs.Prelude.{ℕ, ◌≡◌, ◌+◌, ◌<◌, ◌≤◌, ◌==◌, ◌++◌, ◌∷◌, [], false, true, IfOk, IfSome, OnOk, IfErr};
+ghost use Rattle.std.specs.Prelude.{length, map, take, drop, slice_get, slice_index, slice_index_or, option_copied};
+ghost use Rattle.std.specs.Prelude.{Some};
 ghost use Rattle.std.specs.List.{list_any};
 ghost use Rattle.cq_theory.specs.declared.presentation.Equation.{Equation};
 ghost use Rattle.cq_theory.specs.Tables.{AtRow, value_of};
 ghost use Rattle.cq_instance.specs.Terms.{IsTypeTermOf};
 ghost use Rattle.cq_query.specs.Answers.{IsTuple};
-ghost use Rattle.cq_eval.specs.Join.{IsJoin, test_passes_at, found_from, found_by};
+ghost use Rattle.cq_eval.specs.Join.{IsJoin, IsLast, combinations, test_passes_at, found_from, found_by};
 ghost use Rattle.cq_eval.specs.Index.{AreIndexes, IsCover, rows_of_value, listed_rows};
 ghost use Rattle.cq_eval.specs.Made.{answers_with};
 ghost use Rattle.cq_eval.specs.Testing.{IsTestAt, holds_at};
 ghost use Rattle.cq_eval.specs.Refused.{TellsOver};
 
 use crate::choice::Choice;
+use crate::free::{MOST_ANSWERS, is_over};
 use crate::index::TestIndex;
 use crate::refusal::EvalRefusal;
 use crate::rows::Rows;
@@ -22,9 +24,6 @@ use cq_instance::Instance;
 use cq_theory::{Equation, TypeTerm};
 use std::alloc::{AllocError, Global};
 
-/// The most answers for an entity.
-const MOST_ANSWERS: usize = 1_000_000;
-
 /// What the answers for an entity are searched by: the where equations of its block, which of them are tested when so
 /// many variables are bound, and how many rows there are for each variable.
 pub(crate) struct Join<'a> {
@@ -32,6 +31,8 @@ pub(crate) struct Join<'a> {
     pub(crate) instance: &'a Instance,
     pub(crate) tests: &'a [Equation],
     pub(crate) groups: Seq<Seq<usize>>,
+    // When as many variables are bound as this, none is tested any more.
+    pub(crate) last: usize,
     pub(crate) counts: Seq<u32>,
     pub(crate) indexes: Seq<Option<TestIndex>>,
 }
@@ -43,6 +44,7 @@ impl Drop for Join<'_> {
             instance: _,
             tests: _,
             groups: _,
+            last: _,
             counts: _,
             indexes: _,
         } = self;
@@ -228,7 +230,17 @@ impl Join<'_> {
         Ok(fewest)
     }
 
+    /// Whether there are over 1,000,000 answers with those that begin so, since no where equation is left to be tested.
+    fn has_many(&self, bound: usize, found: usize) -> bool
+        requires few { found ≤ 1000000 }
+        ensures { result ≡ true → (bound ≡ self.now.last)
+            × (1000000 < found + combinations (drop bound self.now.counts)) }
+    {
+        bound == self.last && is_over(found, self.counts.as_slice(), bound)
+    }
+
     /// Finds all answers that begin with the rows of the first `bound` variables, and puts them behind others.
+    /// Variables in no where equation that is left are counted before any of their rows is tried.
     #[cycle(join)]
     fn extend(
         &self,
@@ -240,6 +252,7 @@ impl Join<'_> {
         requires join { IsJoin self.now.instance.now.schema self.now.instance.now.tables self.now.tests.now
             self.now.groups self.now.counts }
         requires indexed { AreIndexes self.now.instance.now.tables self.now.counts self.now.tests.now self.now.indexes }
+        requires last { IsLast self.now.tests.now self.now.counts self.now.last }
         requires choice { IsTuple choice.old self.now.counts }
         requires bound { bound ≤ length self.now.counts }
         requires few { length found.old.items ≤ 1000000 }
@@ -255,6 +268,9 @@ impl Join<'_> {
     {
         if bound >= self.counts.len() {
             return self.keep(alloc, choice, found);
+        }
+        if self.has_many(bound, found.len()) {
+            return Err(EvalRefusal::TooManyAnswers(self.entity));
         }
         if let Some(rows) = self.candidates(alloc, choice, bound)? {
             return self.extend_among(alloc, choice, bound, rows, found);
@@ -280,6 +296,7 @@ impl Join<'_> {
         requires join { IsJoin self.now.instance.now.schema self.now.instance.now.tables self.now.tests.now
             self.now.groups self.now.counts }
         requires indexed { AreIndexes self.now.instance.now.tables self.now.counts self.now.tests.now self.now.indexes }
+        requires last { IsLast self.now.tests.now self.now.counts self.now.last }
         requires choice { IsTuple choice.old self.now.counts }
         requires bound { bound < length self.now.counts }
         requires cover { IsCover self.now.instance.now.tables self.now.tests.now self.now.counts (take bound choice.old)
@@ -316,6 +333,7 @@ impl Join<'_> {
         requires join { IsJoin self.now.instance.now.schema self.now.instance.now.tables self.now.tests.now
             self.now.groups self.now.counts }
         requires indexed { AreIndexes self.now.instance.now.tables self.now.counts self.now.tests.now self.now.indexes }
+        requires last { IsLast self.now.tests.now self.now.counts self.now.last }
         requires choice { IsTuple choice.old self.now.counts }
         requires bound { bound < length self.now.counts }
         requires row { row < slice_index self.now.counts bound }
@@ -344,6 +362,7 @@ impl Join<'_> {
         requires join { IsJoin self.now.instance.now.schema self.now.instance.now.tables self.now.tests.now
             self.now.groups self.now.counts }
         requires indexed { AreIndexes self.now.instance.now.tables self.now.counts self.now.tests.now self.now.indexes }
+        requires last { IsLast self.now.tests.now self.now.counts self.now.last }
         requires rows { list_any (λ count. count == 0) self.now.counts ≡ false }
         ensures answers { IfOk result (λ found. found.items ≡ answers_with self.now.instance.now.tables
             self.now.tests.now self.now.counts) }

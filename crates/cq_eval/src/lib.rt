@@ -4,7 +4,8 @@
 //! each once. Variables are bound in an order that follows the where equations (`plan`, which claims nothing, and
 //! `order`, which tests it and numbers the equations by it); where it isn't their own, the answers are put back and
 //! sorted (`sorted`). When a where equation is tested follows from the greatest variable in it (`reaches`); those of
-//! one stage are listed together (`grouping`), so no binding goes over all. A where equation that joins a new variable
+//! one stage are listed together (`grouping`), so no binding goes over all, and variables that none is left of are
+//! counted before their rows are tried (`free`). A where equation that joins a new variable
 //! to earlier ones gives lists of rows (`index`), by an attribute (a `CellIndex`) or by a path of keys (a `KeyIndex`).
 //! The index of an attribute's cells, or of one foreign key, is made once a run and kept for further equations and
 //! entities (`kept`). Answers are kept in a set with places (`table`), by which the columns of keys are filled
@@ -15,6 +16,7 @@ pub mod answering;
 mod cells;
 mod choice;
 pub mod evaluating;
+mod free;
 mod grouping;
 mod index;
 mod joining;

@@ -3,6 +3,7 @@ ghost use Rattle.std.specs.Prelude.{◌≡◌, ◌+◌, IfOk, map, length};
 ghost use Rattle.cq_theory.specs.Canonical.{below};
 ghost use Rattle.cq_theory.specs.Groups.{positions};
 ghost use Rattle.cq_eval.specs.Testing.{reach_of_entity as entity_reach, reach_of as type_reach};
+ghost use Rattle.cq_eval.specs.Join.{IsLast};
 ghost use Rattle.cq_eval.specs.Testing.{reach as equation_reach, stage};
 
 use crate::grouping::grouped;
@@ -68,4 +69,15 @@ pub(crate) fn by_stage(
     let width = counts.len();
     let stages = stages(alloc, tests, width)?;
     grouped(alloc, width + 1, stages.as_slice())
+}
+
+/// How many variables are bound when the last where equation is tested.
+pub(crate) fn last_stage(tests: &[Equation], counts: &[u32]) -> usize
+    ensures { IsLast tests.now counts.now result }
+{
+    let mut last = 0;
+    for test in tests {
+        last = counts.len().min(reach(test)).max(last);
+    }
+    last
 }

@@ -15,3 +15,4 @@ pub mod Moving
 pub mod Breaches
 pub mod GluedPresentations
 pub mod Answered
+pub mod Initials

@@ -3,3 +3,4 @@ pub mod Movements
 pub mod Program
 pub mod Judging
 pub mod Named
+pub mod Initial

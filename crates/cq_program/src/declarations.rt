@@ -6,6 +6,7 @@ ghost use Rattle.cq_parts.specs.Few.{HasFewParts, part_count};
 ghost use Rattle.cq_program.specs.Program.{Declares, Follow, Means, listing_of};
 ghost use Rattle.cq_stating.specs.Environment.{AreSettled, WillSettle, environment_of, meant};
 ghost use Rattle.cq_program.specs.Judging.{AddsDecl, RefusesDecl, RefusesProgram};
+ghost use Rattle.cq_program.specs.Initial.{AreInitial};
 ghost use Rattle.cq_program.specs.Named.{listed_as, listings_in};
 
 use crate::models::meaning_of;
@@ -72,11 +73,13 @@ pub fn meaning<F: Folder>(
     requires few { HasFewParts program.now }
     requires depth { depth ≤ 64 }
     ensures means { IfOk result (λ named. Means (F.state folder.old).files program.now (map listed_as named.items)) }
+    ensures initial { IfOk result (λ named. AreInitial (map listed_as named.items)) }
     ensures keeps { Keeps (F.state folder.old) (F.state folder.new) }
     ensures refuses { IfErr result (RefusesProgram depth (F.state folder.old) (F.state folder.new) program.now) }
 {
     let env = declare_all(alloc, program, folder, depth)?;
-    Ok(instances_of(alloc, env)?)
+    let named = instances_of(alloc, env)?;
+    Ok(named)
 }
 
 /// What all names stand for.
@@ -90,6 +93,7 @@ fn declare_all<F: Folder>(
     requires depth { depth ≤ 64 }
     ensures follows { IfOk result (λ env. Follow (F.state folder.old).files [] program.now.decls
         (environment_of env.names.entries)) }
+    ensures settled { IfOk result (λ env. AreSettled (environment_of env.names.entries)) }
     ensures keeps { Keeps (F.state folder.old) (F.state folder.new) }
     ensures refuses { IfErr result (RefusesProgram depth (F.state folder.old) (F.state folder.new) program.now) }
 {

@@ -36,7 +36,7 @@ not_sound depth told tree line breach sound = sound.unbroken breach.place breach
 pub by_tree : (depth : ℕ) (before after : FolderData) (tokens : List Token) (tree : Program) (a : Answer) → IsTreeIn tokens tree
     → ((other : Program) → IsProgram tokens other → FitsLimits other → tree ≡ other)
     → JudgesProgram depth before after tree a → JudgesTokens depth before after tokens a
-by_tree depth before after tokens tree (answer.Accepted instances) is only means = (tree, is, means)
+by_tree depth before after tokens tree (answer.Accepted instances) is only judged = (tree, is, judged.0, judged.1)
 by_tree depth before after tokens tree (answer.Refused line) is only breaks = (
   broken tree is breaks,
   λ sound. not_sound depth before.files tree line.items breaks
@@ -106,7 +106,7 @@ pub by_tokens : (depth : ℕ) (before after : FolderData) (bytes : List ℕ) (to
     → JudgesTokens depth before after tokens a → Judges depth before after bytes a
 unfolding Means IsAcceptable
 by_tokens depth before after bytes tokens (answer.Accepted instances) lexed only judged =
-    (judged.0, record { tokens = tokens; lexed = lexed; spelled = judged.1 }, judged.2)
+    (judged.0, record { tokens = tokens; lexed = lexed; spelled = judged.1 }, judged.2, judged.3)
 by_tokens depth before after bytes tokens (answer.Refused line) lexed only judged = record {
   refuses = no_program tokens lexed judged.0;
   other = λ a. judged.1 (a.0, subst (λ z. IsTreeIn z a.0) (sym (only a.1.tokens a.1.lexed)) a.1.spelled, a.2);

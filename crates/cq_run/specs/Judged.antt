@@ -8,6 +8,7 @@ use Rattle.cq_parse.specs.declared.refusal.ParseRefusal.TheVariants as grammatic
 use Rattle.cq_syntax.specs.declared.program.Program.{Program}
 use Rattle.cq_io.specs.FolderData.{FolderData}
 use Rattle.cq_stating.specs.Folders.{Told}
+use Rattle.cq_program.specs.Initial.{AreInitial}
 use Rattle.cq_program.specs.Named.{listed_as}
 use Rattle.cq_program.specs.Program as program
 use Rattle.cq_run.specs.Meaning.{IsSound, IsTreeIn, BreaksRule, MissesFile, RefusesTokens, lex_line, parse_line}
@@ -16,7 +17,8 @@ use Rattle.cq_run.specs.declared.answer.Answer.TheVariants as answer
 
 -- how a program is judged, over the folder before and after
 abbrev pub JudgesProgram : ℕ → FolderData → FolderData → Program → Answer → Type 0
-JudgesProgram depth before after tree (answer.Accepted instances) = program.Means before.files tree (map listed_as instances.items)
+JudgesProgram depth before after tree (answer.Accepted instances) =
+    program.Means before.files tree (map listed_as instances.items) × AreInitial (map listed_as instances.items)
 JudgesProgram depth before after tree (answer.Refused line) = BreaksRule depth before.files tree line.items
 JudgesProgram depth before after tree (answer.Unread line) = MissesFile before after tree line.items
 JudgesProgram depth before after tree answer.Memory = Unit {0}
@@ -28,7 +30,7 @@ AreSound depth told tokens = (tree : Program) × IsTreeIn tokens tree × IsSound
 -- how tokens are judged
 abbrev pub JudgesTokens : ℕ → FolderData → FolderData → List Token → Answer → Type 0
 JudgesTokens depth before after tokens (answer.Accepted instances) = (tree : Program) × IsTreeIn tokens tree
-    × program.Means before.files tree (map listed_as instances.items)
+    × program.Means before.files tree (map listed_as instances.items) × AreInitial (map listed_as instances.items)
 JudgesTokens depth before after tokens (answer.Refused line) = RefusesTokens depth before.files tokens line.items
     × (AreSound depth before.files tokens → ⊥)
 JudgesTokens depth before after tokens (answer.Unread line) = (tree : Program) × IsTreeIn tokens tree

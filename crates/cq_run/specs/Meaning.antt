@@ -16,6 +16,7 @@ use Rattle.cq_stating.specs.declared.reason.ReadCause.{ReadCause}
 use Rattle.cq_stating.specs.declared.reason.Reason.{Reason}
 use Rattle.cq_stating.specs.Folders.{Raised, Told}
 use Rattle.cq_stating.specs.Lines.{line_of, reason_line}
+use Rattle.cq_program.specs.Initial.{AreInitial}
 use Rattle.cq_program.specs.Program as program
 use Rattle.cq_program.specs.Program.{Breaks, Lacks, Listing}
 use Rattle.cq_run.specs.Lines.{read_line}
@@ -31,9 +32,9 @@ pub record IsTreeOf (bytes : List ℕ) (tree : Program) : Type 0 where
   pub lexed : lex.Tokens bytes tokens
   pub spelled : IsTreeIn tokens tree
 
--- what a text means over what a folder tells: the instances of its program, listed
+-- What a text means over what a folder tells: the instances of its program, listed. Each is the initial model of its presentation.
 unfoldable pub Means : Told → List ℕ → List Listing → Type 0
-Means told bytes L = (tree : Program) × IsTreeOf bytes tree × program.Means told tree L
+Means told bytes L = (tree : Program) × IsTreeOf bytes tree × program.Means told tree L × AreInitial L
 
 abbrev pub transcript_of : Listing → List ℕ
 transcript_of L = text.transcript_of L.name L.schema L.instance

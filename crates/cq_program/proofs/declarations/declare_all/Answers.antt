@@ -27,3 +27,6 @@ loop-decl-preserved g c =
     (environment_of c.loop-decl.env.names.entries) (environment_of c.declare.new.env.names.entries)
     c.loop-decl.invariant.2.files inside c.decl-item.is c.loop-decl.invariant.0 c.in_ok-declare.ensures.declares in
     (more, c.in_ok-declare.ensures.settled, keeps_then _ _ _ c.loop-decl.invariant.2 c.in_ok-declare.ensures.keeps)
+
+pub returns-clause-settled : goal.returns-clause-settled
+returns-clause-settled g c = c.loop-decl.invariant.1

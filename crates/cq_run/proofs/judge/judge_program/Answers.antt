@@ -2,7 +2,7 @@ use Rattle.cq_run.proofs.Judging.{by_file, by_rule}
 use Rattle.cq_run.proofs.judge.judge_program.Goals as goal
 
 pub returns-in-Ok-clause-judges : goal.returns-in-Ok-clause-judges
-returns-in-Ok-clause-judges g c = c.in-Ok.ensures.means
+returns-in-Ok-clause-judges g c = (c.in-Ok.ensures.means, c.in-Ok.ensures.initial)
 
 pub returns-in-Ok-line-clause-judges : goal.returns-in-Ok-line-clause-judges
 returns-in-Ok-line-clause-judges g c =

@@ -7,6 +7,7 @@ use Rattle.cq_query.proofs.Holding.{tuple_length}
 use Rattle.cq_eval.specs.Join.{found_from, found_by}
 use Rattle.cq_eval.specs.Refused.{TellsOver}
 use Rattle.cq_eval.proofs.Extended as steps
+use Rattle.cq_eval.proofs.Untested as free
 use Rattle.cq_eval.proofs.joining.Join.+join.Goals as goal
 
 pub extend-returns-then-bound-len-clause-found : goal.extend-returns-then-bound-len-clause-found
@@ -70,8 +71,11 @@ extend_by-extend-requires t c = (
     (
       c.requires.indexed,
       (
-        steps.next_tuple c.args.self.now.instance.now.tables c.args.self.now.tests.now c.args.self.now.counts c.args.choice.now c.set.new.self c.args.bound c.args.row c.requires.choice c.requires.bound c.requires.row c.set.ensures,
-        (omega arith, c.requires.few),
+        c.requires.last,
+        (
+          steps.next_tuple c.args.self.now.instance.now.tables c.args.self.now.tests.now c.args.self.now.counts c.args.choice.now c.set.new.self c.args.bound c.args.row c.requires.choice c.requires.bound c.requires.row c.set.ensures,
+          (omega arith, c.requires.few),
+        ),
       ),
     ),
   ),
@@ -107,7 +111,7 @@ extend_among-extend_by-requires t c = (
   omega arith,
   (
     c.requires.join,
-    (c.requires.indexed, (c.loop-row.invariant.choice, (c.requires.bound, (c.requires.cover.within c.loop-row.row-index 0 c.loop-row-test.true, c.loop-row.invariant.few)))),
+    (c.requires.indexed, (c.requires.last, (c.loop-row.invariant.choice, (c.requires.bound, (c.requires.cover.within c.loop-row.row-index 0 c.loop-row-test.true, c.loop-row.invariant.few))))),
   ),
 )
 
@@ -131,3 +135,12 @@ pub extend_among-returns-clause-found : goal.extend_among-returns-clause-found
 extend_among-returns-clause-found t c =
     steps.over_end c.args.self.now.instance.now.tables c.args.self.now.tests.now c.args.self.now.counts c.args.bound (take c.args.bound c.args.choice.now) c.args.rows.now c.requires.bound c.requires.cover
     c.loop-row.row-index c.args.found.now.items c.loop-row.found.items c.loop-row-test.false c.loop-row.invariant.found
+
+pub extend-returns-then-has_many-clause-refused : goal.extend-returns-then-has_many-clause-refused
+extend-returns-then-has_many-clause-refused t c =
+    let M : Tables = c.args.self.now.instance.now.tables in
+    let tests : List Equation = c.args.self.now.tests.now in
+    let counts : List ℕ = c.args.self.now.counts in
+    let many = c.has_many.ensures c.if-has_many.true in
+    free.tells_free M tests counts c.args.self.now.last c.requires.last c.args.self.now.entity c.args.bound c.args.choice.now c.requires.choice c.requires.bound many.0 (length c.args.found.now.items) c.len-2.result
+    (omega (arith, c.len-2.ensures, c.args.found.now.ok.0)) many.1
