@@ -6,7 +6,7 @@ use Rattle.cq_theory.proofs.Every.{Every-at, Every-filter_map}
 use Rattle.cq_theory.proofs.OnValues.{All_at}
 use Rattle.cq_instance.proofs.Lists.{All_from}
 use Rattle.cq_stating.specs.Environment.{AreSettled, IsSettled}
-use Rattle.cq_stating.specs.Meanings.{Environment, Meant, typeside, schema, colimit, mapping, query, instance, transform}
+use Rattle.cq_stating.specs.Meanings.{Binding, Environment, Meant, typeside, schema, colimit, mapping, query, instance, transform}
 use Rattle.cq_program.specs.Initial.{AreInitial, IsInitial}
 use Rattle.cq_program.specs.Program.{Listing, listing_named, listing_of}
 
@@ -24,5 +24,5 @@ listed_initial env name (instance n i) settled found is =
 pub are_initial : (env : Environment) (L : List Listing) → AreSettled env → L ≡ filter_map listing_of env → AreInitial L
 are_initial env L settled is =
     let each = Every-filter_map IsInitial listing_of env (λ n entry found at listed.
-    listed_initial env entry.0 entry.1 (All_at (λ (e : Name × Meant). IsSettled env e.1) env n entry settled at) found listed) in
+    listed_initial env entry.0 entry.1 (All_at (λ (e : Binding). IsSettled env e.1) env n entry settled.0 at) found listed) in
     subst AreInitial (sym is) (All_from IsInitial (filter_map listing_of env) (λ n found at. Every-at IsInitial (filter_map listing_of env) n found each at))
