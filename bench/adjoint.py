@@ -4,7 +4,7 @@
     bench/adjoint.py [PROGRAM]
 
 PROGRAM is by default crates/cqlrun/out/cqlrun, which `./cqlrun` builds. Each of the eight forms, at 2,000, 20,000 and 200,000 rows
-of the instance that is moved. Along a mapping the rows are those of the case merge of `bench/move.py`: half of them in A, each with
+of the instance that is moved (for counit half of that). Along a mapping the rows are those of the case merge of `bench/move.py`: half of them in A, each with
 its row in B, and sigma makes one of each two. Along a query they are a ring: a foreign key leads each row to the next one, and the
 query's answers are the rows with the rows that follow them. The transform that is moved is the identity.
 
@@ -68,6 +68,11 @@ def answered(rows):
     return RING + NEXT + TO_NEXT + f"instance I = literal : R {{ generators {' '.join(names)} : P equations {steps} }}\n"
 
 
+def half_merged(rows):
+    """Half as many, since sigma begins with a row of A and one of B for each, and 200,000 rows are the limit."""
+    return merged(rows // 2)
+
+
 IDENTITY = "transform h = identity I\n"
 # the form, the instance that is moved, what is made of it, and the transform
 FORMS = (
@@ -76,7 +81,7 @@ FORMS = (
     ("eval", ring, "instance J = eval Q I\n", IDENTITY, "transform m = eval Q h : J -> J\n"),
     ("coeval", answered, "instance J = coeval Q I\n", IDENTITY, "transform m = coeval Q h : J -> J\n"),
     ("unit", pairs, "instance J = sigma F I\ninstance K = delta F J\n", "", "transform m = unit F I : I -> K\n"),
-    ("counit", merged, "instance J = delta F I\ninstance K = sigma F J\n", "", "transform m = counit F I : K -> I\n"),
+    ("counit", half_merged, "instance J = delta F I\ninstance K = sigma F J\n", "", "transform m = counit F I : K -> I\n"),
     ("unit_query", answered, "instance J = coeval Q I\ninstance K = eval Q J\n", "", "transform m = unit_query Q I : I -> K\n"),
     ("counit_query", ring, "instance J = eval Q I\ninstance K = coeval Q J\n", "", "transform m = counit_query Q I : K -> I\n"),
 )
