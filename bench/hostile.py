@@ -247,6 +247,34 @@ def one_tied(n):
     return queried(n, " ".join(f"a{k}.f = a0" for k in range(1, n)), "x y", "x.f = x y.f = y")
 
 
+def twins(n, one, other):
+    """So many texts, each of seventeen of the two pieces, which are of one length."""
+    return ["".join(other if number >> bit & 1 else one for bit in range(17)) for number in range(n)]
+
+
+def joined(texts):
+    """A query of the pairs of rows with one text, of which each row has its own."""
+    cells = " ".join(f'x(e{number}) = "{text}"' for number, text in enumerate(texts))
+    return (
+        "typeside T = literal { types s literals s }\nschema S = literal : T { entities E attributes x : E -> s }\n"
+        "schema R = literal : T { entities P }\n"
+        "query Q = literal : S -> R { entity P -> { from y z : E where x(y) = x(z) } }\n"
+        + instance(names("e", len(texts)) + " : E", cells)
+        + "instance J = eval Q I\n"
+    )
+
+
+# (`Aa` and `BB` give one number where texts are placed by 31 times what stands before and the next byte)
+@file("texts that a sum of bytes places alike, joined", 131_072, "instance I")
+def alike(n):
+    return even(joined(twins(n, "Aa", "BB")))
+
+
+@file("other texts of this length, joined", 131_072, "instance I")
+def unlike(n):
+    return even(joined(twins(n, "Aa", "bC")))
+
+
 def run(program, folder, wanted):
     """Processor seconds and peak memory in bytes of one run in a folder, whose output goes into a file."""
     child = os.fork()
