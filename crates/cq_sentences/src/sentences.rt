@@ -1,4 +1,5 @@
-//! What is said of each code: one sentence, and what there is to mend. A `#` stands for a name or a number that is filled
+//! What is said of each code: one sentence, and what there is to mend, to follow
+//! the words `To mend it:`. A `#` stands for a name or a number that is filled
 //! in.
 //!
 //! `docs/sentences.py` compares this file with the table in `docs/LANGUAGE.md`.
@@ -83,83 +84,83 @@ impl Code {
     pub fn remedy(self) -> &'static str {
         match self {
             Code::BadByte => {
-                "Take it out, or put it between double quotes; a file in another encoding is saved as UTF-8 first."
+                "take it out, or put it between double quotes; a file in another encoding is saved as UTF-8 first."
             }
             Code::OpenText => {
-                "Put a double quote where the text ends, and a backslash before each double quote within it."
+                "put a double quote where the text ends, and a backslash before each double quote within it."
             }
-            Code::OpenComment => "End it with */, or begin it with // if it is one line.",
-            Code::LongName => "Shorten it.",
+            Code::OpenComment => "end it with */, or begin it with // if it is one line.",
+            Code::LongName => "shorten it.",
             Code::Syntax => {
-                "Look for a word or a mark that is missing or too many, here or just before, and for sections in another order."
+                "look for a word or a mark that is missing or too many, here or just before, and for sections in another order."
             }
-            Code::TooDeep => "Give a part of it a name of its own: a generator, or a foreign key.",
-            Code::Unsupported => "Leave it out; docs/LANGUAGE.md says what there is.",
-            Code::BadOption => "Leave it out: options have no effect.",
-            Code::NameTaken => "Give one of the two another name.",
-            Code::NameUnknown => "Write a name that is declared above, or declare this one there.",
-            Code::WrongKind => "Write the name of what is wanted.",
+            Code::TooDeep => "give a part of it a name of its own: a generator, or a foreign key.",
+            Code::Unsupported => "leave it out; docs/LANGUAGE.md says what there is.",
+            Code::BadOption => "leave it out: options have no effect.",
+            Code::NameTaken => "give one of the two another name.",
+            Code::NameUnknown => "write a name that is declared above, or declare this one there.",
+            Code::WrongKind => "write the name of what is wanted.",
             Code::WrongSchema => {
-                "Write names that belong together, or declare the one again over the other's schema."
+                "write names that belong together, or declare the one again over the other's schema."
             }
-            Code::NotASpan => "Write two transforms whose declarations start in the same instance.",
+            Code::NotASpan => "write two transforms whose declarations start in the same instance.",
             Code::WrongOperand => {
-                "Declare it so; docs/LANGUAGE.md, \"Transforms that move\", has the forms."
+                "declare it so; docs/LANGUAGE.md, \"Transforms that move\", has the forms."
             }
-            Code::NoInstance => "Ask about an instance that the file declares.",
+            Code::NoInstance => "ask about an instance that the file declares.",
             Code::BadTerm => {
-                "Write terms over the instance's generators, as its equations have them."
+                "write terms over the instance's generators, as its equations have them."
             }
             Code::Duplicate => {
-                "Rename one of the two: types and entities share one table, and functions, foreign keys and attributes another."
+                "rename one of the two: types and entities share one table, and functions, foreign keys and attributes another."
             }
-            Code::Unknown => "Correct the name, or declare it.",
+            Code::Unknown => "correct the name, or declare it.",
             Code::WrongCount => {
-                "A foreign key and an attribute take one argument, and a function as many as it is declared with."
+                "give a foreign key or an attribute one argument, and a function as many as it is declared with."
             }
             Code::WrongSort => {
-                "Both sides of an equation, an argument and its place, and an image and what it is given for, are of one entity or type."
+                "see that both sides of an equation, an argument and its place, and an image and what it is given for are of one entity or type."
             }
-            Code::Reserved => "Write another text.",
-            Code::TooLarge => "Give parts of the term names of their own, or split the data.",
+            Code::Reserved => "write another text.",
+            Code::TooLarge => "give parts of the term names of their own, or split the data.",
             Code::Missing => {
-                "Give something for it, as for each entity, foreign key, attribute, variable or generator of what is sent."
+                "give something for it, as for each entity, foreign key, attribute, variable or generator of what is sent."
             }
             Code::NotPreserved => {
-                "Send something in it elsewhere, or add what it becomes to the equations there."
+                "send something in it elsewhere, or add what it becomes to the equations there."
             }
             Code::DutyDepth => {
-                "Try a greater --depth, up to 64, or add an equation that ends the chain of keys."
+                "try a greater --depth, up to 64, or add an equation that ends the chain of keys."
             }
-            Code::DutyRows => "Add equations that make rows one, or take foreign keys out.",
+            Code::DutyRows => "add equations that make rows one, or take foreign keys out.",
             Code::Broken => {
-                "Send something in it elsewhere, or add what it becomes to the instance where the transform ends."
+                "send something in it elsewhere, or add what it becomes to the instance where the transform ends."
             }
             Code::Depth => {
-                "Add an equation that ends the chain of keys, or try a greater --depth, up to 64."
+                "add an equation that ends the chain of keys, or try a greater --depth, up to 64."
             }
             Code::TooManyRows => {
-                "Add equations that make rows one, take foreign keys out, or split the data."
+                "add equations that make rows one, take foreign keys out, or split the data."
             }
-            Code::Inconsistent => "Change one of these facts, or leave out one of these rules.",
-            Code::Oversized => "Split the data, or make the terms shorter.",
-            Code::TooManyAnswers => "Add equations behind where, or take variables out.",
+            Code::Inconsistent => "change one of these facts, or leave out one of these rules.",
+            Code::Oversized => "split the data, or make the terms shorter.",
+            Code::TooManyAnswers => "add equations behind where, or take variables out.",
             Code::NameClash => {
-                "Rename an entity, foreign key or attribute of one of the two, or the schema itself."
+                "rename an entity, foreign key or attribute of one of the two, or the schema itself."
             }
-            Code::JoinedName => "Shorten the schema's name, or the name that it is joined with.",
-            Code::NotCsv => "Mend the file.",
+            Code::JoinedName => "shorten the schema's name, or the name that it is joined with.",
+            Code::NotCsv => "mend the file.",
             Code::BadHeader => {
-                "Write the header as it is wanted: id, the attributes, and the foreign keys, in the order of the schema."
+                "write the header as it is wanted: id, the attributes, and the foreign keys, in the order of the schema."
             }
             Code::BadCell => {
-                "Write a constant of the column's type, or leave the cell empty where nothing is known."
+                "write a constant of the column's type, or leave the cell empty where nothing is known."
             }
-            Code::DoubleId => "Give each record an id of its own.",
+            Code::DoubleId => "give each record an id of its own.",
             Code::NoSuchId => {
-                "Add the record, correct the id, or leave the cell empty where nothing is known."
+                "add the record, correct the id, or leave the cell empty where nothing is known."
             }
-            Code::ManyRecords => "Split the data.",
+            Code::ManyRecords => "split the data.",
         }
     }
 }
@@ -180,10 +181,10 @@ impl Unread {
     pub fn remedy(self) -> &'static str {
         match self {
             Unread::Absent => {
-                "Files are looked for in the working directory, where the program is called, and not beside the file that names them."
+                "put it there, or call the program where it is: files are looked for in the working directory, and not beside the file that names them."
             }
-            Unread::TooLong => "Split it.",
-            Unread::Failed => "See that it is a file, and that you may read it.",
+            Unread::TooLong => "split it.",
+            Unread::Failed => "see that it is a file, and that you may read it.",
         }
     }
 }

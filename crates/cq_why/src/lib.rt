@@ -1,13 +1,12 @@
-// A library with one function.
+//! The top call of `cqlwhy`: the line that `cqlrun` would write of a file, and then why, and what there is to mend.
+//!
+//! The line is that of `cq_run::run` itself, for the same words, over the same folder, to a sink in memory (`held`) and
+//! with no exporters (`line`). What follows it is made by `cq_told`. All is written at once (`top`).
 #![tactic(auto)]
 
-ghost use Rattle.std.specs.Prelude.{◌≡◌};
-ghost use Rattle.cq_why.specs.Echo.{echo_of};
+mod held;
+mod line;
+mod reply;
+mod top;
 
-// The `ensures` clause is the contract: what `echo` returns is `echo_of` of its argument, a definition
-// in `specs/Echo.antt`, which a caller's clause can cite too.
-pub fn echo(x: usize) -> usize
-    ensures { result ≡ echo_of x }
-{
-    x
-}
+pub use top::why;

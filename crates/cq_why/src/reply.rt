@@ -1,0 +1,96 @@
+//! What is told of a file.
+ghost use Rattle.std.specs.Prelude.{◌≡◌, ◌≤◌, IfOk, map, string_bytes};
+ghost use Rattle.cq_asked.specs.Asked.{run_words};
+ghost use Rattle.cq_words.specs.Reads.{reads};
+ghost use Rattle.cq_why.specs.Clause.{Continues, HasToTell};
+
+use crate::line::{Line, line_of};
+use cq_asked::{Asked, notice, read_run_words, run_words};
+use cq_io::Folder;
+use cq_run::Status;
+use cq_told::explanation;
+use std::alloc::{AllocError, Global};
+
+/// What is to be written, with the status that the run then has.
+#[derive(Drop)]
+pub struct Reply {
+    pub status: Status,
+    pub text: Vec<u8>,
+}
+
+/// What is to be written for these words.
+pub fn reply_to<F: Folder>(
+    alloc: Global,
+    words: &[String],
+    folder: &mut F,
+) -> Result<Reply, AllocError>
+    ensures files { (F.state folder.new).files ≡ (F.state folder.old).files }
+    ensures tells { IfOk result (λ reply. HasToTell (reads (run_words (map string_bytes words.now)))
+        (F.state folder.old) reply.status reply.text.items) }
+{
+    let all = run_words(alloc, words)?;
+    match read_run_words(alloc, all.as_slice())? {
+        Some(asked) => reply_about(alloc, all.as_slice(), asked, folder),
+        None => {
+            let text = notice(alloc, words)?;
+            Ok(Reply {
+                status: Status::Usage,
+                text: text.into_bytes(),
+            })
+        }
+    }
+}
+
+/// What is to be written of a file, by the words of its run.
+fn reply_about<F: Folder>(
+    alloc: Global,
+    words: &[String],
+    asked: Asked<'_>,
+    folder: &mut F,
+) -> Result<Reply, AllocError>
+    requires { asked.depth ≤ 64 }
+    ensures files { (F.state folder.new).files ≡ (F.state folder.old).files }
+    ensures tells { IfOk result (λ reply. HasToTell (reads (map string_bytes words.now)) (F.state folder.old)
+        reply.status reply.text.items) }
+{
+    let Line { status, text } = line_of(alloc, words, folder);
+    match status {
+        Status::Ok => Ok(Reply {
+            status: Status::Ok,
+            text: Vec::from_slice(alloc, b"accepted\n")?,
+        }),
+        Status::Refused => {
+            let text = explained(alloc, text, asked, folder)?;
+            Ok(Reply {
+                status: Status::Refused,
+                text,
+            })
+        }
+        Status::Read => {
+            let text = explained(alloc, text, asked, folder)?;
+            Ok(Reply {
+                status: Status::Read,
+                text,
+            })
+        }
+        // The words name a file, and the sink fails only for want of memory.
+        Status::Usage | Status::Write | Status::Memory => Err(AllocError),
+    }
+}
+
+/// A line, and behind it why it was written.
+fn explained<F: Folder>(
+    alloc: Global,
+    line: Vec<u8>,
+    asked: Asked<'_>,
+    folder: &mut F,
+) -> Result<Vec<u8>, AllocError>
+    requires { asked.depth ≤ 64 }
+    ensures files { (F.state folder.new).files ≡ (F.state folder.old).files }
+    ensures begins { IfOk result (Continues line.items) }
+{
+    let rest = explanation(alloc, asked.file, asked.depth, folder)?;
+    let mut text = line;
+    text.extend_from_slice(rest.as_slice())?;
+    Ok(text)
+}
