@@ -68,22 +68,22 @@ fn texts_of(case: Case<'_>, reason: &Reason) -> Result<Vec<Vec<u8>>, AllocError>
     let alloc = case.book.alloc;
     match reason {
         Reason::Missing(name) | Reason::TooManyAnswers(name) => {
-            vec![in alloc; name_text(alloc, name)?]
+            one(alloc, name_text(alloc, name)?)
         }
         Reason::NotPreserved(number) | Reason::DutyRows(number) | Reason::Broken(number) => {
-            vec![in alloc; number_text(alloc, *number)?]
+            one(alloc, number_text(alloc, *number)?)
         }
         Reason::DutyDepth(number) => numbers(alloc, *number, u64::from(case.depth)),
-        Reason::Depth => vec![in alloc; number_text(alloc, u64::from(case.depth))?],
+        Reason::Depth => one(alloc, number_text(alloc, u64::from(case.depth))?),
         Reason::Inconsistent(least, greater) => {
             let least = Vec::from_slice(alloc, least.as_slice())?;
             let greater = Vec::from_slice(alloc, greater.as_slice())?;
-            vec![in alloc; least, greater]
+            two(alloc, least, greater)
         }
         Reason::NameClash(first, second) => {
             numbers(alloc, u64::from(*first), u64::from(*second))
         }
-        Reason::LongName(part) => vec![in alloc; number_text(alloc, u64::from(*part))?],
+        Reason::LongName(part) => one(alloc, number_text(alloc, u64::from(*part))?),
         _ => file_texts(alloc, reason),
     }
 }
@@ -91,23 +91,31 @@ fn texts_of(case: Case<'_>, reason: &Reason) -> Result<Vec<Vec<u8>>, AllocError>
 fn numbers(alloc: Global, first: u64, second: u64) -> Result<Vec<Vec<u8>>, AllocError> {
     let first = number_text(alloc, first)?;
     let second = number_text(alloc, second)?;
-    vec![in alloc; first, second]
+    two(alloc, first, second)
+}
+
+fn one(alloc: Global, text: Vec<u8>) -> Result<Vec<Vec<u8>>, AllocError> {
+    Ok(vec![in alloc; text]?)
+}
+
+fn two(alloc: Global, first: Vec<u8>, second: Vec<u8>) -> Result<Vec<Vec<u8>>, AllocError> {
+    Ok(vec![in alloc; first, second]?)
 }
 
 /// The texts of a reason that is told of a file: a record, a column and the file, as far as there are some.
 fn file_texts(alloc: Global, reason: &Reason) -> Result<Vec<Vec<u8>>, AllocError> {
     match reason {
-        Reason::BadHeader(file) => vec![in alloc; Vec::from_slice(alloc, file.as_slice())?],
+        Reason::BadHeader(file) => one(alloc, Vec::from_slice(alloc, file.as_slice())?),
         Reason::NotCsv(file, record) | Reason::DoubleId(file, record) => {
             let record = number_text(alloc, u64::from(*record))?;
             let file = Vec::from_slice(alloc, file.as_slice())?;
-            vec![in alloc; record, file]
+            two(alloc, record, file)
         }
         Reason::BadCell(file, record, column) | Reason::NoSuchId(file, record, column) => {
             let record = number_text(alloc, u64::from(*record))?;
             let column = number_text(alloc, u64::from(*column))?;
             let file = Vec::from_slice(alloc, file.as_slice())?;
-            vec![in alloc; record, column, file]
+            Ok(vec![in alloc; record, column, file]?)
         }
         _ => Ok(Vec::new(alloc)),
     }
@@ -116,7 +124,10 @@ fn file_texts(alloc: Global, reason: &Reason) -> Result<Vec<Vec<u8>>, AllocError
 /// Appends that the declared name is taken, and where it is declared.
 fn append_taken(case: Case<'_>, out: &mut Vec<u8>) -> Result<(), AllocError> {
     append_where(case.book, case.place, case.decl, out)?;
-    let texts = vec![in case.book.alloc; name_text(case.book.alloc, &case.decl.name)?]?;
+    let texts = one(
+        case.book.alloc,
+        name_text(case.book.alloc, &case.decl.name)?,
+    )?;
     append_texts(case.book.alloc, Code::NameTaken, texts.as_slice(), out)?;
     for decl in case.book.program.decls.as_slice() {
         if decl.name == case.decl.name {
@@ -170,7 +181,7 @@ fn append_wrong_kind(case: Case<'_>, out: &mut Vec<u8>) -> Result<(), AllocError
 /// Appends the place, and a sentence with the name that stands there.
 fn append_named(case: Case<'_>, code: Code, out: &mut Vec<u8>) -> Result<(), AllocError> {
     append_where(case.book, case.place, case.decl, out)?;
-    let texts = vec![in case.book.alloc; name_at(case)?]?;
+    let texts = one(case.book.alloc, name_at(case)?)?;
     append_texts(case.book.alloc, code, texts.as_slice(), out)
 }
 
@@ -178,7 +189,7 @@ fn append_named(case: Case<'_>, code: Code, out: &mut Vec<u8>) -> Result<(), All
 fn name_at(case: Case<'_>) -> Result<Vec<u8>, AllocError> {
     let first = case.book.page.token_at(case.place);
     let found = match first {
-        Some(token) if case.book.page.spelling(token) == b"entity" => {
+        Some(token) if case.book.page.spelling(token) == b"entity".as_slice() => {
             case.book.page.token_behind(case.place)
         }
         _ => first,
@@ -218,7 +229,7 @@ fn append_unknown_at(
     out: &mut Vec<u8>,
 ) -> Result<(), AllocError> {
     append_where(case.book, unknown.place, case.decl, out)?;
-    let texts = vec![in case.book.alloc; name_text(case.book.alloc, &unknown.name)?]?;
+    let texts = one(case.book.alloc, name_text(case.book.alloc, &unknown.name)?)?;
     append_texts(case.book.alloc, Code::Unknown, texts.as_slice(), out)?;
     append_near(&unknown.near, out)
 }

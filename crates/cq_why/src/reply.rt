@@ -29,8 +29,10 @@ pub fn reply_to<F: Folder>(
         (F.state folder.old) reply.status reply.text.items) }
 {
     let all = run_words(alloc, words)?;
-    match read_run_words(alloc, all.as_slice())? {
-        Some(asked) => reply_about(alloc, all.as_slice(), asked, folder),
+    let all_words = all.as_slice();
+    let found = read_run_words(alloc, all_words)?;
+    match found {
+        Some(asked) => reply_about(alloc, all_words, asked, folder),
         None => {
             let text = notice(alloc, words)?;
             Ok(Reply {
