@@ -5,3 +5,5 @@ pub mod Passing
 pub mod Tabling
 pub mod Sheeting
 pub mod Firsts
+pub mod Celling
+pub mod Filing

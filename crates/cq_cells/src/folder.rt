@@ -158,7 +158,7 @@ pub struct Report {
 }
 
 /// Reads the file `DIR/ENTITY.csv` of each entity of the schema, and lists the faults.
-pub fn report<F: Folder>(
+pub fn examine<F: Folder>(
     alloc: Global,
     folder: &mut F,
     dir: &Name,

@@ -15,5 +15,5 @@ mod rows;
 mod tables;
 
 pub use faults::{Fault, Kind};
-pub use folder::{Report, Unread, report};
-pub use readings::Reading;
+pub use folder::{Report, examine};
+pub use readings::{Reading, Unread};
