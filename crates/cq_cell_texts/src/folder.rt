@@ -11,7 +11,7 @@ use cq_base::Name;
 use cq_cells::{Fault, Kind, Reading, Report, Unread, examine};
 use cq_import::columns::{Column, columns, header};
 use cq_io::Folder;
-use cq_lines::{find_place, go_on, start};
+use cq_lines::{find_place, go_on, is_left_open, start};
 use cq_theory::Schema;
 use csv::ByteRecord;
 use std::alloc::{AllocError, Global};
@@ -51,15 +51,18 @@ fn append_no_text(sheet: &Sheet, column: usize, bytes: &[u8], out: &mut Vec<u8>)
     append(&[b". Save the file in UTF-8: in a spreadsheet, as \"CSV UTF-8\".\n"], out)
 }
 
-/// Appends how many fields a record has.
-fn append_width(sheet: &Sheet, fields: &ByteRecord, out: &mut Vec<u8>) -> Result<(), AllocError> {
-    append(&[b"it has "], out)?;
-    append_number(fields.len() as u64, out)?;
-    append(&[b" fields, and the header "], out)?;
-    append_number(sheet.wanted.len() as u64, out)?;
-    append(&[b".\n  "], out)?;
-    append_record(fields, out)?;
-    append(&[b"\n"], out)?;
+/// Appends how the number of a record's fields is mended.
+fn append_mend(
+    sheet: &Sheet,
+    fields: &ByteRecord,
+    rest: &[u8],
+    out: &mut Vec<u8>,
+) -> Result<(), AllocError> {
+    if is_left_open(rest) {
+        append(&[b"  In column "], out)?;
+        append(&[column_name(sheet.wanted, fields.len().saturating_sub(1))], out)?;
+        return append(&[b" a double quote is opened and not closed, so that all that follows is one cell. Close it.\n"], out);
+    }
     if fields.len() > sheet.wanted.len() {
         append(&[b"  Delete what is too much, or put a text with a comma between double quotes.\n"], out)
     } else {
@@ -67,10 +70,32 @@ fn append_width(sheet: &Sheet, fields: &ByteRecord, out: &mut Vec<u8>) -> Result
     }
 }
 
-/// Appends why a record is no row.
-fn append_not_csv(sheet: &Sheet, fields: &ByteRecord, out: &mut Vec<u8>) -> Result<(), AllocError> {
+/// Appends how many fields a record has, which begins with the bytes `rest`.
+fn append_width(
+    sheet: &Sheet,
+    fields: &ByteRecord,
+    rest: &[u8],
+    out: &mut Vec<u8>,
+) -> Result<(), AllocError> {
+    append(&[b"it has "], out)?;
+    append_number(fields.len() as u64, out)?;
+    append(&[b" fields, and the header "], out)?;
+    append_number(sheet.wanted.len() as u64, out)?;
+    append(&[b".\n  "], out)?;
+    append_record(fields, out)?;
+    append(&[b"\n"], out)?;
+    append_mend(sheet, fields, rest, out)
+}
+
+/// Appends why a record, which begins with the bytes `rest`, is no row.
+fn append_not_csv(
+    sheet: &Sheet,
+    fields: &ByteRecord,
+    rest: &[u8],
+    out: &mut Vec<u8>,
+) -> Result<(), AllocError> {
     if fields.len() != sheet.wanted.len() {
-        return append_width(sheet, fields, out);
+        return append_width(sheet, fields, rest, out);
     }
     append(&[b"its bytes are no text.\n"], out)?;
     for column in 0..fields.len() {
@@ -92,7 +117,7 @@ fn append_double(told: &Told, fault: &Fault, id: &[u8], out: &mut Vec<u8>) -> Re
 }
 
 /// The entity to which the foreign key in a column leads.
-fn find_target(sheet: &Sheet, column: u32) -> Option<&Name> {
+fn find_target<'a>(sheet: &Sheet<'a>, column: u32) -> Option<&'a Name> {
     match sheet.columns.get((column as usize).saturating_sub(2)) {
         Some(Column::Key(_, target)) => sheet.schema.entities.as_slice().get(*target as usize),
         _ => None,
@@ -113,19 +138,21 @@ fn append_no_such_id(sheet: &Sheet, fault: &Fault, id: &[u8], out: &mut Vec<u8>)
     append(&[b"  Write an id that stands there, add the record there, or leave the cell empty.\n"], out)
 }
 
-/// Appends what is wrong in a record.
+/// Appends what is wrong in a record, which begins in a line with the bytes `rest`.
 fn append_in_record(
     told: &Told,
     fault: &Fault,
     line: u32,
-    fields: &ByteRecord,
+    rest: &[u8],
     out: &mut Vec<u8>,
 ) -> Result<(), AllocError> {
     let sheet = told.sheet;
+    let record = first_record(sheet.alloc, rest)?;
+    let fields = &record;
     let cell = field(fields, (fault.column as usize).saturating_sub(1));
     append_place(sheet, fault, line, out)?;
     match fault.kind {
-        Kind::NotCsv => append_not_csv(sheet, fields, out),
+        Kind::NotCsv => append_not_csv(sheet, fields, rest, out),
         Kind::DoubleId => append_double(told, fault, cell, out),
         Kind::NoSuchId => append_no_such_id(sheet, fault, cell, out),
         _ => append_rule(sheet, fault.column, cell, out),
@@ -149,10 +176,7 @@ fn append_fault(
             let fields = first_record(sheet.alloc, sheet.text)?;
             append_header(sheet, line, &fields, out)
         }
-        _ => {
-            let fields = first_record(sheet.alloc, rest)?;
-            append_in_record(told, fault, line, &fields, out)
-        }
+        _ => append_in_record(told, fault, line, rest, out),
     }
 }
 

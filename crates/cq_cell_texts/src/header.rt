@@ -127,11 +127,21 @@ fn append_extra(fields: &ByteRecord, wanted: &[Name], out: &mut Vec<u8>) -> Resu
     Ok(())
 }
 
-/// Appends the names that stand too often, where all of them are wanted.
+/// Whether each field is a wanted name.
+fn are_wanted(fields: &ByteRecord, wanted: &[Name]) -> bool {
+    for column in 0..fields.len() {
+        if !is_wanted(wanted, field(fields, column)) {
+            return false;
+        }
+    }
+    true
+}
+
+/// Appends the names that are missing, those that aren't wanted, and that some stand more than once.
 fn append_names(fields: &ByteRecord, wanted: &[Name], out: &mut Vec<u8>) -> Result<(), AllocError> {
     append_missing(fields, wanted, out)?;
     append_extra(fields, wanted, out)?;
-    if fields.len() > wanted.len() && has_all(fields, wanted) {
+    if has_all(fields, wanted) && are_wanted(fields, wanted) {
         append(&[b"  Each column may stand once.\n"], out)?;
     }
     Ok(())
@@ -190,7 +200,7 @@ pub fn append_header(sheet: &Sheet, line: u32, fields: &ByteRecord, out: &mut Ve
     append_line(sheet, line, out)?;
     append(&[b": this is another header than the one that is wanted.\n  wanted: "], out)?;
     append_wanted(sheet.wanted, out)?;
-    if difference != Difference::Empty {
+    if difference != Difference::Empty && difference != Difference::Utf16 {
         append(&[b"  there:  "], out)?;
         append_record(fields, out)?;
         append(&[b"\n"], out)?;

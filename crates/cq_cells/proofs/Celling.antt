@@ -1,6 +1,7 @@
 -- One cell that is tested.
-use Rattle.std.proofs.Common.{ℕ, List, [], ◌∷◌, ◌++◌, ◌≡◌, ◌==◌, Option, Some, None, Bool, true, false, length, refl, sym, ap, subst, ◌∙◌, arith}
-use Rattle.std.specs.Prelude.{is_some}
+use Rattle.std.proofs.Common.{ℕ, List, [], ◌∷◌, ◌++◌, ◌+◌, ◌≡◌, ◌==◌, Option, Some, None, Result, Ok, Err, Bool, true, false, length, refl, sym, ap, subst, ◌∙◌, arith}
+use Rattle.std.specs.Prelude.{OnOk, is_some}
+use Rattle.std.specs.declared.alloc.AllocError.{AllocError}
 use Rattle.cq_theory.specs.declared.value.Value.{Value}
 use Rattle.cq_theory.specs.TypesideData.{TypesideData as Typeside}
 use Rattle.cq_import.specs.declared.columns.Column.{Column}
@@ -8,6 +9,7 @@ use Rattle.cq_import.specs.declared.columns.Column.TheVariants.{Attribute, Key}
 use Rattle.cq_import.specs.declared.content.Content.{Content}
 use Rattle.cq_import.specs.declared.content.Content.TheVariants.{Blank, Wrong, Means}
 use Rattle.cq_import.specs.declared.labels.Trouble.{Trouble}
+use Rattle.cq_import.specs.declared.labels.Trouble.TheVariants as trouble
 use Rattle.cq_import.specs.Cells.{Cell, Sheet, cell_fault, cell_uses, column_fault, column_uses, content_fault, content_of, key_fault, missing_id, row_with_id, trouble_fault, uses_of}
 use Rattle.cq_import.specs.Faults.{Fault, BadCell, NoSuchId}
 use Rattle.cq_import.specs.Labels.{Labels, Room, Use, uses_in, uses_trouble, with_uses}
@@ -16,7 +18,7 @@ use Rattle.cq_cells.specs.declared.cells.Over.{Over}
 use Rattle.cq_cells.specs.declared.cells.Pass.{Pass}
 use Rattle.cq_cells.specs.Found.{Found, found_in}
 use Rattle.cq_cells.specs.Passes.{Passes, cell_shown, sheets_over, typeside_over}
-use Rattle.cq_cells.specs.Shown.{Lists}
+use Rattle.cq_cells.specs.Shown.{Lists, told, trouble_kind}
 use Rattle.cq_cells.proofs.Listing.{lists_none, lists_same}
 use Rattle.cq_cells.proofs.Passing.{pass_off, pass_on}
 
@@ -39,6 +41,12 @@ found_key cell (Some r) is = refl
 missing_key : (cell : Cell) (row : Option ℕ) → false ≡ is_some row → missing_id cell row ≡ Some (NoSuchId cell.file cell.row_number cell.column_number)
 missing_key cell None is = refl
 missing_key cell (Some r) is = cc is
+
+-- what is told of a label
+pub told_trouble : (cell : RustCell) (generator : ℕ) (t : Trouble) (name : ℕ → List ℕ)
+    → found_in (Some (told (trouble_kind t) (name cell.file) cell.number cell.place)) None ≡ found_in (trouble_fault (cell_shown generator cell name) (Some t)) None
+told_trouble cell generator trouble.Wrong name = refl
+told_trouble cell generator trouble.Full name = refl
 
 module _ (over : Over) (old new : Pass) (cell : RustCell) (generator : ℕ) (going : old.going ≡ true) where
   abbrev shown_cell : (ℕ → List ℕ) → Cell
@@ -124,3 +132,9 @@ module _ (over : Over) (old new : Pass) (cell : RustCell) (generator : ℕ) (goi
           (lists_same old.faults new.faults (λ name. found_in (trouble_fault (shown_cell name) (Some trouble)) None) (λ name. found_in (fault_in name) None)
           (λ name. sym (ap (λ f. found_in f None) (content_is (Means v) is name ∙ ap (trouble_fault (shown_cell name)) wrong))) lists)
           trouble (λ name. ap (uses_trouble (Some over.most) old.labels) (uses_are (Means v) is) ∙ wrong) goes
+
+      pub attribute_stopped : (result : Result (Unit {0}) AllocError) (trouble : Trouble) → uses_trouble (Some over.most) old.labels (uses_in (typeside_over over) v type) ≡ Some trouble
+          → OnOk result (new.going ≡ false) → OnOk result (Lists old.faults new.faults (λ name. found_in (trouble_fault (shown_cell name) (Some trouble)) None))
+          → OnOk result (Passes over old new (λ name. shown_cell name ∷ []))
+      attribute_stopped (Ok u) trouble wrong goes lists = attribute_troubled trouble wrong goes lists
+      attribute_stopped (Err e) trouble wrong goes lists = tt

@@ -1,6 +1,6 @@
 -- Tables of ids to which one more id is added.
-use Rattle.std.proofs.Common.{ℕ, suc, Bool, true, false, not, List, [], ◌∷◌, ◌++◌, ◌+◌, ◌<◌, ◌≡◌, ◌⊎◌, inl, inr, Option, Some, None, cond, length, map, drop, refl, sym, ap, subst, ◌∙◌, add-one, arith}
-use Rattle.std.specs.Prelude.{is_some, option_map, position}
+use Rattle.std.proofs.Common.{ℕ, suc, Bool, true, false, not, List, [], ◌∷◌, ◌++◌, ◌+◌, ◌<◌, ◌≡◌, ◌⊎◌, inl, inr, Option, Some, None, Result, Ok, Err, cond, length, map, drop, refl, sym, ap, subst, ◌∙◌, add-one, arith}
+use Rattle.std.specs.Prelude.{IfOk, OnOk, is_some, option_map, position}
 use Rattle.std.specs.Cmp.Lexicographic.{bytes_decides}
 use Rattle.std.specs.Str.{bytes_eq}
 use Rattle.std.specs.Map.{lookup}
@@ -20,14 +20,14 @@ moved false (Some n) here count = refl
 moved false None true count = refl
 moved false None false count = refl
 
+alone : (b : Bool) → cond b (Some 0) (option_map suc None) ≡ or_last None b 0
+unfolding or_last
+alone true = refl
+alone false = refl
+
 -- the number of an id among ids with one more
 position_more : (p : List ℕ → Bool) (ids : List (List ℕ)) (id : List ℕ) → position p (ids ++ id ∷ []) ≡ or_last (position p ids) (p id) (length ids)
 position_more p [] id = position-cons p id [] ∙ alone (p id)
-  where
-    alone : (b : Bool) → cond b (Some 0) (option_map suc (position p [])) ≡ or_last None b 0
-    unfolding or_last
-    alone true = refl
-    alone false = refl
 position_more p (x ∷ ids) id =
     position-cons p x (ids ++ id ∷ [])
     ∙ ap (λ o. cond (p x) (Some 0) (option_map suc o)) (position_more p ids id)
@@ -106,3 +106,13 @@ index_more ids id number old new before index many is kept noted = elim (found_o
   | inl none ↦ index_noted ids id number old new index (sym is ∙ none) many (noted none)
   | inr some ↦ index_kept ids id old new index (ap is_some (sym is) ∙ ap is_some some.1) (kept (ap is_some some.1))
 ]
+
+-- the same of a note that may want memory
+pub index_on_ok : {E : Type 0} (result : Result (Option ℕ) E) (ids : List (List ℕ)) (id same : List ℕ) (number : ℕ) (old new : List (List ℕ × ℕ)) → IsIndexOf ids old → length ids ≡ number → same ≡ id
+    → IfOk result (λ before. before ≡ lookup (same_name same) old)
+    → IfOk result (λ before. is_some before ≡ true → new ≡ old)
+    → IfOk result (λ before. before ≡ None → (other : List ℕ) → lookup (same_name other) new ≡ cond (same_name same other) (Some number) (lookup (same_name other) old))
+    → OnOk result (IsIndexOf (ids ++ id ∷ []) new)
+index_on_ok (Ok before) ids id same number old new index many is known kept noted =
+    subst (λ i. IsIndexOf (ids ++ i ∷ []) new) is (index_more ids same number old new before index many known kept noted)
+index_on_ok (Err e) ids id same number old new index many is known kept noted = tt

@@ -7,3 +7,4 @@ pub mod Sheeting
 pub mod Firsts
 pub mod Celling
 pub mod Filing
+pub mod Whole

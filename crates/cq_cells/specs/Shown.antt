@@ -4,6 +4,8 @@ use Rattle.cq_import.specs.Faults.{Fault as ImportFault, Absent as AbsentFault, 
 use Rattle.cq_cells.specs.declared.faults.Fault.{Fault}
 use Rattle.cq_cells.specs.declared.faults.Kind.{Kind}
 use Rattle.cq_cells.specs.declared.faults.Kind.TheVariants.{Absent, TooLong, NotCsv, BadHeader, BadCell, DoubleId, NoSuchId, TooLarge}
+use Rattle.cq_import.specs.declared.labels.Trouble.{Trouble}
+use Rattle.cq_import.specs.declared.labels.Trouble.TheVariants as trouble
 use Rattle.cq_cells.specs.Found.{Found}
 
 -- what import tells of such a fault
@@ -16,6 +18,11 @@ told BadCell file number column = BadCellFault file number column
 told DoubleId file number column = DoubleIdFault file number
 told NoSuchId file number column = NoSuchIdFault file number column
 told TooLarge file number column = TooLargeFault
+
+-- what is told of a label that is wrong, or one too many
+abbrev pub trouble_kind : Trouble → Kind
+trouble_kind trouble.Wrong = BadCell
+trouble_kind trouble.Full = TooLarge
 
 -- over the names of the files by their numbers
 abbrev pub shown : (ℕ → List ℕ) → Fault → Found

@@ -39,7 +39,7 @@ finished st.InComment fields field = refl
 finished st.AfterCr fields field = refl
 
 -- the bytes from a place on
-cut : (text : List ℕ) (at : ℕ) → at < length text → drop at text ≡ get_or text at 0 ∷ drop (at + 1) text
+pub cut : (text : List ℕ) (at : ℕ) → at < length text → drop at text ≡ get_or text at 0 ∷ drop (at + 1) text
 cut text at within = rw add-one (drop-cons text at 0 within)
 
 module _ (text : List ℕ) (at : ℕ) (within : at < length text) (s0 s t : State) (from : List ℕ) (goes : Goes s0 from s (drop at text)) (to : t ≡ (step default_config s (get_or text at 0)).0) where

@@ -1,4 +1,6 @@
+use Rattle.std.proofs.Common.{◌∷◌, ◌++◌, [], subst}
 use Rattle.cq_import.proofs.Checked.{ended, taken}
+use Rattle.cq_cells.specs.Index.{IsIndexOf}
 use Rattle.cq_cells.proofs.Rowing.{noted_all, noted_count, noted_more, noted_start}
 use Rattle.cq_cells.proofs.index.index_rows.Goals as goal
 
@@ -19,4 +21,4 @@ pub loop-number-preserved : goal.loop-number-preserved
 loop-number-preserved c = λ rows remains.
     let on = c.loop-number.invariant rows remains in
     let takes = taken _ on.others _ _ c.if-not-branch.false (c.in_ok-next.ensures on.others on.remains) in
-    noted_more _ _ _ rows on _ _ takes _ ?
+    noted_more _ _ _ rows on _ _ takes _ (subst (λ f. IsIndexOf (on.ids ++ f ∷ []) c.note_id.new.places) c.field.ensures (c.in_ok-note_id.ensures.index on.ids on.index on.many))
