@@ -1,17 +1,18 @@
 //! All faults of a folder, line by line.
-ghost use Rattle.std.specs.Prelude.{◌≡◌, ◌<◌, ◌≤◌, ◌^◌, length};
+ghost use Rattle.std.specs.Prelude.{◌<◌, ◌^◌, length};
+ghost use Rattle.cq_lines.specs.Walks.{IsPlace};
 
 use crate::bytes::{append, append_hex, append_number, append_quoted};
 use crate::header::{append_header, append_wanted};
 use crate::numbers::{earlier_lines, line_among};
 use crate::records::{append_record, field, first_record};
-use crate::rules::append_rule;
+use crate::rules::{append_entry_rule, append_rule};
 use crate::sheet::{Sheet, append_file, append_line, append_place, column_name};
 use cq_base::Name;
-use cq_cells::{Fault, Kind, Reading, Report, Unread, examine};
+use cq_cells::{Fault, Kind, Report, Unread, bytes_of, examine};
 use cq_import::columns::{Column, columns, header};
 use cq_io::Folder;
-use cq_lines::{find_place, go_on, is_left_open, start};
+use cq_lines::{Place, find_place, is_left_open, start, walk_to};
 use cq_theory::Schema;
 use csv::ByteRecord;
 use std::alloc::{AllocError, Global};
@@ -26,7 +27,12 @@ struct Told<'a> {
 /// Appends that a file is absent.
 fn append_absent(sheet: &Sheet, out: &mut Vec<u8>) -> Result<(), AllocError> {
     append_file(sheet.dir, sheet.entity, out)?;
-    append(&[b" is absent: there has to be one file for each entity of the schema.\n  Its first line is: "], out)?;
+    let why: &[u8] = if sheet.is_entries {
+        b"import_csv2 reads it beside the files of the entities, and import_csv doesn't"
+    } else {
+        b"there has to be one file for each entity of the schema"
+    };
+    append(&[b" is absent: ", why, b".\n  Its first line is: "], out)?;
     append_wanted(sheet.wanted, out)
 }
 
@@ -37,18 +43,29 @@ fn append_too_long(sheet: &Sheet, out: &mut Vec<u8>) -> Result<(), AllocError> {
 }
 
 /// Appends the first byte of a field that belongs to no letter.
-fn append_no_text(sheet: &Sheet, column: usize, bytes: &[u8], out: &mut Vec<u8>) -> Result<(), AllocError> {
+fn append_no_text(
+    sheet: &Sheet,
+    column: usize,
+    bytes: &[u8],
+    out: &mut Vec<u8>,
+) -> Result<(), AllocError> {
     let Err(error) = str::from_utf8(bytes) else {
         return Ok(());
     };
     let at = error.valid_up_to();
-    append(&[b"  Column ", column_name(sheet.wanted, column), b": "], out)?;
+    append(
+        &[b"  Column ", column_name(sheet.wanted, column), b": "],
+        out,
+    )?;
     append_quoted(bytes, out)?;
     append(&[b" is not UTF-8: byte "], out)?;
     append_number((at as u64).saturating_add(1), out)?;
     append(&[b" is "], out)?;
     append_hex(bytes.get(at).copied().unwrap_or(0), out)?;
-    append(&[b". Save the file in UTF-8: in a spreadsheet, as \"CSV UTF-8\".\n"], out)
+    append(
+        &[b". Save the file in UTF-8: in a spreadsheet, as \"CSV UTF-8\".\n"],
+        out,
+    )
 }
 
 /// Appends how the number of a record's fields is mended.
@@ -60,13 +77,27 @@ fn append_mend(
 ) -> Result<(), AllocError> {
     if is_left_open(rest) {
         append(&[b"  In column "], out)?;
-        append(&[column_name(sheet.wanted, fields.len().saturating_sub(1))], out)?;
-        return append(&[b" a double quote is opened and not closed, so that all that follows is one cell. Close it.\n"], out);
+        append(
+            &[column_name(sheet.wanted, fields.len().saturating_sub(1))],
+            out,
+        )?;
+        return append(
+            &[
+                b" a double quote is opened and not closed, so that all that follows is one cell. Close it.\n",
+            ],
+            out,
+        );
     }
     if fields.len() > sheet.wanted.len() {
-        append(&[b"  Delete what is too much, or put a text with a comma between double quotes.\n"], out)
+        append(
+            &[b"  Delete what is too much, or put a text with a comma between double quotes.\n"],
+            out,
+        )
     } else {
-        append(&[b"  Add the commas that are missing: an empty cell has one too.\n"], out)
+        append(
+            &[b"  Add the commas that are missing: an empty cell has one too.\n"],
+            out,
+        )
     }
 }
 
@@ -105,7 +136,12 @@ fn append_not_csv(
 }
 
 /// Appends where an id stood first.
-fn append_double(told: &Told, fault: &Fault, id: &[u8], out: &mut Vec<u8>) -> Result<(), AllocError> {
+fn append_double(
+    told: &Told,
+    fault: &Fault,
+    id: &[u8],
+    out: &mut Vec<u8>,
+) -> Result<(), AllocError> {
     let before = fault.before.unwrap_or(0);
     append(&[b"the id "], out)?;
     append_quoted(id, out)?;
@@ -113,7 +149,10 @@ fn append_double(told: &Told, fault: &Fault, id: &[u8], out: &mut Vec<u8>) -> Re
     append_number(line_among(told.earlier, before) as u64, out)?;
     append(&[b" (record "], out)?;
     append_number((before as u64).saturating_add(1), out)?;
-    append(&[b").\n  Give one of the two another id, or delete it.\n"], out)
+    append(
+        &[b").\n  Give one of the two another id, or delete it.\n"],
+        out,
+    )
 }
 
 /// The entity to which the foreign key in a column leads.
@@ -125,7 +164,12 @@ fn find_target<'a>(sheet: &Sheet<'a>, column: u32) -> Option<&'a Name> {
 }
 
 /// Appends that no record has an id.
-fn append_no_such_id(sheet: &Sheet, fault: &Fault, id: &[u8], out: &mut Vec<u8>) -> Result<(), AllocError> {
+fn append_no_such_id(
+    sheet: &Sheet,
+    fault: &Fault,
+    id: &[u8],
+    out: &mut Vec<u8>,
+) -> Result<(), AllocError> {
     append_quoted(id, out)?;
     append(&[b" is the id of no record of "], out)?;
     if let Some(target) = find_target(sheet, fault.column) {
@@ -135,7 +179,10 @@ fn append_no_such_id(sheet: &Sheet, fault: &Fault, id: &[u8], out: &mut Vec<u8>)
     if id.trim_ascii().len() < id.len() {
         append(&[b"  It begins or ends with a space.\n"], out)?;
     }
-    append(&[b"  Write an id that stands there, add the record there, or leave the cell empty.\n"], out)
+    append(
+        &[b"  Write an id that stands there, add the record there, or leave the cell empty.\n"],
+        out,
+    )
 }
 
 /// Appends what is wrong in a record, which begins in a line with the bytes `rest`.
@@ -155,60 +202,63 @@ fn append_in_record(
         Kind::NotCsv => append_not_csv(sheet, fields, rest, out),
         Kind::DoubleId => append_double(told, fault, cell, out),
         Kind::NoSuchId => append_no_such_id(sheet, fault, cell, out),
+        _ if sheet.is_entries => append_entry_rule(fault.column, cell, out),
         _ => append_rule(sheet, fault.column, cell, out),
     }
 }
 
-/// Appends a fault of a file, which begins in a line with the bytes `rest`.
+/// Appends a fault of a file, at the place of its record.
 fn append_fault(
     told: &Told,
     fault: &Fault,
-    line: u32,
-    rest: &[u8],
+    place: Place,
     out: &mut Vec<u8>,
-) -> Result<(), AllocError> {
+) -> Result<(), AllocError>
+    requires { IsPlace told.now.sheet.now.text.now fault.now.number place }
+{
     let sheet = told.sheet;
     match fault.kind {
         Kind::Absent => append_absent(sheet, out),
         Kind::TooLong => append_too_long(sheet, out),
-        Kind::TooLarge => append(&[b"The records of the files and the nulls in them are over 16,000,000.\n"], out),
+        Kind::TooLarge => append(
+            &[b"The records of the files and the nulls in them are over 16,000,000.\n"],
+            out,
+        ),
         Kind::BadHeader => {
             let fields = first_record(sheet.alloc, sheet.text)?;
-            append_header(sheet, line, &fields, out)
+            append_header(sheet, place.line, &fields, out)
         }
-        _ => append_in_record(told, fault, line, rest, out),
+        _ => append_in_record(told, fault, place.line, &sheet.text[place.at..], out),
     }
 }
 
 /// Appends the faults of a file, in order.
-fn append_faults(told: &Told, file: u32, faults: &[Fault], out: &mut Vec<u8>) -> Result<(), AllocError>
+fn append_faults(
+    told: &Told,
+    file: u32,
+    faults: &[Fault],
+    out: &mut Vec<u8>,
+) -> Result<(), AllocError>
     requires { length told.now.sheet.now.text.now < 2 ^ 31 }
 {
     let text = told.sheet.text;
     let mut walk = start(text);
     for fault in faults {
         if fault.file == file {
-            if walk.number <= fault.number {
-                walk = go_on(text, walk, fault.number);
-            }
-            let place = find_place(text, walk);
-            append_fault(told, fault, place.line, &text[place.at..], out)?;
+            walk = walk_to(text, walk, fault.number);
+            append_fault(told, fault, find_place(text, walk), out)?;
         }
     }
     Ok(())
 }
 
-/// The bytes that were read; none, where none were.
-fn bytes_of(reading: &Reading) -> &[u8] {
-    match reading {
-        Reading::Text(text) => text.as_slice(),
-        Reading::Absent => &[],
-        Reading::TooLong => &[],
-    }
-}
-
 /// Appends the faults of the file of an entity, in order.
-fn append_file_faults(sheet: &Sheet, file: u32, faults: &[Fault], out: &mut Vec<u8>) -> Result<(), AllocError> {
+pub fn append_file_faults(
+    sheet: &Sheet,
+    file: u32,
+    faults: &[Fault],
+    out: &mut Vec<u8>,
+) -> Result<(), AllocError> {
     if sheet.text.len() >= 1 << 31 {
         return Err(AllocError);
     }
@@ -253,6 +303,7 @@ pub fn append_report(
                 columns: list,
                 wanted: wanted.as_slice(),
                 text: bytes_of(&readings[file]),
+                is_entries: false,
             };
             append_file_faults(&sheet, file as u32, faults, out)?;
         }

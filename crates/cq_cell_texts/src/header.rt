@@ -24,12 +24,18 @@ enum Difference {
 
 /// Whether a text begins as one in UTF-16 does.
 fn is_utf16(text: &[u8]) -> bool {
-    text.starts_with(b"\xFF\xFE") || text.starts_with(b"\xFE\xFF") || text.first() == Some(&0) || text.get(1) == Some(&0)
+    text.starts_with(b"\xFF\xFE")
+        || text.starts_with(b"\xFE\xFF")
+        || text.first() == Some(&0)
+        || text.get(1) == Some(&0)
 }
 
 /// The byte that stands between names in place of a comma.
 fn find_separator(first: &[u8]) -> Option<u8> {
-    [b';', b'\t', b'|'].iter().copied().find(|byte| first.contains(byte))
+    [b';', b'\t', b'|']
+        .iter()
+        .copied()
+        .find(|byte| first.contains(byte))
 }
 
 fn is_among(fields: &ByteRecord, name: &[u8]) -> bool {
@@ -47,7 +53,9 @@ fn is_wanted(wanted: &[Name], name: &[u8]) -> bool {
 
 /// Whether each wanted name is among the fields.
 fn has_all(fields: &ByteRecord, wanted: &[Name]) -> bool {
-    wanted.iter().all(|name| is_among(fields, name.as_str().as_bytes()))
+    wanted
+        .iter()
+        .all(|name| is_among(fields, name.as_str().as_bytes()))
 }
 
 /// Whether two names are one but for upper and lower case, and spaces around them.
@@ -106,10 +114,21 @@ pub fn append_wanted(wanted: &[Name], out: &mut Vec<u8>) -> Result<(), AllocErro
 }
 
 /// Appends the names that are wanted and don't stand.
-fn append_missing(fields: &ByteRecord, wanted: &[Name], out: &mut Vec<u8>) -> Result<(), AllocError> {
+fn append_missing(
+    fields: &ByteRecord,
+    wanted: &[Name],
+    out: &mut Vec<u8>,
+) -> Result<(), AllocError> {
     for name in wanted {
         if !is_among(fields, name.as_str().as_bytes()) {
-            append(&[b"  Column ", name.as_str().as_bytes(), b" is missing: add it, with empty cells if nothing is known.\n"], out)?;
+            append(
+                &[
+                    b"  Column ",
+                    name.as_str().as_bytes(),
+                    b" is missing: add it, with empty cells if nothing is known.\n",
+                ],
+                out,
+            )?;
         }
     }
     Ok(())
@@ -121,7 +140,10 @@ fn append_extra(fields: &ByteRecord, wanted: &[Name], out: &mut Vec<u8>) -> Resu
         if !is_wanted(wanted, field(fields, column)) {
             append(&[b"  Column "], out)?;
             append_quoted(field(fields, column), out)?;
-            append(&[b" isn't wanted: delete it, or add it to the schema.\n"], out)?;
+            append(
+                &[b" isn't wanted: delete it, or add it to the schema.\n"],
+                out,
+            )?;
         }
     }
     Ok(())
@@ -153,7 +175,14 @@ fn append_cases(fields: &ByteRecord, wanted: &[Name], out: &mut Vec<u8>) -> Resu
         if field(fields, column) != name.as_str().as_bytes() {
             append(&[b"  Rename "], out)?;
             append_quoted(field(fields, column), out)?;
-            append(&[b" to \"", name.as_str().as_bytes(), b"\": upper and lower case differ, and so do spaces.\n"], out)?;
+            append(
+                &[
+                    b" to \"",
+                    name.as_str().as_bytes(),
+                    b"\": upper and lower case differ, and so do spaces.\n",
+                ],
+                out,
+            )?;
         }
     }
     Ok(())
@@ -184,21 +213,45 @@ fn append_difference(
     out: &mut Vec<u8>,
 ) -> Result<(), AllocError> {
     match difference {
-        Difference::Empty => append(&[b"  The file is empty. Its first line has to be this header.\n"], out),
-        Difference::Utf16 => append(&[b"  The file is in UTF-16. Save it in UTF-8: in a spreadsheet, as \"CSV UTF-8\".\n"], out),
+        Difference::Empty => append(
+            &[b"  The file is empty. Its first line has to be this header.\n"],
+            out,
+        ),
+        Difference::Utf16 => append(
+            &[b"  The file is in UTF-16. Save it in UTF-8: in a spreadsheet, as \"CSV UTF-8\".\n"],
+            out,
+        ),
         Difference::Separator(separator) => append_separator(separator, out),
-        Difference::Mark => append(&[b"  Two marks of byte order (U+FEFF) stand at the head of the file. Delete one of them.\n"], out),
-        Difference::Order => append(&[b"  The columns are right, in another order. Move them into the order that is wanted.\n"], out),
+        Difference::Mark => append(
+            &[
+                b"  Two marks of byte order (U+FEFF) stand at the head of the file. Delete one of them.\n",
+            ],
+            out,
+        ),
+        Difference::Order => append(
+            &[
+                b"  The columns are right, in another order. Move them into the order that is wanted.\n",
+            ],
+            out,
+        ),
         Difference::Case => append_cases(fields, wanted, out),
         Difference::Names => append_names(fields, wanted, out),
     }
 }
 
 /// Appends the header that is wanted beside the one that is there, and what differs.
-pub fn append_header(sheet: &Sheet, line: u32, fields: &ByteRecord, out: &mut Vec<u8>) -> Result<(), AllocError> {
+pub fn append_header(
+    sheet: &Sheet,
+    line: u32,
+    fields: &ByteRecord,
+    out: &mut Vec<u8>,
+) -> Result<(), AllocError> {
     let difference = find_difference(sheet.text, fields, sheet.wanted);
     append_line(sheet, line, out)?;
-    append(&[b": this is another header than the one that is wanted.\n  wanted: "], out)?;
+    append(
+        &[b": this is another header than the one that is wanted.\n  wanted: "],
+        out,
+    )?;
     append_wanted(sheet.wanted, out)?;
     if difference != Difference::Empty && difference != Difference::Utf16 {
         append(&[b"  there:  "], out)?;

@@ -8,6 +8,8 @@ mod header;
 mod numbers;
 mod records;
 mod rules;
+mod second;
 mod sheet;
 
 pub use folder::{append_folder, append_report};
+pub use second::append_folder2;

@@ -1,8 +1,9 @@
 //! Lines of records.
-ghost use Rattle.std.specs.Prelude.{◌<◌, ◌^◌, length};
+ghost use Rattle.std.specs.Prelude.{ℕ, ◌≡◌, ◌+◌, ◌<◌, ◌^◌, All, IfOk, length};
+ghost use Rattle.cq_lines.specs.Lines.{line_of};
 
 use cq_cells::Fault;
-use cq_lines::{find_place, go_on, start};
+use cq_lines::{find_place, start, walk_to};
 use std::alloc::{AllocError, Global};
 
 /// The numbers of records, from 0, with which others share their ids, in order.
@@ -27,17 +28,17 @@ pub fn earlier_lines(
     text: &[u8],
 ) -> Result<Vec<(u32, u32)>, AllocError>
     requires { length text.now < 2 ^ 31 }
+    // The header is a record before them.
+    ensures { IfOk result (λ lines. All (λ p. p.1 ≡ line_of text.now (p.0 + 1)) lines.items) }
 {
     let numbers = earlier_records(alloc, faults, file)?;
     let mut lines = Vec::new(alloc);
     let mut walk = start(text);
     for number in &numbers {
-        // behind the header too
-        let behind = number.saturating_add(1);
-        if walk.number <= behind {
-            walk = go_on(text, walk, behind);
+        if *number < u32::MAX {
+            walk = walk_to(text, walk, *number + 1);
+            lines.push((*number, find_place(text, walk).line))?;
         }
-        lines.push((*number, find_place(text, walk).line))?;
     }
     Ok(lines)
 }

@@ -19,7 +19,11 @@ fn append_constants(typeside: &Typeside, sort: u32, out: &mut Vec<u8>) -> Result
     let mut count = 0u32;
     for (name, of) in typeside.constants.as_slice() {
         if *of == sort && count < 5 {
-            let before: &[u8] = if count == 0 { b"  Constants of this type: " } else { b", " };
+            let before: &[u8] = if count == 0 {
+                b"  Constants of this type: "
+            } else {
+                b", "
+            };
             append(&[before], out)?;
             append_quoted(name.as_str().as_bytes(), out)?;
             count += 1;
@@ -49,31 +53,69 @@ fn append_constant(
     };
     match typeside.find_constant(&name) {
         Some(number) => append_other_type(typeside, number, sort, out)?,
-        None => append(&[b"  The type ", type_name(typeside, sort), b" isn't open, and it has no such constant.\n"], out)?,
+        None => append(
+            &[
+                b"  The type ",
+                type_name(typeside, sort),
+                b" isn't open, and it has no such constant.\n",
+            ],
+            out,
+        )?,
     }
     append_constants(typeside, sort, out)
 }
 
 /// Appends that a constant is of another type.
-fn append_other_type(typeside: &Typeside, number: u32, sort: u32, out: &mut Vec<u8>) -> Result<(), AllocError> {
+fn append_other_type(
+    typeside: &Typeside,
+    number: u32,
+    sort: u32,
+    out: &mut Vec<u8>,
+) -> Result<(), AllocError> {
     let of: &[u8] = match typeside.constants.as_slice().get(number as usize) {
         Some((_, of)) => type_name(typeside, *of),
         None => &[],
     };
-    append(&[b"  It is a constant of the type ", of, b", and the column has the type ", type_name(typeside, sort), b".\n"], out)
+    append(
+        &[
+            b"  It is a constant of the type ",
+            of,
+            b", and the column has the type ",
+            type_name(typeside, sort),
+            b".\n",
+        ],
+        out,
+    )
 }
 
 /// Appends why a cell that begins with `?` is no null there.
 fn append_null(field: &[u8], out: &mut Vec<u8>) -> Result<(), AllocError> {
     if read_label(field).is_some() {
-        append(&[b"  This null stood before in a column of another type. Number it otherwise.\n"], out)
+        append(
+            &[
+                b"  This null is of another type, by a column before or by its record in entries-2.csv, or has no record",
+                b" there. Number it otherwise.\n",
+            ],
+            out,
+        )
     } else {
-        append(&[b"  Behind ? stands a number of one to nine digits that doesn't begin with 0. Leave the cell empty if nothing is known.\n"], out)
+        append(
+            &[
+                b"  Behind ? stands a number of one to nine digits that doesn't begin with 0.",
+                b" Leave the cell empty if nothing is known.\n",
+            ],
+            out,
+        )
     }
 }
 
 /// Appends which rule the cell of an attribute breaks.
-fn append_attribute(sheet: &Sheet, sort: u32, field: &[u8], out: &mut Vec<u8>) -> Result<(), AllocError> {
+fn append_attribute(
+    sheet: &Sheet,
+    sort: u32,
+    field: &[u8],
+    out: &mut Vec<u8>,
+) -> Result<(), AllocError> {
     let typeside: &Typeside = &sheet.schema.typeside;
     match field.first() {
         Some(b'?') => append_null(field, out),
@@ -81,7 +123,8 @@ fn append_attribute(sheet: &Sheet, sort: u32, field: &[u8], out: &mut Vec<u8>) -
             &[
                 b"  Behind = a value of the type ",
                 type_name(typeside, sort),
-                b" is wanted as it is printed. For a text that begins with =, write =\"..\" with the text between the quotes.\n",
+                b" is wanted as it is printed.",
+                b" For a text that begins with =, write =\"..\" with the text between the quotes.\n",
             ],
             out,
         ),
@@ -97,12 +140,51 @@ pub fn append_rule(
     out: &mut Vec<u8>,
 ) -> Result<(), AllocError> {
     if column == 1 {
-        return append(&[b"the id is empty.\n  Each record needs an id, another one for each record of the file.\n"], out);
+        return append(
+            &[
+                b"the id is empty.\n  Each record needs an id, another one for each record of the file.\n",
+            ],
+            out,
+        );
     }
     append_quoted(field, out)?;
     append(&[b" means nothing there.\n"], out)?;
     match sheet.columns.get((column as usize).saturating_sub(2)) {
         Some(Column::Attribute(_, sort)) => append_attribute(sheet, *sort, field, out),
         _ => Ok(()),
+    }
+}
+
+/// Appends what stands in a column of the file of the nulls and the entries.
+pub fn append_entry_rule(column: u32, field: &[u8], out: &mut Vec<u8>) -> Result<(), AllocError> {
+    append_quoted(field, out)?;
+    append(&[b" means nothing there.\n"], out)?;
+    append_entry_column(column, out)?;
+    append(
+        &[
+            b"  An export writes this file: take it from there as it is, or import the folder by import_csv,",
+            b" which doesn't read it.\n",
+        ],
+        out,
+    )
+}
+
+fn append_entry_column(column: u32, out: &mut Vec<u8>) -> Result<(), AllocError> {
+    match column {
+        1 => append(&[b"  The first column is \"null\" or \"entry\".\n"], out),
+        2 => append(
+            &[
+                b"  In the record of a null stands ? and a label that no record before it has;",
+                b" in that of an entry a function at its arguments, over nulls that have a record.\n",
+            ],
+            out,
+        ),
+        _ => append(
+            &[
+                b"  In the record of a null stands the name of its type;",
+                b" in that of an entry a value of the function's type, over nulls that have a record.\n",
+            ],
+            out,
+        ),
     }
 }

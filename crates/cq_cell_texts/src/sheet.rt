@@ -6,7 +6,7 @@ use cq_import::columns::Column;
 use cq_theory::Schema;
 use std::alloc::{AllocError, Global};
 
-/// A file with its name, the header that it must have, and its bytes.
+/// A file with its folder and its name there before `.csv`, the header that it must have, and its bytes.
 #[derive(Clone, Copy)]
 pub struct Sheet<'a> {
     pub alloc: Global,
@@ -16,6 +16,8 @@ pub struct Sheet<'a> {
     pub columns: &'a [Column],
     pub wanted: &'a [Name],
     pub text: &'a [u8],
+    /// Whether it is the file of the nulls and the entries.
+    pub is_entries: bool,
 }
 
 /// Appends the name of the file of an entity.

@@ -16,4 +16,4 @@ mod tables;
 
 pub use faults::{Fault, Kind};
 pub use folder::{Report, examine};
-pub use readings::{Reading, Unread};
+pub use readings::{Reading, Unread, bytes_of, read_file};

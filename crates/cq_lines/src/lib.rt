@@ -6,4 +6,4 @@ mod stand;
 mod walk;
 
 pub use quotes::is_left_open;
-pub use walk::{Place, Walk, find_place, go_on, start};
+pub use walk::{Place, Walk, find_place, start, walk_to};
