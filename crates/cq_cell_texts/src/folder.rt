@@ -1,5 +1,5 @@
 //! All faults of a folder, line by line.
-ghost use Rattle.std.specs.Prelude.{◌<◌, ◌^◌, length};
+ghost use Rattle.std.specs.Prelude.{◌≡◌, ◌<◌, ◌^◌, length};
 ghost use Rattle.cq_lines.specs.Walks.{IsPlace};
 
 use crate::bytes::{append, append_hex, append_number, append_quoted};
@@ -326,7 +326,9 @@ pub fn append_folder<F: Folder>(
     dir: &Name,
     schema: &Schema,
     out: &mut Vec<u8>,
-) -> Result<(), Unread> {
+) -> Result<(), Unread>
+    ensures { (F.state folder.new).files ≡ (F.state folder.old).files }
+{
     let found = examine(alloc, folder, dir, schema)?;
     append_report(alloc, schema, dir, &found, out)?;
     Ok(())

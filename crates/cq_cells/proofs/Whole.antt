@@ -29,7 +29,7 @@ module _ (name : ℕ → List ℕ) (S : Schema) (readings : List Reading) (made 
   contents_large large =
       let over : nat_lt most_generators (total S (sheets_read name S readings)) ≡ true = let same = total_is in grind (arith, nat_tests) in
       sym (ap (λ b. if b then found_in (Some TooLarge) None
-        else cells_found (sheets_read name S readings) S.typeside (Some (most_generators - total S (sheets_read name S readings))) [] (all_cells S (sheets_read name S readings))) over)
+      else cells_found (sheets_read name S readings) S.typeside (Some (most_generators - total S (sheets_read name S readings))) [] (all_cells S (sheets_read name S readings))) over)
 
   pub contents_few : (most : ℕ) → sum (map (λ (i : Indexed). i.count) made) ≤ most_generators → most ≡ most_generators - sum (map (λ (i : Indexed). i.count) made)
       → cells_found (sheets_read name S readings) S.typeside (Some most) [] (all_cells S (sheets_read name S readings)) ≡ contents_found name S readings
@@ -37,7 +37,7 @@ module _ (name : ℕ → List ℕ) (S : Schema) (readings : List Reading) (made 
       let under : nat_lt most_generators (total S (sheets_read name S readings)) ≡ false = let same = total_is in grind (arith, nat_tests) in
       ap (λ n. cells_found (sheets_read name S readings) S.typeside (Some n) [] (all_cells S (sheets_read name S readings))) (is ∙ ap (λ n. most_generators - n) (sym total_is))
       ∙ sym (ap (λ b. if b then found_in (Some TooLarge) None
-        else cells_found (sheets_read name S readings) S.typeside (Some (most_generators - total S (sheets_read name S readings))) [] (all_cells S (sheets_read name S readings))) under)
+      else cells_found (sheets_read name S readings) S.typeside (Some (most_generators - total S (sheets_read name S readings))) [] (all_cells S (sheets_read name S readings))) under)
 
 -- some faults are the front of all
 whole : (items : List Fault) (name : ℕ → List ℕ) → length items ≤ most_faults → take most_faults (map (shown name) items) ≡ map (shown name) items

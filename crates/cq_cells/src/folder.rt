@@ -59,7 +59,14 @@ fn check_files(
     schema.is_well_sorted();
     for entity in 0..schema.entities.len() as u32 {
         let list = columns[entity as usize].as_slice();
-        check_file(alloc, schema, list, entity, &readings[entity as usize], faults)?;
+        check_file(
+            alloc,
+            schema,
+            list,
+            entity,
+            &readings[entity as usize],
+            faults,
+        )?;
     }
     Ok(())
 }
@@ -164,6 +171,7 @@ pub fn examine<F: Folder>(
     dir: &Name,
     schema: &Schema,
 ) -> Result<Report, Unread>
+    ensures files { (F.state folder.new).files ≡ (F.state folder.old).files }
     ensures faults { IfOk result (λ r. (name : ℕ → List ℕ)
         → map (shown name) r.faults.items ≡ take most_faults (folder_found name schema.now r.readings.items)) }
 

@@ -105,6 +105,7 @@ pub fn read_files<F: Folder>(
     dir: &Name,
     schema: &Schema,
 ) -> Result<Vec<Reading>, Unread>
+    ensures files { (F.state folder.new).files ≡ (F.state folder.old).files }
     ensures count { IfOk result (λ made. length made.items ≡ length schema.now.entities) }
     ensures told { IfOk result (λ made. IfSome (F.state folder.old).files
         (λ files. AreReadings files dir.now schema.now made.items)) }

@@ -4,6 +4,7 @@ ghost use Rattle.cq_parts.specs.Few.{part_count};
 ghost use Rattle.cq_stating.specs.Environment.{AreSettled, environment_of};
 
 use crate::case::Case;
+use crate::folders::append_folder_faults;
 use cq_io::Folder;
 use cq_stating::Reason;
 use std::alloc::AllocError;
@@ -21,7 +22,12 @@ pub fn append_details<F: Folder>(
     ensures { (F.state folder.new).files ≡ (F.state folder.old).files }
 {
     match reason {
-        Reason::Inconsistent(_, _) => Ok(()),
+        Reason::NotCsv(_, _)
+        | Reason::BadHeader(_)
+        | Reason::BadCell(_, _, _)
+        | Reason::DoubleId(_, _)
+        | Reason::NoSuchId(_, _, _)
+        | Reason::ManyRecords => append_folder_faults(case, folder, out),
         _ => Ok(()),
     }
 }

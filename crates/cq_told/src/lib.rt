@@ -10,6 +10,7 @@ mod broken;
 mod case;
 mod codes;
 mod details;
+mod folders;
 mod page;
 mod steps;
 mod texts;
