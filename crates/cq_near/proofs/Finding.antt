@@ -1,5 +1,5 @@
 -- The nearest of the names so far.
-use Rattle.std.proofs.Common.{◌≡◌, ◌+◌, ◌<◌, ◌≤◌, ℕ, List, length, get_or}
+use Rattle.std.proofs.Common.{◌≡◌, ◌<◌, ◌≤◌, ℕ, List, get_or}
 use Rattle.cq_base.specs.declared.name.Name.{Name}
 use Rattle.cq_near.specs.Nearest.{edits, most_edits}
 

@@ -1,7 +1,7 @@
 -- What is filled in at a byte.
-use Rattle.std.proofs.Common.{◌≡◌, ◌<◌, ◌+◌, ◌++◌, ◌∷◌, ℕ, suc, List, Bor, ap, sym, ◌∙◌, length, get_or, drop, drop-cons, map, add-one, arith}
-use Rattle.std.proofs.lemmas.List.{drop-map, append_assoc, at_drop_more}
-use Rattle.cq_sentences.specs.Filled.{filled, left_behind, piece}
+use Rattle.std.proofs.Common.{◌≡◌, ◌<◌, ◌+◌, ◌++◌, ◌∷◌, ℕ, suc, List, Bor, ap, sym, ◌∙◌, length, get_or, drop, drop-cons, map, add-one}
+use Rattle.std.proofs.lemmas.List.{drop-map}
+use Rattle.cq_sentences.specs.Filled.{left_behind, piece}
 
 -- the texts of which so many are used, where there is one more
 pub next_text : (texts : List (Bor (List ℕ))) (used : ℕ) (text : Bor (List ℕ)) → used < length texts → text ≡ get_or texts used text

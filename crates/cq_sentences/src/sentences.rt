@@ -1,6 +1,5 @@
-//! What is said of each code: one sentence, and what there is to mend, to follow
-//! the words `To mend it:`. A `#` stands for a name or a number that is filled
-//! in.
+//! What is said of each code: one sentence, and what there is to mend, to follow the words `To mend it:`. A `#` stands for
+//! a name or a number that is filled in.
 //!
 //! `docs/sentences.py` compares this file with the table in `docs/LANGUAGE.md`.
 use crate::code::{Code, Unread};
