@@ -6,3 +6,5 @@ pub mod Beginnings
 pub mod Nexts
 pub mod Leading
 pub mod Opened
+pub mod Counting
+pub mod Growing

@@ -51,23 +51,23 @@ module _ (S : Schema) (P : Presentation) (k : ℕ) (p : Partial) (rows : IsSatur
   module _ (members : List Member) (reached : List Bool) (level : IsLevel S P m entries k members reached) where
     -- the term of a member whose row has an empty cell is new
     pub open_is_new : (x : Member) → IsOpen m members x → IsNew S P k x.name
-    open_is_new x open =
-        let lead = level.member open.place x open.there in
-        let at = open.open_at in
+    open_is_new x opened =
+        let lead = level.member opened.place x opened.there in
+        let at = opened.open_at in
         let entity = row_entity m x.row in
-        let step = step_same S P entity open.key in
-        let by_keys : step_of (map ends_of S.keys) entity open.key ≡ Some at.entity = ap (λ (l : List (ℕ × ℕ)). step_of l entity open.key) (sym rows.keys) ∙ at.goes in
-        let edge = has_key (slice_get S.keys open.key) entity at.entity (sym step ∙ by_keys) in
+        let step = step_same S P entity opened.key in
+        let by_keys : step_of (map ends_of S.keys) entity opened.key ≡ Some at.entity = ap (λ (l : List (ℕ × ℕ)). step_of l entity opened.key) (sym rows.keys) ∙ at.goes in
+        let edge = has_key (slice_get S.keys opened.key) entity at.entity (sym step ∙ by_keys) in
         record {
           entity = entity;
           sorted = lead.entity;
-          goes_on = (open.key, edge.0, edge.1, edge.2);
+          goes_on = (opened.key, edge.0, edge.1, edge.2);
           depth = lead.depth;
           new = λ u e sort less within.
               let one : row_of_term m entries u ≡ Some x.row = sym (rows.within x.name u within) ∙ lead.leads in
               let kind = (row_sort S P m entries rows.whole rows.keys rows.entries u e x.row sort one).1 in
               let sort_here : entity_of S P.generators u ≡ Some entity = sort ∙ ap (λ n. Some n) (sym kind) in
-              none_some (cell_of m x.row open.key) at.empty (filled_below_depth u x.row open.key at.entity sort_here less one at.goes);
+              none_some (cell_of m x.row opened.key) at.empty (filled_below_depth u x.row opened.key at.entity sort_here less one at.goes);
         }
 
     -- where the members' rows have no empty cell, no row has

@@ -23,3 +23,8 @@ abbrev pub TellsGrowth : Schema → Presentation → ℕ → Growth → Type 0
 TellsGrowth S P depth Kept = (p : Partial) × IsSaturated S P depth p
 TellsGrowth S P depth (Passed within) = IsLastWithin S P depth within
 TellsGrowth S P depth AtOnce = SomeWide S P 0
+
+-- what is kept before a stage: nothing, or the rows of the stage before it
+abbrev pub IsSoFar : Schema → Presentation → ℕ → Option Within → Type 0
+IsSoFar S P stage None = stage ≡ 0
+IsSoFar S P stage (Some within) = (within.depth + 1 ≡ stage) × IsSaturated S P within.depth within.rows

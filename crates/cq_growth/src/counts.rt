@@ -1,8 +1,9 @@
 //! How many rows each entity has.
-ghost use Rattle.std.specs.Prelude.{ℕ, ◌≡◌, ◌<◌, ◌≤◌, ◌+◌, ◌^◌, length, map, slice_index, slice_set, IfOk, MatchOption};
+ghost use Rattle.std.specs.Prelude.{◌≡◌, ◌<◌, ◌+◌, ◌^◌, length, map, replicate, slice_index, slice_set};
+ghost use Rattle.std.specs.Prelude.{IfOk, MatchOption};
 ghost use Rattle.cq_tables.specs.Content.{entities_of, made_of, IsWhole};
 ghost use Rattle.cq_theory.specs.Canonical.{below};
-ghost use Rattle.cq_growth.specs.Counts.{rows_of, IsMost};
+ghost use Rattle.cq_growth.specs.Counts.{rows_below, rows_of, IsMost};
 ghost use Rattle.cq_growth.specs.GreatestOf.{IsGreatest};
 
 use cq_tables::Tables;
@@ -24,18 +25,36 @@ fn count_one(counts: &mut [u64], place: u32)
     counts[place as usize] += 1;
 }
 
+/// That many zeros.
+fn zeros(alloc: Global, count: usize) -> Result<Vec<u64>, AllocError>
+    ensures { IfOk result (λ counts. counts.items ≡ replicate count 0) }
+{
+    Ok(vec![in alloc; 0u64; count]?)
+}
+
+/// Counts a row for its entity, if it stands.
+fn count_row(counts: &mut [u64], tables: &Tables, row: u64)
+    requires whole { IsWhole tables.now }
+    requires row { row < made_of tables.now }
+    requires fits { row + 1 < 2 ^ 64 }
+    requires counted { counts.old ≡ map (λ e. rows_below tables.now e row) (below (entities_of tables.now)) }
+    ensures { counts.new ≡ map (λ e. rows_below tables.now e (row + 1)) (below (entities_of tables.now)) }
+{
+    if !tables.live(row) {
+        return;
+    }
+    count_one(counts, tables.entity(row));
+}
+
 /// How many rows each entity has.
 fn count_rows(alloc: Global, tables: &Tables, entities: u32) -> Result<Vec<u64>, AllocError>
     requires whole { IsWhole tables.now }
     requires entities { entities_of tables.now ≡ entities }
     ensures { IfOk result (λ counts. counts.items ≡ map (rows_of tables.now) (below entities)) }
 {
-    let mut counts = vec![in alloc; 0u64; entities as usize]?;
+    let mut counts = zeros(alloc, entities as usize)?;
     for row in 0..tables.made() {
-        if !tables.live(row) {
-            continue;
-        }
-        count_one(&mut counts, tables.entity(row));
+        count_row(&mut counts, tables, row);
     }
     Ok(counts)
 }

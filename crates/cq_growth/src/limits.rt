@@ -1,5 +1,7 @@
 //! The last depth at which the rows are not too many.
-ghost use Rattle.std.specs.Prelude.{ℕ, ◌≡◌, ◌≤◌, IfOk};
+ghost use Rattle.std.specs.Prelude.{◌≡◌, ◌≤◌, IfOk, MatchOption};
+ghost use Rattle.cq_rows.specs.Outline.{IsOutline};
+ghost use Rattle.cq_rows.specs.Saturated.{IsSaturated, SomeWide};
 ghost use Rattle.cq_theory.specs.Presentation.{IsPresentation};
 ghost use Rattle.cq_growth.specs.Limits.{TellsGrowth, growth_of};
 
@@ -49,6 +51,27 @@ fn passed(last: Option<Within>) -> Growth
     }
 }
 
+/// The rows up to a depth, if they are not too many.
+fn rows_up_to(
+    alloc: Global,
+    outline: &Outline,
+    schema: &Schema,
+    presentation: &Presentation,
+    depth: u32,
+) -> Result<Option<Partial>, AllocError>
+    requires outline { IsOutline schema.now outline.now }
+    requires presentation { IsPresentation schema.now presentation.now }
+    requires depth { depth ≤ 64 }
+    ensures { IfOk result (λ rows. MatchOption rows (SomeWide schema.now presentation.now depth)
+        (IsSaturated schema.now presentation.now depth)) }
+{
+    match saturate_over(alloc, outline, schema, presentation, depth) {
+        Ok(rows) => Ok(Some(rows)),
+        Err(RowsRefusal::TooManyRows) => Ok(None),
+        Err(RowsRefusal::Memory) => Err(AllocError),
+    }
+}
+
 /// The last depth, up to the given one, at which the rows of a presentation are at most 200,000 at the end of each
 /// stage, if there are more at the next. The rows of each depth are made anew, as those of lesser ones are few.
 pub fn last_within(
@@ -64,11 +87,10 @@ pub fn last_within(
     let outline = Outline::new(alloc, schema)?;
     let mut last = None;
     for stage in 0..depth + 1 {
-        match saturate_over(alloc, &outline, schema, presentation, stage) {
-            Ok(rows) => last = Some(Within { depth: stage, rows }),
-            Err(RowsRefusal::TooManyRows) => return Ok(passed(last)),
-            Err(RowsRefusal::Memory) => return Err(AllocError),
-        }
+        let Some(rows) = rows_up_to(alloc, &outline, schema, presentation, stage)? else {
+            return Ok(passed(last));
+        };
+        last = Some(Within { depth: stage, rows });
     }
     Ok(Growth::Kept)
 }

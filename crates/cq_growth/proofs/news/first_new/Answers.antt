@@ -12,7 +12,7 @@ returns-in_default c =
     let p = c.args.rows.now in
     let level = c.in_ok-level.level in
     all_filled S P c.args.depth p c.requires.rows level.members.items level.reached.items c.in_ok-level.ensures
-    (subst (λ (members : List Member). AreFilled p.tables members) c.deref.ensures.value ?)
+    (subst (λ (members : List Member). AreFilled p.tables members) c.deref.ensures.value c.in_default.ensures)
 
 pub returns : goal.returns
 returns c =
@@ -22,4 +22,4 @@ returns c =
     let level = c.in_ok-level.level in
     subst (IsNew S P c.args.depth) (sym c.in_ok-name.ensures)
     (open_is_new S P c.args.depth p c.requires.rows level.members.items level.reached.items c.in_ok-level.ensures c.in-Some.member.now
-    (subst (λ (members : List Member). IsOpen p.tables members c.in-Some.member.now) c.deref.ensures.value ?))
+    (subst (λ (members : List Member). IsOpen p.tables members c.in-Some.member.now) c.deref.ensures.value c.in-Some.ensures))
