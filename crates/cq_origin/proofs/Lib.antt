@@ -1,0 +1,4 @@
+mod Splits
+mod Starting
+mod Saying
+mod Telling
