@@ -48,7 +48,13 @@ fn cited_in_part(
 ) -> Result<Vec<u32>, AllocError> {
     let mut cited = Vec::new(alloc);
     for one in told {
-        push_cited(conflict, lengths, number, steps.get(one.step as usize), &mut cited)?;
+        push_cited(
+            conflict,
+            lengths,
+            number,
+            steps.get(one.step as usize),
+            &mut cited,
+        )?;
     }
     cited.sort_unstable();
     cited.dedup();
@@ -78,7 +84,12 @@ fn push_cited(
     let Some(part) = conflict.parts.get(number) else {
         return Ok(());
     };
-    match part.presentation.equations.as_slice().get(place.place as usize) {
+    match part
+        .presentation
+        .equations
+        .as_slice()
+        .get(place.place as usize)
+    {
         Some(equation) => push_sides(equation, cited),
         None => Ok(()),
     }
@@ -159,7 +170,11 @@ pub fn find_parts<F: Folder>(
 }
 
 /// The labels of generators: those of records, or of several parts.
-pub fn labels_in(alloc: Global, telling: &Telling, found: Vec<Label>) -> Result<Vec<Label>, AllocError> {
+pub fn labels_in(
+    alloc: Global,
+    telling: &Telling,
+    found: Vec<Label>,
+) -> Result<Vec<Label>, AllocError> {
     let parts = telling.conflict.parts;
     if parts.len() < 2 {
         return Ok(found);

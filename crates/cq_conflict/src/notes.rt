@@ -160,11 +160,7 @@ fn sum(lengths: &[u64]) -> u64 {
 }
 
 /// Appends the lines from which a step follows.
-fn push_from(
-    numbers: &[Option<u64>],
-    from: &[u64],
-    text: &mut Vec<u8>,
-) -> Result<(), AllocError> {
+fn push_from(numbers: &[Option<u64>], from: &[u64], text: &mut Vec<u8>) -> Result<(), AllocError> {
     for (place, step) in from.iter().enumerate() {
         text.extend_from_slice(word_before(place, from.len()))?;
         if let Some(Some(line)) = numbers.get(*step as usize) {

@@ -92,7 +92,14 @@ fn add_entity_rows<F: Folder>(
         return Ok(());
     };
     let found = find_records(alloc, text.as_slice(), numbers.as_slice())?;
-    add_found(alloc, &files.schema.typeside, name, first, found.as_slice(), rows)
+    add_found(
+        alloc,
+        &files.schema.typeside,
+        name,
+        first,
+        found.as_slice(),
+        rows,
+    )
 }
 
 /// How many generators stand before those that are behind the generators of an entity.

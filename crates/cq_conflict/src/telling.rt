@@ -35,7 +35,14 @@ fn push_lines<F: Folder>(
         numbers: numbers.as_slice(),
     };
     let notes = notes_of(alloc, &noting, telling.steps, telling.told)?;
-    push_told(conflict.schema, &shown, telling.steps, telling.told, notes.as_slice(), text)
+    push_told(
+        conflict.schema,
+        &shown,
+        telling.steps,
+        telling.told,
+        notes.as_slice(),
+        text,
+    )
 }
 
 /// Appends the steps that a reader needs, each in a line with its equation and where it comes from or follows from.

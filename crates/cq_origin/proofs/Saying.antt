@@ -37,10 +37,10 @@ pub from_cells : (sheets : List Sheet) (T : Typeside) (first : ℕ) (labels : La
 from_cells sheets T first labels [] n e h = cc
 from_cells sheets T first labels (cell ∷ cells) n e h =
     let next = with_uses labels (cell_uses T cell) in
-    elim in_either (cell_equations sheets T first next cell) (equations_from sheets T first next cells) n e h [
-      inl i ↦ record { cell = cell; number = 0; at = refl; labels = next; place = i.place; says = i.at }
-    | inr i ↦ let rest = from_cells sheets T first next cells i.place e i.at in
-        record { cell = rest.cell; number = suc rest.number; at = rest.at; labels = rest.labels; place = rest.place; says = rest.says }
+    elim (in_either (cell_equations sheets T first next cell) (equations_from sheets T first next cells) n e h) [
+      | inl i ↦ record { cell = cell; number = 0; at = refl; labels = next; place = i.place; says = i.at }
+      | inr i ↦ let rest = from_cells sheets T first next cells i.place e i.at in
+          record { cell = rest.cell; number = suc rest.number; at = rest.at; labels = rest.labels; place = rest.place; says = rest.says }
     ]
 
 -- a column of an entity
