@@ -108,6 +108,7 @@ fn rows_of_part<F: Folder>(
         Source::Folder(dir) => find_rows(alloc, files_of(part, dir), cited, folder),
         Source::Literal(_) => Ok(Rows::new(alloc)),
         Source::Tables => Ok(Rows::new(alloc)),
+        Source::Unknown => Ok(Rows::new(alloc)),
     }
 }
 

@@ -29,6 +29,6 @@ mod written;
 pub use conflict::conflict;
 pub use constants::{TypedConstant, constant_of_text};
 pub use sources::{Conflict, Files, Part, Rest, Rules, Source};
-pub use telling::push_steps;
+pub use telling::{Constants, push_conflict, push_steps};
 pub use text::push_told;
 pub use told::{Told, told_steps};

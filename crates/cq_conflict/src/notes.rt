@@ -1,7 +1,7 @@
 //! What is noted of a told step: where its equation comes from, or from which lines it follows.
 use crate::places::{push_name, push_place};
 use crate::rows::Line;
-use crate::sources::{Conflict, Rest, Rules};
+use crate::sources::{Conflict, Rest, Rules, Source};
 use crate::told::Told;
 use crate::written::{push_original, push_written};
 use cq_base::{Place, Seq};
@@ -121,7 +121,9 @@ fn push_in_part(noting: &Noting, place: PartPlace, text: &mut Vec<u8>) -> Result
             text.extend_from_slice(b": ")?;
             push_original(part, place.place, text)?;
         }
-        text.extend_from_slice(b", ")?;
+        if !matches!(part.source, Source::Unknown) {
+            text.extend_from_slice(b", ")?;
+        }
     }
     let lines = match noting.lines.get(place.part) {
         Some(lines) => lines.as_slice(),

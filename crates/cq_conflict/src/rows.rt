@@ -146,7 +146,7 @@ fn read<F: Folder>(
     folder: &mut F,
 ) -> Result<Option<Vec<u8>>, AllocError>
     ensures files { (F.state folder.new).files ≡ (F.state folder.old).files }
-    ensures short { IfOk result (λ found. IfSome found (λ text. length text.items < 2 ^ 32)) }
+    ensures short { IfOk result (λ found. IfSome found (λ text. length text.items < 2 ^ 31)) }
 {
     let name = file_name(alloc, dir, entity)?;
     match folder.read(name.as_str(), LONGEST_FILE) {

@@ -1,7 +1,9 @@
 //! Why two constants are equal, as it is told.
-ghost use Rattle.std.specs.Prelude.{◌≡◌, ◌<◌, OnOk, length};
-ghost use Rattle.cq_conflict.specs.Telling.{TellsLines, TellsSteps};
+ghost use Rattle.std.specs.Prelude.{◌≡◌, ◌<◌, IfOk, OnOk, true, false, length};
+ghost use Rattle.cq_conflict.specs.Telling.{TellsConflict, TellsLines, TellsSteps};
 
+use crate::conflict::conflict;
+use crate::constants::constant_of_text;
 use crate::found::{Found, Telling, equation_counts, find_parts, labels_in};
 use crate::labels::shown_presentation;
 use crate::notes::{Noting, notes_of, numbers_of};
@@ -10,6 +12,7 @@ use crate::text::push_told;
 use crate::told::told_steps;
 use cq_io::Folder;
 use cq_steps::Step;
+use cq_theory::Typeside;
 use std::alloc::{AllocError, Global};
 
 /// Appends the lines of the told steps.
@@ -66,4 +69,47 @@ pub fn push_steps<F: Folder>(
         lengths: lengths.as_slice(),
     };
     push_lines(alloc, &telling, folder, text)
+}
+
+/// The texts of two constants.
+#[derive(Clone, Copy)]
+pub struct Constants<'a> {
+    pub least: &'a [u8],
+    pub greater: &'a [u8],
+}
+
+/// Appends why the constants of these texts are equal, and tells whether it does: the word `Because` in a line, and the
+/// lines of a derivation that the checker has passed. Where no derivation is found, the text stays as it was.
+pub fn push_conflict<F: Folder>(
+    alloc: Global,
+    told: &Conflict,
+    constants: &Constants,
+    folder: &mut F,
+    text: &mut Vec<u8>,
+) -> Result<bool, AllocError>
+    ensures files { (F.state folder.new).files ≡ (F.state folder.old).files }
+    ensures told { IfOk result (λ found. found ≡ true → TellsConflict told.now.schema.now told.now.presentation.now
+        constants.now.least.now constants.now.greater.now text.old.items text.new.items) }
+    ensures none { IfOk result (λ found. found ≡ false → text.new.items ≡ text.old.items) }
+{
+    let typeside: &Typeside = &told.schema.typeside;
+    let Some(least) = constant_of_text(alloc, typeside, constants.least)? else {
+        return Ok(false);
+    };
+    let Some(greater) = constant_of_text(alloc, typeside, constants.greater)? else {
+        return Ok(false);
+    };
+    let found = conflict(
+        alloc,
+        told.schema,
+        told.presentation,
+        &least.constant,
+        &greater.constant,
+    )?;
+    let Some(steps) = found else {
+        return Ok(false);
+    };
+    text.extend_from_slice(b"Because\n")?;
+    push_steps(alloc, told, steps.as_slice(), folder, text)?;
+    Ok(true)
 }

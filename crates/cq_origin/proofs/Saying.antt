@@ -15,9 +15,9 @@ use Rattle.cq_import.specs.declared.columns.Column.{Column}
 use Rattle.cq_import.specs.declared.columns.Column.TheVariants.{Attribute, Key}
 use Rattle.cq_import.specs.declared.content.Content.{Content}
 use Rattle.cq_import.specs.declared.content.Content.TheVariants.{Blank, Wrong, Means}
-use Rattle.cq_import.specs.Cells.{Cell, Sheet, all_cells, cell_equations, cell_in, cell_uses, column_equations, content_equations, content_of, entity_cells, equations_from, file_in, key_equations, key_field_equations, row_cells, row_with_id, rows_at, rows_cells, start_of, value_term}
+use Rattle.cq_import.specs.Cells.{Cell, Sheet, all_cells, cell_equations, cell_in, cell_uses, column_equations, content_equations, content_of, entity_cells, equations_from, file_in, key_equations, key_field_equations, row_cells, row_with_id, rows_at, rows_cells, start_of}
 use Rattle.cq_import.specs.Columns.{attribute_columns, attribute_of, columns, key_of}
-use Rattle.cq_import.specs.Labels.{Labels, with_uses}
+use Rattle.cq_import.specs.Labels.{Labels, value_term, with_uses}
 use Rattle.cq_import.specs.Records.{Record}
 use Rattle.cq_origin.specs.declared.cells.Said.{Said}
 use Rattle.cq_origin.specs.Cells.{attribute_said, key_said, said_of}
