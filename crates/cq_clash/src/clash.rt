@@ -1,5 +1,6 @@
 //! Why two constants of a declared instance are equal.
-ghost use Rattle.std.specs.Prelude.{◌≡◌, ◌<◌, ◌^◌};
+ghost use Rattle.std.specs.Prelude.{◌≡◌, ◌<◌, ◌^◌, IfOk};
+ghost use Rattle.cq_clash.specs.Clash.{Tells};
 ghost use Rattle.cq_parts.specs.Few.{part_count};
 ghost use Rattle.cq_stating.specs.Environment.{AreSettled, environment_of};
 ghost use Rattle.cq_stating.specs.Posing.{AreSpan, IsPosed};
@@ -39,6 +40,8 @@ pub fn push_clash<F: Folder>(
     requires few { part_count declared.now.decl.now.body < 2 ^ 32 }
     requires settled { AreSettled (environment_of declared.now.env.now.names.entries) }
     ensures files { (F.state folder.new).files ≡ (F.state folder.old).files }
+    ensures told { IfOk result (Tells constants.now.least.now constants.now.greater.now text.old.items
+        text.new.items) }
 {
     match posed(alloc, declared, folder) {
         Ok(statement) => push_posed(alloc, declared, &statement, constants, folder, text),
@@ -58,6 +61,8 @@ fn push_posed<F: Folder>(
 ) -> Result<bool, AllocError>
     requires posed { IsPosed statement.now }
     ensures files { (F.state folder.new).files ≡ (F.state folder.old).files }
+    ensures told { IfOk result (Tells constants.now.least.now constants.now.greater.now text.old.items
+        text.new.items) }
 {
     let Body::Instance(expression) = &declared.decl.body else {
         return Ok(false);
@@ -95,12 +100,9 @@ struct Told<'a> {
 
 impl<'a> Told<'a> {
     /// What is asked of a presentation over a schema that is printed under a name.
-    fn asked(
-        self,
-        name: &'a Name,
-        schema: &'a Schema,
-        presentation: &'a Presentation,
-    ) -> Asked<'a> {
+    fn asked(self, name: &'a Name, schema: &'a Schema, presentation: &'a Presentation) -> Asked<'a>
+        ensures { result.constants ≡ self.entry.constants }
+    {
         Asked {
             alloc: self.alloc,
             decls: self.decls,
@@ -123,6 +125,8 @@ fn push_sigma<F: Folder>(
 ) -> Result<bool, AllocError>
     requires { instance.now.schema ≡ mapping.now.source }
     ensures files { (F.state folder.new).files ≡ (F.state folder.old).files }
+    ensures told { IfOk result (Tells told.now.constants.least.now told.now.constants.greater.now text.old.items
+        text.new.items) }
 {
     let InstanceExp::Sigma(_, operand) = told.expression else {
         return Ok(false);
@@ -148,6 +152,8 @@ fn push_coeval<F: Folder>(
 ) -> Result<bool, AllocError>
     requires { instance.now.schema ≡ query.now.target }
     ensures files { (F.state folder.new).files ≡ (F.state folder.old).files }
+    ensures told { IfOk result (Tells told.now.constants.least.now told.now.constants.greater.now text.old.items
+        text.new.items) }
 {
     let InstanceExp::Coeval(_, operand) = told.expression else {
         return Ok(false);
@@ -172,6 +178,8 @@ fn push_pushout<F: Folder>(
 ) -> Result<bool, AllocError>
     requires { AreSpan (transform_meant left.now) (transform_meant right.now) }
     ensures files { (F.state folder.new).files ≡ (F.state folder.old).files }
+    ensures told { IfOk result (Tells told.now.constants.least.now told.now.constants.greater.now text.old.items
+        text.new.items) }
 {
     let alloc = told.alloc;
     let first: &Instance = &left.ends.finish.instance;

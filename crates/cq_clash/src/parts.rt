@@ -1,5 +1,6 @@
 //! Of which instances a presentation is made.
-ghost use Rattle.std.specs.Prelude.{◌≡◌};
+ghost use Rattle.std.specs.Prelude.{◌≡◌, IfOk};
+ghost use Rattle.cq_clash.specs.Clash.{Tells};
 
 use crate::writing::{rules_named, source_named};
 use cq_base::Name;
@@ -29,6 +30,8 @@ pub fn push_own<F: Folder>(
     text: &mut Vec<u8>,
 ) -> Result<bool, AllocError>
     ensures files { (F.state folder.new).files ≡ (F.state folder.old).files }
+    ensures told { IfOk result (Tells asked.now.constants.least.now asked.now.constants.greater.now text.old.items
+        text.new.items) }
 {
     let parts = [Part {
         name: None,
@@ -48,6 +51,8 @@ pub fn push_image<F: Folder>(
     text: &mut Vec<u8>,
 ) -> Result<bool, AllocError>
     ensures files { (F.state folder.new).files ≡ (F.state folder.old).files }
+    ensures told { IfOk result (Tells asked.now.constants.least.now asked.now.constants.greater.now text.old.items
+        text.new.items) }
 {
     let parts = [part_of(asked, operand, instance)];
     push_parts(asked, &parts, Rest::None, folder, text)
@@ -63,6 +68,8 @@ pub fn push_glued<F: Folder>(
     text: &mut Vec<u8>,
 ) -> Result<bool, AllocError>
     ensures files { (F.state folder.new).files ≡ (F.state folder.old).files }
+    ensures told { IfOk result (Tells asked.now.constants.least.now asked.now.constants.greater.now text.old.items
+        text.new.items) }
 {
     let parts = [left, right];
     let rest = match start.name {
@@ -81,6 +88,8 @@ pub fn push_parts<F: Folder>(
     text: &mut Vec<u8>,
 ) -> Result<bool, AllocError>
     ensures files { (F.state folder.new).files ≡ (F.state folder.old).files }
+    ensures told { IfOk result (Tells asked.now.constants.least.now asked.now.constants.greater.now text.old.items
+        text.new.items) }
 {
     let conflict = Conflict {
         schema: asked.schema,

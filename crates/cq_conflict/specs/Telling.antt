@@ -1,5 +1,5 @@
 -- What is appended of a derivation.
-use Rattle.std.specs.Prelude.{ℕ, List, ◌++◌, ◌≡◌, codes}
+use Rattle.std.specs.Prelude.{ℕ, List, Bool, true, false, ◌++◌, ◌≡◌, codes}
 use Rattle.cq_theory.specs.declared.constant.Con.{Con}
 use Rattle.cq_theory.specs.ValueText.{con_text}
 use Rattle.cq_proof.specs.Answers.{Proves}
@@ -32,3 +32,8 @@ pub record TellsConflict (S : Schema) (P : Presentation) (least greater old new 
   pub steps : List Step
   pub proves : Proves S P steps (equation_of_constants first second)
   pub tells : TellsSteps S steps (old ++ codes "Because\n") new
+
+-- they are appended, or the text stays as it was
+abbrev pub Tells : Schema → Presentation → List ℕ → List ℕ → List ℕ → List ℕ → Bool → Type 0
+Tells S P least greater old new true = TellsConflict S P least greater old new
+Tells S P least greater old new false = new ≡ old

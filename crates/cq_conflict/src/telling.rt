@@ -1,6 +1,6 @@
 //! Why two constants are equal, as it is told.
-ghost use Rattle.std.specs.Prelude.{◌≡◌, ◌<◌, IfOk, OnOk, true, false, length};
-ghost use Rattle.cq_conflict.specs.Telling.{TellsConflict, TellsLines, TellsSteps};
+ghost use Rattle.std.specs.Prelude.{◌≡◌, ◌<◌, IfOk, OnOk, length};
+ghost use Rattle.cq_conflict.specs.Telling.{Tells, TellsLines, TellsSteps};
 
 use crate::conflict::conflict;
 use crate::constants::constant_of_text;
@@ -88,9 +88,8 @@ pub fn push_conflict<F: Folder>(
     text: &mut Vec<u8>,
 ) -> Result<bool, AllocError>
     ensures files { (F.state folder.new).files ≡ (F.state folder.old).files }
-    ensures told { IfOk result (λ found. found ≡ true → TellsConflict told.now.schema.now told.now.presentation.now
-        constants.now.least.now constants.now.greater.now text.old.items text.new.items) }
-    ensures none { IfOk result (λ found. found ≡ false → text.new.items ≡ text.old.items) }
+    ensures told { IfOk result (Tells told.now.schema.now told.now.presentation.now constants.now.least.now
+        constants.now.greater.now text.old.items text.new.items) }
 {
     let typeside: &Typeside = &told.schema.typeside;
     let Some(least) = constant_of_text(alloc, typeside, constants.least)? else {

@@ -1,5 +1,5 @@
 //! Records of a file by their numbers: the lines in which they begin, and their ids.
-ghost use Rattle.std.specs.Prelude.{◌≡◌, ◌<◌, ◌^◌, [], IfOk, length, slice_index_or};
+ghost use Rattle.std.specs.Prelude.{◌≡◌, ◌<◌, ◌^◌, [], IfOk, OnOk, length, slice_index_or};
 ghost use Rattle.csv.specs.Machine.{next_record};
 ghost use Rattle.csv.specs.Reading.{default_config, strip_bom};
 ghost use Rattle.csv.specs.Records.{fields_of};
@@ -82,6 +82,22 @@ fn record_behind(alloc: Global, text: &[u8], walk: Walk) -> Result<FoundRecord, 
     })
 }
 
+/// Adds the record behind a walk over a text.
+fn push_record(
+    alloc: Global,
+    text: &[u8],
+    walk: Walk,
+    found: &mut Vec<FoundRecord>,
+) -> Result<(), AllocError>
+    requires walk { IsWalk text.now walk }
+    requires found { AreFound text.now found.old.items }
+    ensures { OnOk result (AreFound text.now found.new.items) }
+{
+    let record = record_behind(alloc, text, walk)?;
+    found.push(record)?;
+    Ok(())
+}
+
 /// The records of a text of less than 2 GiB that have these numbers, which rise. One that is below the one before it is
 /// left out.
 pub fn find_records(
@@ -95,10 +111,11 @@ pub fn find_records(
     let mut found = Vec::new(alloc);
     let mut walk = start(text);
     for number in numbers {
-        if walk.number <= *number {
-            walk = go_on(text, walk, *number);
-            found.push(record_behind(alloc, text, walk)?)?;
+        if *number < walk.number {
+            continue;
         }
+        walk = go_on(text, walk, *number);
+        push_record(alloc, text, walk, &mut found)?;
     }
     Ok(found)
 }
