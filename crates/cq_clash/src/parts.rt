@@ -4,7 +4,7 @@ ghost use Rattle.cq_clash.specs.Clash.{Tells};
 
 use crate::writing::{rules_named, source_named};
 use cq_base::Name;
-use cq_conflict::{Conflict, Constants, Part, Rest, Source, push_conflict};
+use cq_conflict::{Constants, Explained, Part, Rest, Source, push_conflict};
 use cq_instance::Instance;
 use cq_io::Folder;
 use cq_syntax::Decl;
@@ -91,7 +91,7 @@ pub fn push_parts<F: Folder>(
     ensures told { IfOk result (Tells asked.now.constants.least.now asked.now.constants.greater.now text.old.items
         text.new.items) }
 {
-    let conflict = Conflict {
+    let conflict = Explained {
         schema: asked.schema,
         presentation: asked.presentation,
         rules: rules_named(asked.decls, asked.name),

@@ -50,7 +50,7 @@ pub struct Rules<'a> {
 /// What is explained: steps of a derivation over a presentation, whose equations are those of the parts, or their images,
 /// one part behind the other, and then the rest.
 #[derive(Clone, Copy)]
-pub struct Conflict<'a> {
+pub struct Explained<'a> {
     pub schema: &'a Schema,
     pub presentation: &'a Presentation,
     pub rules: Rules<'a>,

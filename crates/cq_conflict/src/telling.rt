@@ -2,12 +2,12 @@
 ghost use Rattle.std.specs.Prelude.{◌≡◌, ◌<◌, IfOk, OnOk, length};
 ghost use Rattle.cq_conflict.specs.Telling.{Tells, TellsLines, TellsSteps};
 
-use crate::conflict::conflict;
 use crate::constants::constant_of_text;
 use crate::found::{Found, Telling, equation_counts, find_parts, labels_in};
 use crate::labels::shown_presentation;
 use crate::notes::{Noting, notes_of, numbers_of};
-use crate::sources::Conflict;
+use crate::seeking::conflict;
+use crate::sources::Explained;
 use crate::text::push_told;
 use crate::told::told_steps;
 use cq_io::Folder;
@@ -23,23 +23,23 @@ fn push_lines<F: Folder>(
     text: &mut Vec<u8>,
 ) -> Result<(), AllocError>
     ensures files { (F.state folder.new).files ≡ (F.state folder.old).files }
-    ensures told { OnOk result (TellsLines telling.now.conflict.now.schema.now telling.now.steps.now telling.now.told.now
+    ensures told { OnOk result (TellsLines telling.now.explained.now.schema.now telling.now.steps.now telling.now.told.now
         text.old.items text.new.items) }
 {
     let Found { lines, labels } = find_parts(alloc, telling, folder)?;
     let labels = labels_in(alloc, telling, labels)?;
-    let conflict = telling.conflict;
-    let shown = shown_presentation(alloc, conflict.presentation, labels.as_slice())?;
+    let explained = telling.explained;
+    let shown = shown_presentation(alloc, explained.presentation, labels.as_slice())?;
     let numbers = numbers_of(alloc, telling.steps.len(), telling.told)?;
     let noting = Noting {
-        conflict,
+        explained,
         lengths: telling.lengths,
         lines: lines.as_slice(),
         numbers: numbers.as_slice(),
     };
     let notes = notes_of(alloc, &noting, telling.steps, telling.told)?;
     push_told(
-        conflict.schema,
+        explained.schema,
         &shown,
         telling.steps,
         telling.told,
@@ -51,19 +51,19 @@ fn push_lines<F: Folder>(
 /// Appends the steps that a reader needs, each in a line with its equation and where it comes from or follows from.
 pub fn push_steps<F: Folder>(
     alloc: Global,
-    conflict: &Conflict,
+    explained: &Explained,
     steps: &[Step],
     folder: &mut F,
     text: &mut Vec<u8>,
 ) -> Result<(), AllocError>
     requires steps { 0 < length steps.now }
     ensures files { (F.state folder.new).files ≡ (F.state folder.old).files }
-    ensures told { OnOk result (TellsSteps conflict.now.schema.now steps.now text.old.items text.new.items) }
+    ensures told { OnOk result (TellsSteps explained.now.schema.now steps.now text.old.items text.new.items) }
 {
     let told = told_steps(alloc, steps)?;
-    let lengths = equation_counts(alloc, conflict.parts)?;
+    let lengths = equation_counts(alloc, explained.parts)?;
     let telling = Telling {
-        conflict,
+        explained,
         steps,
         told: told.as_slice(),
         lengths: lengths.as_slice(),
@@ -82,7 +82,7 @@ pub struct Constants<'a> {
 /// lines of a derivation that the checker has passed. Where no derivation is found, the text stays as it was.
 pub fn push_conflict<F: Folder>(
     alloc: Global,
-    told: &Conflict,
+    told: &Explained,
     constants: &Constants,
     folder: &mut F,
     text: &mut Vec<u8>,

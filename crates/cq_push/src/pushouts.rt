@@ -1,5 +1,5 @@
 //! Pushouts.
-ghost use Rattle.std.specs.Prelude.{◌≡◌, ◌≤◌, ◌<◌, ◌+◌, ◌++◌, ◌⊎◌, ◌∷◌, [], IfOk, IfErr, OnOk, Err, length};
+ghost use Rattle.std.specs.Prelude.{◌≡◌, ◌≤◌, ◌<◌, ◌+◌, ◌++◌, ◌⊎◌, ◌∷◌, [], true, IfOk, IfErr, OnOk, Err, length};
 ghost use Rattle.cq_rows.specs.Saturated.{NoneCloses, SomeWide};
 ghost use Rattle.cq_theory.specs.declared.constant.Con.{Con as AnyCon};
 ghost use Rattle.cq_theory.specs.declared.constant.Con.TheVariants.{Named};
