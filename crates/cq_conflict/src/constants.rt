@@ -1,5 +1,5 @@
 //! Constants by their printed texts.
-ghost use Rattle.std.specs.Prelude.{◌≡◌, IfOk, IfSome};
+ghost use Rattle.std.specs.Prelude.{◌≡◌, Some, IfOk, IfSome};
 ghost use Rattle.cq_theory.specs.Typeside.{constant_type};
 ghost use Rattle.cq_theory.specs.ValueText.{con_text};
 

@@ -45,11 +45,7 @@ fn push_column(schema: &Schema, column: Column, text: &mut Vec<u8>) -> Result<()
     ensures { OnOk result (text.new.items ≡ text.old.items ++ column_text schema.now column) }
 {
     match column {
-        Column::Attribute(attribute, _) => push_edge(
-            schema.attributes.as_slice(),
-            attribute,
-            text,
-        ),
+        Column::Attribute(attribute, _) => push_edge(schema.attributes.as_slice(), attribute, text),
         Column::Key(key, _) => push_edge(schema.keys.as_slice(), key, text),
     }
 }
@@ -77,8 +73,8 @@ fn push_file(files: Files, entity: u32, text: &mut Vec<u8>) -> Result<(), AllocE
 }
 
 /// Appends the line of a file where it is known, and else the number of the record.
-fn push_line(line: Option<u32>, record: u64, text: &mut Vec<u8>) -> Result<(), AllocError>
-    ensures { OnOk result (text.new.items ≡ text.old.items ++ line_text line record) }
+fn push_line(line: Option<u32>, number: u64, text: &mut Vec<u8>) -> Result<(), AllocError>
+    ensures { OnOk result (text.new.items ≡ text.old.items ++ line_text line number) }
 {
     match line {
         Some(line) => {
@@ -87,7 +83,7 @@ fn push_line(line: Option<u32>, record: u64, text: &mut Vec<u8>) -> Result<(), A
         }
         None => {
             text.extend_from_slice(b"record ")?;
-            push_number(record, text)
+            push_number(number, text)
         }
     }
 }

@@ -92,7 +92,14 @@ fn add_entity_rows<F: Folder>(
         return Ok(());
     };
     let found = find_records(alloc, text.as_slice(), numbers.as_slice())?;
-    add_found(alloc, &files.schema.typeside, name, first, found.as_slice(), rows)
+    add_found(
+        alloc,
+        &files.schema.typeside,
+        name,
+        first,
+        found.as_slice(),
+        rows,
+    )
 }
 
 /// How many generators stand before those that are behind the generators of an entity.
@@ -139,7 +146,7 @@ fn read<F: Folder>(
     folder: &mut F,
 ) -> Result<Option<Vec<u8>>, AllocError>
     ensures files { (F.state folder.new).files ≡ (F.state folder.old).files }
-    ensures short { IfOk result (λ found. IfSome found (λ text. length text.items < 2 ^ 32)) }
+    ensures short { IfOk result (λ found. IfSome found (λ text. length text.items < 2 ^ 31)) }
 {
     let name = file_name(alloc, dir, entity)?;
     match folder.read(name.as_str(), LONGEST_FILE) {

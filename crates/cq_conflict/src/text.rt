@@ -1,6 +1,6 @@
 //! The lines of a derivation that is told.
-ghost use Rattle.std.specs.Prelude.{◌≡◌, ◌++◌, ◌∷◌, [], codes, OnOk, slice_get};
-ghost use Rattle.cq_conflict.specs.Text.{from_text, note_at, step_text, told_line, told_lines};
+ghost use Rattle.std.specs.Prelude.{◌≡◌, ◌++◌, OnOk, option_copied};
+ghost use Rattle.cq_conflict.specs.Text.{note_at, step_text, told_line, told_lines};
 
 use crate::told::Told;
 use cq_base::Seq;
@@ -17,7 +17,7 @@ fn push_step(
     text: &mut Vec<u8>,
 ) -> Result<(), AllocError>
     ensures { OnOk result (text.new.items ≡ text.old.items
-        ++ step_text schema.now presentation.now (option_copied step)) }
+        ++ step_text schema.now presentation.now (option_copied step.entry)) }
 {
     match step {
         Some(step) => push_equation(schema, presentation, &step.equation, text),
@@ -46,7 +46,7 @@ fn push_line(
     text: &mut Vec<u8>,
 ) -> Result<(), AllocError>
     ensures { OnOk result (text.new.items ≡ text.old.items
-        ++ told_line schema.now presentation.now (option_copied step) (note_at notes.now line) line) }
+        ++ told_line schema.now presentation.now (option_copied step.entry) (note_at notes.now line) line) }
 {
     text.extend_from_slice(b"  ")?;
     push_ordinal(line as u64, text)?;
