@@ -61,33 +61,37 @@ last_here (Some n) here count is same = cc is
 
 -- an id that stands already
 pub index_kept : (ids : List (List ℕ)) (id : List ℕ) (old new : List (List ℕ × ℕ)) → IsIndexOf ids old → is_some (lookup (same_name id) old) ≡ true → new ≡ old → IsIndexOf (ids ++ id ∷ []) new
-index_kept ids id old new index known kept = record { finds = λ other.
-    let place = number_of ids other in
-    let more = position_more (same_name other) ids id in
-    ap (lookup (same_name other)) kept ∙ index.finds other
-    ∙ sym (more ∙ elim (cases_Bool (same_name other id)) as (λ _. or_last place (same_name other id) (length ids) ≡ place) [
-      | inl same ↦ elim (found_or_not place) as (λ _. or_last place (same_name other id) (length ids) ≡ place) [
-        | inl none ↦ absurd (cc (sym known ∙ ap is_some (ap (λ x. lookup (same_name x) old) (sym (same_is other id same)) ∙ index.finds other ∙ none)))
-        | inr some ↦ last_some place (same_name other id) (length ids) some.0 some.1
-      ]
-      | inr differs ↦ last_none place (same_name other id) (length ids) differs
-    ]) }
+index_kept ids id old new index known kept = record {
+  finds = λ other.
+      let place = number_of ids other in
+      let more = position_more (same_name other) ids id in
+      ap (lookup (same_name other)) kept ∙ index.finds other
+      ∙ sym (more ∙ elim (cases_Bool (same_name other id)) as (λ _. or_last place (same_name other id) (length ids) ≡ place) [
+        | inl same ↦ elim (found_or_not place) as (λ _. or_last place (same_name other id) (length ids) ≡ place) [
+          | inl none ↦ absurd (cc (sym known ∙ ap is_some (ap (λ x. lookup (same_name x) old) (sym (same_is other id same)) ∙ index.finds other ∙ none)))
+          | inr some ↦ last_some place (same_name other id) (length ids) some.0 some.1
+        ]
+        | inr differs ↦ last_none place (same_name other id) (length ids) differs
+      ]);
+}
 
 -- a new id
 pub index_noted : (ids : List (List ℕ)) (id : List ℕ) (number : ℕ) (old new : List (List ℕ × ℕ)) → IsIndexOf ids old → lookup (same_name id) old ≡ None → length ids ≡ number
     → ((other : List ℕ) → lookup (same_name other) new ≡ cond (same_name id other) (Some number) (lookup (same_name other) old)) → IsIndexOf (ids ++ id ∷ []) new
-index_noted ids id number old new index absent many noted = record { finds = λ other.
-    let place = number_of ids other in
-    noted other ∙ sym (position_more (same_name other) ids id ∙ elim (cases_Bool (same_name other id)) as (λ _. or_last place (same_name other id) (length ids) ≡ cond (same_name id other) (Some number) (lookup (same_name other) old)) [
-      | inl same ↦
-          let is = same_is other id same in
-          let none : place ≡ None = sym (index.finds other) ∙ ap (λ x. lookup (same_name x) old) is ∙ absent in
-          last_here place (same_name other id) (length ids) none same ∙ ap Some many
-          ∙ sym (ap (λ b. cond b (Some number) (lookup (same_name other) old)) (ap (λ x. same_name x other) (sym is) ∙ same_itself other))
-      | inr differs ↦
-          last_none place (same_name other id) (length ids) differs ∙ sym (index.finds other)
-          ∙ sym (ap (λ b. cond b (Some number) (lookup (same_name other) old)) (unlike id other (λ is. cc (sym differs ∙ ap (λ x. same_name x id) (sym is) ∙ same_itself id))))
-    ]) }
+index_noted ids id number old new index absent many noted = record {
+  finds = λ other.
+      let place = number_of ids other in
+      noted other ∙ sym (position_more (same_name other) ids id ∙ elim (cases_Bool (same_name other id)) as (λ _. or_last place (same_name other id) (length ids) ≡ cond (same_name id other) (Some number) (lookup (same_name other) old)) [
+        | inl same ↦
+            let is = same_is other id same in
+            let none : place ≡ None = sym (index.finds other) ∙ ap (λ x. lookup (same_name x) old) is ∙ absent in
+            last_here place (same_name other id) (length ids) none same ∙ ap Some many
+            ∙ sym (ap (λ b. cond b (Some number) (lookup (same_name other) old)) (ap (λ x. same_name x other) (sym is) ∙ same_itself other))
+        | inr differs ↦
+            last_none place (same_name other id) (length ids) differs ∙ sym (index.finds other)
+            ∙ sym (ap (λ b. cond b (Some number) (lookup (same_name other) old)) (unlike id other (λ is. cc (sym differs ∙ ap (λ x. same_name x id) (sym is) ∙ same_itself id))))
+      ]);
+}
   where
     unlike : (a b : List ℕ) → (a ≡ b → ⊥) → same_name a b ≡ false
     unlike a b never = elim (cases_Bool (same_name a b)) [

@@ -29,7 +29,7 @@ module _ (name : ℕ → List ℕ) (S : Schema) (readings : List Reading) (made 
   contents_large large =
       let over : nat_lt most_generators (total S (sheets_read name S readings)) ≡ true = let same = total_is in grind (arith, nat_tests) in
       sym (ap (λ b. if b then found_in (Some TooLarge) None
-        else cells_found (sheets_read name S readings) S.typeside (Some (most_generators - total S (sheets_read name S readings))) [] (all_cells S (sheets_read name S readings))) over)
+      else cells_found (sheets_read name S readings) S.typeside (Some (most_generators - total S (sheets_read name S readings))) [] (all_cells S (sheets_read name S readings))) over)
 
   pub contents_few : (most : ℕ) → sum (map (λ (i : Indexed). i.count) made) ≤ most_generators → most ≡ most_generators - sum (map (λ (i : Indexed). i.count) made)
       → cells_found (sheets_read name S readings) S.typeside (Some most) [] (all_cells S (sheets_read name S readings)) ≡ contents_found name S readings
@@ -37,11 +37,14 @@ module _ (name : ℕ → List ℕ) (S : Schema) (readings : List Reading) (made 
       let under : nat_lt most_generators (total S (sheets_read name S readings)) ≡ false = let same = total_is in grind (arith, nat_tests) in
       ap (λ n. cells_found (sheets_read name S readings) S.typeside (Some n) [] (all_cells S (sheets_read name S readings))) (is ∙ ap (λ n. most_generators - n) (sym total_is))
       ∙ sym (ap (λ b. if b then found_in (Some TooLarge) None
-        else cells_found (sheets_read name S readings) S.typeside (Some (most_generators - total S (sheets_read name S readings))) [] (all_cells S (sheets_read name S readings))) under)
+      else cells_found (sheets_read name S readings) S.typeside (Some (most_generators - total S (sheets_read name S readings))) [] (all_cells S (sheets_read name S readings))) under)
 
 -- some faults are the front of all
 whole : (items : List Fault) (name : ℕ → List ℕ) → length items ≤ most_faults → take most_faults (map (shown name) items) ≡ map (shown name) items
 whole items name few = take_all most_faults (map (shown name) items) (omega (arith, length-map items (shown name)))
+
+zero_is : (n : ℕ) → (n == 0) ≡ true → n ≡ 0
+zero_is n is = grind (arith, nat_tests)
 
 some_left : (k : ℕ) (x : Found) (xs : List Found) → [] ≡ take (suc k) (x ∷ xs) → ⊥
 some_left k x xs none = cc none
@@ -61,7 +64,7 @@ listed_files (x ∷ xs) items files contents is few lists some name =
 
 pub listed_all : (none faults items : List Fault) (files contents : (ℕ → List ℕ) → List Found) → items ≡ faults → length items ≤ most_faults → Lists [] none files → (length none == 0) ≡ true
     → Lists none faults contents → (name : ℕ → List ℕ) → map (shown name) items ≡ take most_faults (or_else_found (files name) (contents name))
-listed_all (x ∷ xs) faults items files contents is few before empty lists name = cc empty
+listed_all (x ∷ xs) faults items files contents is few before empty lists name = absurd (let none = zero_is (length (x ∷ xs)) empty in omega arith)
 listed_all [] faults items files contents is few before empty lists name =
     sym (whole items name few) ∙ ap (λ l. take most_faults (map (shown name) l)) is ∙ lists name ∙ by (files name) (before name)
   where
