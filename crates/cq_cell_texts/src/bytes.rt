@@ -29,12 +29,26 @@ fn hex_digit(digit: u8) -> u8
     }
 }
 
-/// Appends a byte as two digits of the base 16, behind `0x`.
+/// Appends a byte as two digits of the base 16.
 pub fn append_hex(byte: u8, out: &mut Vec<u8>) -> Result<(), AllocError> {
-    out.extend_from_slice(b"0x")?;
     out.push(hex_digit(byte / 16))?;
     out.push(hex_digit(byte % 16))?;
     Ok(())
+}
+
+/// Appends a byte by its number.
+fn append_code(byte: u8, out: &mut Vec<u8>) -> Result<(), AllocError> {
+    out.extend_from_slice(b"\\x")?;
+    append_hex(byte, out)
+}
+
+/// Appends the letter that a byte is in ISO 8859-1, if it is one beyond ASCII.
+pub fn append_latin(byte: u8, out: &mut Vec<u8>) -> Result<(), AllocError> {
+    if byte < 0xA0 {
+        return Ok(());
+    }
+    let letter = [0xC0 | (byte >> 6), 0x80 | (byte & 0x3F)];
+    append(&[b", \"", letter.as_slice(), b"\" in ISO 8859-1"], out)
 }
 
 /// Appends a byte as it is, or where it would end the line or leave it as what a user would type for it.
@@ -43,7 +57,7 @@ fn append_byte(byte: u8, out: &mut Vec<u8>) -> Result<(), AllocError> {
         b'\n' => out.extend_from_slice(b"\\n")?,
         b'\r' => out.extend_from_slice(b"\\r")?,
         b'\t' => out.extend_from_slice(b"\\t")?,
-        0..=31 | 127 => append_hex(byte, out)?,
+        0..=31 | 127 => append_code(byte, out)?,
         _ => out.push(byte)?,
     }
     Ok(())
@@ -71,7 +85,7 @@ pub fn append_shown(text: &[u8], out: &mut Vec<u8>) -> Result<(), AllocError> {
         if whole || *byte < 128 {
             append_byte(*byte, out)?;
         } else {
-            append_hex(*byte, out)?;
+            append_code(*byte, out)?;
         }
     }
     if length < text.len() {

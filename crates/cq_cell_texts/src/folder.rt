@@ -2,7 +2,7 @@
 ghost use Rattle.std.specs.Prelude.{◌≡◌, ◌<◌, ◌^◌, length};
 ghost use Rattle.cq_lines.specs.Walks.{IsPlace};
 
-use crate::bytes::{append, append_hex, append_number, append_quoted};
+use crate::bytes::{append, append_hex, append_latin, append_number, append_quoted};
 use crate::header::{append_header, append_wanted};
 use crate::numbers::{earlier_lines, line_among};
 use crate::records::{append_record, field, first_record};
@@ -60,8 +60,10 @@ fn append_no_text(
     append_quoted(bytes, out)?;
     append(&[b" is not UTF-8: byte "], out)?;
     append_number((at as u64).saturating_add(1), out)?;
-    append(&[b" is "], out)?;
-    append_hex(bytes.get(at).copied().unwrap_or(0), out)?;
+    let byte = bytes.get(at).copied().unwrap_or(0);
+    append(&[b" is 0x"], out)?;
+    append_hex(byte, out)?;
+    append_latin(byte, out)?;
     append(
         &[b". Save the file in UTF-8: in a spreadsheet, as \"CSV UTF-8\".\n"],
         out,

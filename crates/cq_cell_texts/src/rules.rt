@@ -93,8 +93,8 @@ fn append_null(field: &[u8], out: &mut Vec<u8>) -> Result<(), AllocError> {
     if read_label(field).is_some() {
         append(
             &[
-                b"  This null is of another type, by a column before or by its record in entries-2.csv, or has no record",
-                b" there. Number it otherwise.\n",
+                b"  This null is of another type, by a column before or by its record in entries-2.csv, or it has no",
+                b" record there. Number it otherwise.\n",
             ],
             out,
         )

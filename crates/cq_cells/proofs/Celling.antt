@@ -1,7 +1,8 @@
 -- One cell that is tested.
-use Rattle.std.proofs.Common.{ℕ, List, [], ◌∷◌, ◌++◌, ◌+◌, ◌≡◌, ◌==◌, Option, Some, None, Result, Ok, Err, Bool, true, false, length, refl, sym, ap, subst, ◌∙◌, arith}
+use Rattle.std.proofs.Common.{ℕ, List, [], ◌∷◌, ◌++◌, ◌≡◌, ◌==◌, Option, Some, None, Result, Ok, Err, Bool, true, false, length, refl, sym, ap, subst, ◌∙◌, arith}
 use Rattle.std.specs.Prelude.{OnOk, is_some}
 use Rattle.std.specs.declared.alloc.AllocError.{AllocError}
+use Rattle.std.proofs.lemmas.Bool.Decides.{nat_tests}
 use Rattle.cq_theory.specs.declared.value.Value.{Value}
 use Rattle.cq_theory.specs.TypesideData.{TypesideData as Typeside}
 use Rattle.cq_import.specs.declared.columns.Column.{Column}
@@ -22,13 +23,13 @@ use Rattle.cq_cells.specs.Shown.{Lists, told, trouble_kind}
 use Rattle.cq_cells.proofs.Listing.{lists_none, lists_same}
 use Rattle.cq_cells.proofs.Passing.{pass_off, pass_on}
 
+zero_is : (n : ℕ) → (n == 0) ≡ true → n ≡ 0
+zero_is n is = grind (arith, nat_tests)
+
 -- a foreign key's cell
 blank_key : (sheets : List Sheet) (cell : Cell) (target : ℕ) (field : List ℕ) → (length field == 0) ≡ true → key_fault sheets cell target field ≡ None
 blank_key sheets cell target [] is = refl
-blank_key sheets cell target (x ∷ field) is = absurd (not_zero (length field) is)
-  where
-    not_zero : (n : ℕ) → ((n + 1) == 0) ≡ true → ⊥
-    not_zero n is = cc is
+blank_key sheets cell target (x ∷ field) is = absurd (let none = zero_is (length (x ∷ field)) is in omega arith)
 
 filled_key : (sheets : List Sheet) (cell : Cell) (target : ℕ) (field : List ℕ) → (length field == 0) ≡ false → key_fault sheets cell target field ≡ missing_id cell (row_with_id sheets target field)
 filled_key sheets cell target [] is = cc is

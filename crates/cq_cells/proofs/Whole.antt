@@ -43,6 +43,9 @@ module _ (name : ℕ → List ℕ) (S : Schema) (readings : List Reading) (made 
 whole : (items : List Fault) (name : ℕ → List ℕ) → length items ≤ most_faults → take most_faults (map (shown name) items) ≡ map (shown name) items
 whole items name few = take_all most_faults (map (shown name) items) (omega (arith, length-map items (shown name)))
 
+zero_is : (n : ℕ) → (n == 0) ≡ true → n ≡ 0
+zero_is n is = grind (arith, nat_tests)
+
 some_left : (k : ℕ) (x : Found) (xs : List Found) → [] ≡ take (suc k) (x ∷ xs) → ⊥
 some_left k x xs none = cc none
 
@@ -61,7 +64,7 @@ listed_files (x ∷ xs) items files contents is few lists some name =
 
 pub listed_all : (none faults items : List Fault) (files contents : (ℕ → List ℕ) → List Found) → items ≡ faults → length items ≤ most_faults → Lists [] none files → (length none == 0) ≡ true
     → Lists none faults contents → (name : ℕ → List ℕ) → map (shown name) items ≡ take most_faults (or_else_found (files name) (contents name))
-listed_all (x ∷ xs) faults items files contents is few before empty lists name = cc empty
+listed_all (x ∷ xs) faults items files contents is few before empty lists name = absurd (let none = zero_is (length (x ∷ xs)) empty in omega arith)
 listed_all [] faults items files contents is few before empty lists name =
     sym (whole items name few) ∙ ap (λ l. take most_faults (map (shown name) l)) is ∙ lists name ∙ by (files name) (before name)
   where

@@ -1,6 +1,8 @@
 -- The faults that the program lists.
 use Rattle.std.specs.Prelude.{ℕ, List, [], ◌∷◌, ◌++◌, ◌≡◌, Option, Some, None, map, take}
-use Rattle.cq_import.specs.Faults.{Fault as ImportFault, Absent as AbsentFault, TooLong as TooLongFault, NotCsv as NotCsvFault, BadHeader as BadHeaderFault, BadCell as BadCellFault, DoubleId as DoubleIdFault, NoSuchId as NoSuchIdFault, TooLarge as TooLargeFault}
+use Rattle.cq_import.specs.Faults.{Fault as ImportFault, Absent as AbsentFault, TooLong as TooLongFault, NotCsv as NotCsvFault}
+use Rattle.cq_import.specs.Faults.{BadHeader as BadHeaderFault, BadCell as BadCellFault, DoubleId as DoubleIdFault}
+use Rattle.cq_import.specs.Faults.{NoSuchId as NoSuchIdFault, TooLarge as TooLargeFault}
 use Rattle.cq_cells.specs.declared.faults.Fault.{Fault}
 use Rattle.cq_cells.specs.declared.faults.Kind.{Kind}
 use Rattle.cq_cells.specs.declared.faults.Kind.TheVariants.{Absent, TooLong, NotCsv, BadHeader, BadCell, DoubleId, NoSuchId, TooLarge}
@@ -38,4 +40,5 @@ most_faults = 100
 
 -- these faults are listed next, up to the most
 abbrev pub Lists : List Fault → List Fault → ((ℕ → List ℕ) → List Found) → Type 0
-Lists old new found = (name : ℕ → List ℕ) → take most_faults (map (shown name) new) ≡ take most_faults (map (shown name) old ++ found name)
+Lists old new found = (name : ℕ → List ℕ)
+    → take most_faults (map (shown name) new) ≡ take most_faults (map (shown name) old ++ found name)

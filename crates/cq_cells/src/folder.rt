@@ -119,10 +119,12 @@ fn check_over(over: &Over, faults: Faults) -> Result<Faults, AllocError>
     ensures { IfOk result (λ made. Lists faults made (λ name. cells_found (sheets_over over.now name)
         (typeside_over over.now) (Some over.now.most) [] (all_cells over.now.schema.now (sheets_over over.now name)))) }
 {
+    let labels = Labels::new(over.alloc);
+    let source = Source::new(over.alloc, &[])?;
     let mut pass = Pass {
         faults,
-        labels: Labels::new(over.alloc),
-        source: Source::new(over.alloc, &[])?,
+        labels,
+        source,
         going: true,
     };
     read_cells(over, &mut pass)?;

@@ -1,7 +1,7 @@
 //! All faults of a folder of CSV files, of which an import tells the first.
 //!
-//! The files are read (`readings`), each is tested by itself (`rows`, `ids`), and where none has a fault their cells are
-//! tested (`index`, `cells`, `tables`).
+//! The files are read (`readings`), each is tested by itself (`rows`, `ids`), and where none has a fault their cells
+//! are tested (`index`, `cells`, `tables`).
 #![tactic(auto)]
 
 mod cells;

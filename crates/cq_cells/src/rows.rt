@@ -47,8 +47,8 @@ fn fault_of_row(
     before: Option<u32>,
 ) -> Option<Fault>
     ensures { (name : ℕ → List ℕ) (ids : List (List ℕ)) → before ≡ number_of ids (id_of (fields_of fields.now))
-        → listed name result ≡ found_in (row_fault (name tested.now.file) (length tested.now.wanted.now) ids number
-        (fields_of fields.now)) before }
+        → listed name result ≡ found_in (row_fault (name tested.now.file) (length tested.now.wanted.now) ids
+        number (fields_of fields.now)) before }
 {
     let file = tested.file;
     if !is_row(fields, tested.wanted.len()) {
