@@ -1,16 +1,16 @@
 -- The nearest of some names.
-use Rattle.std.specs.Prelude.{◌≡◌, ◌<◌, ◌≤◌, ◌+◌, ◌/◌, ℕ, List, Option, Some, None, length, nat_eq, slice_index_or}
+use Rattle.std.specs.Prelude.{◌≡◌, ◌<◌, ◌≤◌, ◌+◌, ◌/◌, ℕ, List, Option, Some, None, length, slice_index_or}
 use Rattle.std.specs.Str.{chars}
-use Rattle.strsim.specs.Edits.{levenshtein_row}
+use Rattle.strsim.specs.Edits.{osa_table}
 use Rattle.cq_base.specs.declared.name.Name.{Name}
 
--- how many characters have to be put in, left out or replaced to make one name of the other
+-- how many edits make one name of the other: a character is put in, left out or replaced, or two neighbours are swapped
 abbrev pub edits : Name → Name → ℕ
-edits name other = levenshtein_row nat_eq (chars name) (chars other) (length (chars other))
+edits name other = (osa_table (chars name) (chars other)).last_row (length (chars other))
 
--- how many edits lead to a name that may have been meant: one, and one more for each three bytes
+-- how many edits lead to a name that may have been meant: one for each three bytes
 abbrev pub most_edits : Name → ℕ
-most_edits name = length name / 3 + 1
+most_edits name = length name / 3
 
 -- no name is as near as that many edits
 abbrev pub AreFarther : ℕ → Name → List Name → Type 0

@@ -14,9 +14,7 @@ impl Code {
             Code::OpenText => "The text that begins here isn't closed before the file ends.",
             Code::OpenComment => "The comment that begins here isn't closed before the file ends.",
             Code::LongName => "This word or text has more than 255 bytes.",
-            Code::Syntax => {
-                "What stands before # may begin a file, but nothing in the language goes on with it here."
-            }
+            Code::Syntax => "What stands before may begin a file, but # can't follow it here.",
             Code::TooDeep => "This term has more than 64 levels, or this path more than 64 names.",
             Code::Unsupported => "The word # begins something that this language leaves out.",
             Code::BadOption => "The name # is no option that may stand here.",

@@ -1,26 +1,15 @@
 //! The faults of a folder of CSV files.
-ghost use Rattle.std.specs.Prelude.{◌≡◌, ◌<◌, ◌≤◌, ◌^◌};
+ghost use Rattle.std.specs.Prelude.{◌≡◌, ◌<◌, ◌^◌};
 ghost use Rattle.cq_parts.specs.Few.{part_count};
 ghost use Rattle.cq_stating.specs.Environment.{AreSettled, environment_of};
 
 use crate::case::Case;
+use crate::posed::stated_again;
 use cq_cell_texts::{append_folder, append_folder2};
 use cq_cells::Unread;
 use cq_io::Folder;
-use cq_stating::{FolderImport, Format, ProgramRefusal, Stated, state};
+use cq_stating::{FolderImport, Format, Stated};
 use std::alloc::{AllocError, Global};
-
-/// What a declaration states, if its names and parts break no rule.
-pub fn stated_again(case: Case<'_>) -> Result<Option<Stated>, AllocError>
-    requires few { part_count case.decl.now.body < 2 ^ 32 }
-    requires settled { AreSettled (environment_of case.env.now.names.entries) }
-{
-    match state(case.book.alloc, case.env, case.decl) {
-        Ok(stated) => Ok(Some(stated)),
-        Err(ProgramRefusal::Memory) => Err(AllocError),
-        Err(_) => Ok(None),
-    }
-}
 
 /// Appends the faults of the folder that a declaration names.
 pub fn append_folder_faults<F: Folder>(

@@ -11,7 +11,9 @@ mod case;
 mod codes;
 mod details;
 mod folders;
+mod limits;
 mod page;
+mod posed;
 mod steps;
 mod texts;
 
