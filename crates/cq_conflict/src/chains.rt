@@ -29,7 +29,7 @@ fn only(numbers: &[u64]) -> Option<u64>
 }
 
 /// The step of a number.
-fn step_at(steps: &[Step], number: u64) -> Option<&Step>
+pub fn step_at(steps: &[Step], number: u64) -> Option<&Step>
     ensures { option_copied result ≡ slice_get steps.now number }
 {
     steps.get(number as usize)

@@ -30,5 +30,5 @@ pub use constants::{TypedConstant, constant_of_text};
 pub use seeking::conflict;
 pub use sources::{Explained, Files, Part, Rest, Rules, Source};
 pub use telling::{Constants, push_conflict, push_steps};
-pub use text::push_told;
+pub use text::{Shown, push_told};
 pub use told::{Told, told_steps};

@@ -8,7 +8,7 @@ use crate::labels::shown_presentation;
 use crate::notes::{Noting, notes_of, numbers_of};
 use crate::seeking::conflict;
 use crate::sources::Explained;
-use crate::text::push_told;
+use crate::text::{Shown, push_told};
 use crate::told::told_steps;
 use cq_io::Folder;
 use cq_steps::Step;
@@ -29,7 +29,7 @@ fn push_lines<F: Folder>(
     let Found { lines, labels } = find_parts(alloc, telling, folder)?;
     let labels = labels_in(alloc, telling, labels)?;
     let explained = telling.explained;
-    let shown = shown_presentation(alloc, explained.presentation, labels.as_slice())?;
+    let presentation = shown_presentation(alloc, explained.presentation, labels.as_slice())?;
     let numbers = numbers_of(alloc, telling.steps.len(), telling.told)?;
     let noting = Noting {
         explained,
@@ -38,14 +38,13 @@ fn push_lines<F: Folder>(
         numbers: numbers.as_slice(),
     };
     let notes = notes_of(alloc, &noting, telling.steps, telling.told)?;
-    push_told(
-        explained.schema,
-        &shown,
-        telling.steps,
-        telling.told,
-        notes.as_slice(),
-        text,
-    )
+    let shown = Shown {
+        schema: explained.schema,
+        presentation: &presentation,
+        steps: telling.steps,
+        notes: notes.as_slice(),
+    };
+    push_told(&shown, telling.told, text)
 }
 
 /// Appends the steps that a reader needs, each in a line with its equation and where it comes from or follows from.
