@@ -1,8 +1,9 @@
-//! The files of `data/mistakes/`, each an example with one mistake put in: what `cqlwhy` tells of each is printed.
+//! The files of `data/mistakes/`: examples with one mistake put in each, and imports of folders with faults. What `cqlwhy`
+//! tells of each is printed.
 use cq_io::{DirFolder, Sink, StdSink};
 use cq_why::why;
 
-const FILES: [&str; 24] = [
+const FILES: [&str; 33] = [
     "first-run",
     "orders",
     "departments",
@@ -27,6 +28,15 @@ const FILES: [&str; 24] = [
     "filled",
     "months",
     "spreadsheet",
+    "folder_several",
+    "folder_semicolons",
+    "folder_cells",
+    "folder_names",
+    "folder_utf16",
+    "folder_tabs",
+    "folder_extra",
+    "folder_entries",
+    "folder_labels",
 ];
 
 /// Tells of the files in turn. None: the memory or the output failed.
