@@ -1,6 +1,7 @@
 -- What is told, by the status that is wanted.
-use Rattle.std.proofs.Common.{◌≡◌, ◌++◌, ℕ, List, Option, Some, None, ap, sym, ◌∙◌, subst, inl, inr, codes}
+use Rattle.std.proofs.Common.{◌≡◌, ◌++◌, ℕ, List, Option, Some, None, Result, Ok, Err, IfOk, ap, sym, ◌∙◌, subst, inl, inr}
 use Rattle.std.specs.Prelude.{◌⊎◌, option_map}
+use Rattle.std.specs.declared.alloc.AllocError.{AllocError}
 use Rattle.cq_asked.specs.Asked.{file_asked}
 use Rattle.cq_io.specs.FolderData.{FolderData}
 use Rattle.cq_io.specs.Writes.{Appends}
@@ -11,7 +12,9 @@ use Rattle.cq_run.specs.declared.status.Status.{Status}
 use Rattle.cq_run.specs.declared.status.Status.TheVariants as status
 use Rattle.cq_words.specs.Ask.{Ask}
 use Rattle.cq_words.specs.Reads.{reads}
-use Rattle.cq_why.specs.Clause.{BeginsWithLine, FailsToTell, HasToTell, Ran, SaysAccepted, Tells, WhyGives}
+use Rattle.cq_why.specs.Clause.{BeginsWithLine, HasToTell, Ran, WhyGives}
+use Rattle.cq_why.specs.Replies.{GoesOn, SaysOk}
+use Rattle.cq_why.specs.declared.reply.Reply.{Reply}
 
 -- what is due was written
 written_gives : (ask : Option Ask) (folder : FolderData) (before after : Drain) (wanted : Status) (text : List ℕ)
@@ -40,13 +43,38 @@ no_file view found slice words none asked same =
     ap (λ (w : List (List ℕ)). file_asked (reads w)) (sym same) ∙ sym asked ∙ ap (option_map view) none
 
 -- a run that accepts
-pub accepts : (ask : Option Ask) (folder : FolderData) (ended : Status) (line text : List ℕ) → ended ≡ status.Ok
-    → Ran ask folder ended line → text ≡ codes "accepted\n" → SaysAccepted ask folder text
-accepts ask folder ended line text is ran said =
-    record { transcripts = line; ran = subst (λ (s : Status). Ran ask folder s line) is ran; text_is = said }
+pub accepted_tells : (ask : Option Ask) (folder : FolderData) (ended : Status) (line : List ℕ) (result : Result Reply AllocError)
+    → ended ≡ status.Ok → Ran ask folder ended line → IfOk result SaysOk
+    → IfOk result (λ reply. HasToTell ask folder reply.status reply.text.items)
+accepted_tells ask folder ended line (Ok reply) is ran says =
+    let said : HasToTell ask folder status.Ok reply.text.items = record {
+      transcripts = line;
+      ran = subst (λ (s : Status). Ran ask folder s line) is ran;
+      text_is = says.text_is;
+    } in
+    subst (λ (s : Status). HasToTell ask folder s reply.text.items) (sym says.status_is) said
+accepted_tells ask folder ended line (Err e) is ran says = tt
 
--- a text that begins with the line of a run
-pub begins : (ask : Option Ask) (folder : FolderData) (ended wanted : Status) (line text rest : List ℕ) → ended ≡ wanted
-    → Ran ask folder ended line → text ≡ line ++ rest → BeginsWithLine ask folder wanted text
-begins ask folder ended wanted line text rest is ran said =
-    record { line = line; ran = subst (λ (s : Status). Ran ask folder s line) is ran; rest = rest; text_is = said }
+-- a line that is gone on with
+begins : (ask : Option Ask) (folder : FolderData) (ended wanted : Status) (line : List ℕ) (reply : Reply)
+    → ended ≡ wanted → Ran ask folder ended line → GoesOn wanted line reply → BeginsWithLine ask folder wanted reply.text.items
+begins ask folder ended wanted line reply is ran says = record {
+  line = line;
+  ran = subst (λ (s : Status). Ran ask folder s line) is ran;
+  rest = says.rest;
+  text_is = says.text_is;
+}
+
+pub refused_tells : (ask : Option Ask) (folder : FolderData) (ended : Status) (line : List ℕ) (result : Result Reply AllocError)
+    → ended ≡ status.Refused → Ran ask folder ended line → IfOk result (GoesOn status.Refused line)
+    → IfOk result (λ reply. HasToTell ask folder reply.status reply.text.items)
+refused_tells ask folder ended line (Ok reply) is ran says =
+    subst (λ (s : Status). HasToTell ask folder s reply.text.items) (sym says.status_is) (begins ask folder ended status.Refused line reply is ran says)
+refused_tells ask folder ended line (Err e) is ran says = tt
+
+pub unread_tells : (ask : Option Ask) (folder : FolderData) (ended : Status) (line : List ℕ) (result : Result Reply AllocError)
+    → ended ≡ status.Read → Ran ask folder ended line → IfOk result (GoesOn status.Read line)
+    → IfOk result (λ reply. HasToTell ask folder reply.status reply.text.items)
+unread_tells ask folder ended line (Ok reply) is ran says =
+    subst (λ (s : Status). HasToTell ask folder s reply.text.items) (sym says.status_is) (begins ask folder ended status.Read line reply is ran says)
+unread_tells ask folder ended line (Err e) is ran says = tt

@@ -1,6 +1,5 @@
 -- What `cqlwhy` writes, by the status that it has.
-use Rattle.std.specs.Prelude.{◌≡◌, ◌++◌, ℕ, List, [], Some, None, Vec, codes}
-use Rattle.std.specs.declared.alloc.Global.{Global}
+use Rattle.std.specs.Prelude.{◌≡◌, ◌++◌, ℕ, List, [], Some, None, codes}
 use Rattle.std.specs.declared.option.Option.{Option}
 use Rattle.cq_asked.specs.Asked.{file_asked}
 use Rattle.cq_io.specs.FolderData.{FolderData}
@@ -67,7 +66,3 @@ WhyGives ask folder before after status.Usage = Tells ask folder before after st
 WhyGives ask folder before after status.Read = Tells ask folder before after status.Read
 WhyGives ask folder before after status.Write = FailsToTell ask folder before after
 WhyGives ask folder before after status.Memory = after ≡ before
-
--- the text begins with this one
-abbrev pub Continues : List ℕ → Vec ℕ Global → Type 0
-Continues line text = (rest : List ℕ) × (text.items ≡ line ++ rest)

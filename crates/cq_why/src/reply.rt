@@ -2,7 +2,8 @@
 ghost use Rattle.std.specs.Prelude.{◌≡◌, ◌≤◌, IfOk, map, string_bytes};
 ghost use Rattle.cq_asked.specs.Asked.{run_words};
 ghost use Rattle.cq_words.specs.Reads.{reads};
-ghost use Rattle.cq_why.specs.Clause.{Continues, HasToTell};
+ghost use Rattle.cq_why.specs.Clause.{HasToTell};
+ghost use Rattle.cq_why.specs.Replies.{GoesOn, SaysOk};
 
 use crate::line::{Line, line_of};
 use cq_asked::{Asked, notice, read_run_words, run_words};
@@ -57,42 +58,41 @@ fn reply_about<F: Folder>(
 {
     let Line { status, text } = line_of(alloc, words, folder);
     match status {
-        Status::Ok => Ok(Reply {
-            status: Status::Ok,
-            text: Vec::from_slice(alloc, b"accepted\n")?,
-        }),
-        Status::Refused => {
-            let text = explained(alloc, text, asked, folder)?;
-            Ok(Reply {
-                status: Status::Refused,
-                text,
-            })
-        }
-        Status::Read => {
-            let text = explained(alloc, text, asked, folder)?;
-            Ok(Reply {
-                status: Status::Read,
-                text,
-            })
-        }
+        Status::Ok => accepted(alloc),
+        Status::Refused => explained(alloc, Status::Refused, text, asked, folder),
+        Status::Read => explained(alloc, Status::Read, text, asked, folder),
         // The words name a file, and the sink fails only for want of memory.
-        Status::Usage | Status::Write | Status::Memory => Err(AllocError),
+        Status::Usage => Err(AllocError),
+        Status::Write => Err(AllocError),
+        Status::Memory => Err(AllocError),
     }
 }
 
-/// A line, and behind it why it was written.
+/// That a file is accepted.
+fn accepted(alloc: Global) -> Result<Reply, AllocError>
+    ensures { IfOk result SaysOk }
+{
+    let text = Vec::from_slice(alloc, b"accepted\n")?;
+    Ok(Reply {
+        status: Status::Ok,
+        text,
+    })
+}
+
+/// A line with its status, and behind it why it was written.
 fn explained<F: Folder>(
     alloc: Global,
+    status: Status,
     line: Vec<u8>,
     asked: Asked<'_>,
     folder: &mut F,
-) -> Result<Vec<u8>, AllocError>
+) -> Result<Reply, AllocError>
     requires { asked.depth ≤ 64 }
     ensures files { (F.state folder.new).files ≡ (F.state folder.old).files }
-    ensures begins { IfOk result (Continues line.items) }
+    ensures goes_on { IfOk result (GoesOn status line.items) }
 {
     let rest = explanation(alloc, asked.file, asked.depth, folder)?;
     let mut text = line;
     text.extend_from_slice(rest.as_slice())?;
-    Ok(text)
+    Ok(Reply { status, text })
 }
