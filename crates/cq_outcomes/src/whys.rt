@@ -21,7 +21,11 @@ pub fn try_why(
     part: Part<'_>,
     tally: &mut Tally,
 ) -> Result<(), AllocError> {
-    let told = told_by(alloc, part.rest, part)?;
+    let status = match part.rest.strip_suffix(" not ended") {
+        Some(status) => status,
+        None => part.rest,
+    };
+    let told = told_by(alloc, status, part)?;
     let came = told_of(alloc, entry)?;
     tally.add(alloc, entry.title(), told.as_str(), came.as_str())
 }

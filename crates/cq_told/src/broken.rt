@@ -6,7 +6,7 @@ ghost use Rattle.cq_stating.specs.Environment.{AreSettled, environment_of};
 use crate::case::Case;
 use crate::codes::code_of;
 use crate::details::append_details;
-use crate::page::{append_remedy, append_sentence, append_where};
+use crate::page::{append_remedy, append_sentence, append_where, has_remedy};
 use crate::texts::{append_name, append_number, name_text, number_text, quoted_text};
 use cq_base::{Name, Place};
 use cq_io::Folder;
@@ -38,7 +38,12 @@ pub fn append_broken<F: Folder>(
         Reason::Unknown => append_unknown(case, out)?,
         _ => append_plain(case, reason, out)?,
     }
-    append_details(case, reason, folder, out)?;
+    let mut details = Vec::new(case.book.alloc);
+    append_details(case, reason, folder, &mut details)?;
+    out.extend_from_slice(details.as_slice())?;
+    if has_remedy(details.as_slice()) {
+        return Ok(());
+    }
     append_remedy(code_of(reason).remedy(), out)
 }
 

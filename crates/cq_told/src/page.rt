@@ -46,26 +46,19 @@ pub fn append_sentence(code: Code, texts: &[&[u8]], out: &mut Vec<u8>) -> Result
 /// What the line begins with that says what there is to mend.
 const MEND: &[u8] = b"To mend it: ";
 
-/// Appends what there is to mend, in a line, unless the last line says so already.
+/// Appends what there is to mend, in a line.
 pub fn append_remedy(remedy: &str, out: &mut Vec<u8>) -> Result<(), AllocError> {
-    if last_line(out.as_slice()).starts_with(MEND) {
-        return Ok(());
-    }
     out.extend_from_slice(MEND)?;
     out.extend_from_slice(remedy.as_bytes())?;
     out.extend_from_slice(b"\n")?;
     Ok(())
 }
 
-/// The last line that has an end.
-fn last_line(text: &[u8]) -> &[u8] {
-    let Some((_, lines)) = text.split_last() else {
-        return text;
-    };
-    match lines.iter().rposition(|byte| *byte == b'\n') {
-        Some(end) => &lines[end + 1..],
-        None => lines,
-    }
+/// Whether one of these lines says what there is to mend.
+pub fn has_remedy(lines: &[u8]) -> bool {
+    lines
+        .split(|byte| *byte == b'\n')
+        .any(|line| line.starts_with(MEND))
 }
 
 /// Appends the line at a place with its caret, and in which declaration it stands, where this begins on another line.
