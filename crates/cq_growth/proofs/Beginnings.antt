@@ -1,5 +1,5 @@
 -- The rows of the generators are reached.
-use Rattle.std.proofs.Common.{ℕ, Bool, true, false, List, [], Option, Some, None, ◌≡◌, ◌<◌, ◌≤◌, ◌+◌, inl, inr, length, get_or, replicate, map, refl, sym, ap, subst, ◌∙◌, arith, zero, suc}
+use Rattle.std.proofs.Common.{ℕ, Bool, true, false, List, [], Some, None, ◌≡◌, ◌<◌, ◌+◌, inl, inr, length, get_or, replicate, refl, sym, ap, subst, ◌∙◌, arith, zero, suc}
 use Rattle.std.specs.Prelude.{slice_get, slice_index}
 use Rattle.std.proofs.lemmas.List.{length-replicate}
 use Rattle.std.proofs.lemmas.Option.{slice_get-get_or}
@@ -12,8 +12,8 @@ use Rattle.cq_theory.specs.declared.presentation.Sort.TheVariants.{Plain, Entity
 use Rattle.cq_theory.specs.EntTerm.{alone}
 use Rattle.cq_theory.specs.Sorts.{Generators, entity_at}
 use Rattle.cq_growth.specs.declared.levels.Member.{Member}
-use Rattle.cq_growth.specs.Levels.{IsReached, IsIn, Reaches, HasBegun}
-use Rattle.cq_growth.proofs.Reaching.{reached_now, member_of}
+use Rattle.cq_growth.specs.Levels.{IsReached, Reaches, HasBegun}
+use Rattle.cq_growth.proofs.Reaching.{reached_now}
 
 none_reached : (n r : ℕ) → get_or (replicate n false) r false ≡ false
 none_reached zero r = refl

@@ -1,5 +1,5 @@
 -- One row more is counted.
-use Rattle.std.proofs.Common.{ℕ, zero, suc, Bool, true, false, List, [], ◌∷◌, ◌≡◌, ◌<◌, ◌≤◌, ◌+◌, ◌&&◌, ◌==◌, if◌then◌else◌, map, get_or, replicate, length, refl, sym, ap, subst, ◌∙◌, arith, eq-eqb, add-one}
+use Rattle.std.proofs.Common.{ℕ, zero, suc, Bool, true, false, List, ◌≡◌, ◌<◌, ◌≤◌, ◌+◌, ◌&&◌, ◌==◌, if◌then◌else◌, map, get_or, replicate, length, sym, ap, ◌∙◌, arith, eq-eqb, add-one}
 use Rattle.std.specs.Prelude.{slice_set}
 use Rattle.std.proofs.lemmas.Bool.{ne_eqb}
 use Rattle.std.proofs.lemmas.List.{length-replicate, get_or-replicate}
@@ -34,12 +34,15 @@ module _ (m : Content) where
           let here : rows_below m e row ≡ rows_below m e row + 0 = omega arith in
           here ∙ ap (λ b. rows_below m e row + (if b then 1 else 0)) (sym none) ∙ next e row
 
+  -- what is counted for an entity
+  pub counted_at : (counts : List ℕ) (count row entity : ℕ) → entity < count → counts ≡ map (λ e. rows_below m e row) (below count) → get_or counts entity 0 ≡ rows_below m entity row
+  counted_at counts count row entity within are = ap (λ l. get_or l entity 0) are ∙ get_or-map-range_with_len (λ e. rows_below m e row) 0 count entity entity 0 within (omega arith)
+
   -- a row that stands counts for its entity
   pub counted_one : (counts : List ℕ) (count row entity : ℕ) → live_of m row ≡ true → entity ≡ row_entity m row → entity < count → counts ≡ map (λ e. rows_below m e row) (below count)
       → slice_set counts entity (get_or counts entity 0 + 1) ≡ map (λ e. rows_below m e (row + 1)) (below count)
   counted_one counts count row entity live is within are =
-      let here : get_or counts entity 0 ≡ rows_below m entity row =
-      ap (λ l. get_or l entity 0) are ∙ get_or-map-range_with_len (λ e. rows_below m e row) 0 count entity entity 0 within (omega arith) in
+      let here = counted_at counts count row entity within are in
       ap (λ l. slice_set l entity (get_or counts entity 0 + 1)) are
       ∙ set-map_below (λ e. rows_below m e row) (λ e. rows_below m e (row + 1)) count entity (get_or counts entity 0 + 1) within
       (ap (λ n. n + 1) here ∙ ap (λ b. rows_below m entity row + (if b then 1 else 0)) (sym yes) ∙ next entity row)

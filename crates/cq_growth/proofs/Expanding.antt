@@ -1,14 +1,13 @@
 -- The keys of a member's row are followed.
-use Rattle.std.proofs.Common.{ℕ, Bool, true, List, ◌∷◌, [], Option, Some, None, ◌≡◌, ◌<◌, ◌≤◌, ◌+◌, ◌⊎◌, inl, inr, length, refl, sym, ap, subst, ◌∙◌, arith}
-use Rattle.std.specs.Prelude.{slice_get}
-use Rattle.cq_tables.specs.Content.{Content, keys_of, made_of, live_of, cell_of, step_of, IsWhole}
+use Rattle.std.proofs.Common.{ℕ, Bool, true, List, Option, Some, None, ◌≡◌, ◌<◌, ◌≤◌, ◌+◌, inl, inr, length, refl, sym, ap, subst, ◌∙◌, arith}
+use Rattle.cq_tables.specs.Content.{Content, keys_of, live_of, cell_of, step_of, IsWhole}
 use Rattle.cq_tables.specs.Content.{entity_of as row_entity}
 use Rattle.cq_tables.specs.Places.{keys_from}
 use Rattle.cq_tables.proofs.Starting.{next_key, at_first, at_next, at_end}
 use Rattle.cq_rows.proofs.Cells.{below_or_at}
 use Rattle.cq_growth.specs.declared.levels.Member.{Member}
-use Rattle.cq_growth.specs.Levels.{IsReached, IsIn, Reaches, ExpandsTo, Expands, IsStepFrom, one_further}
-use Rattle.cq_growth.proofs.Reaching.{IsReachedNow, reached_now, member_of}
+use Rattle.cq_growth.specs.Levels.{IsReached, Reaches, ExpandsTo, Expands, one_further}
+use Rattle.cq_growth.proofs.Reaching.{reached_now}
 
 -- a row has no cell at a key that goes not from its entity
 no_cell_at : (m : Content) (row entity k : ℕ) → IsWhole m → live_of m row ≡ true → entity ≡ row_entity m row → ((d : ℕ) → step_of (keys_of m) entity k ≡ Some d → ⊥) → cell_of m row k ≡ None

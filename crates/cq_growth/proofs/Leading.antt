@@ -1,9 +1,9 @@
 -- Levels by the terms that lead to their rows.
-use Rattle.std.proofs.Common.{ℕ, zero, suc, Bool, true, false, List, [], ◌∷◌, ◌++◌, Option, Some, None, ◌≡◌, ◌<◌, ◌≤◌, ◌+◌, ◌⊎◌, inl, inr, length, map, refl, sym, ap, subst, ◌∙◌, arith, length-append}
-use Rattle.std.specs.Prelude.{IsSome, is_some, slice_get, slice_index, option_and_then}
-use Rattle.std.proofs.lemmas.Option.{same_Some, option_and_then_some, slice_get_within}
+use Rattle.std.proofs.Common.{ℕ, Bool, true, List, [], ◌∷◌, ◌++◌, Option, Some, None, ◌≡◌, ◌<◌, ◌≤◌, ◌+◌, inl, inr, length, map, refl, sym, ap, subst, ◌∙◌, arith, length-append}
+use Rattle.std.specs.Prelude.{slice_get, slice_index, option_and_then}
+use Rattle.std.proofs.lemmas.Option.{option_and_then_some, slice_get_within}
 use Rattle.cq_base.specs.declared.name.Name.{Name}
-use Rattle.cq_tables.specs.Content.{Content, keys_of, made_of, live_of, cell_of, step_of, end_of, trace_of, IsWhole}
+use Rattle.cq_tables.specs.Content.{Content, keys_of, live_of, cell_of, step_of, end_of, trace_of, IsWhole}
 use Rattle.cq_tables.specs.Content.{entity_of as row_entity}
 use Rattle.cq_rows.specs.Plain.{ends_of, theory_of}
 use Rattle.cq_rows.specs.Rows.{row_of_term}
@@ -19,7 +19,7 @@ use Rattle.cq_theory.specs.EntTerm.{alone, depth_of}
 use Rattle.cq_theory.specs.SchemaData.{SchemaData as Schema}
 use Rattle.cq_theory.specs.Sorts.{entity_of, entity_at, target_of}
 use Rattle.cq_growth.specs.declared.levels.Member.{Member}
-use Rattle.cq_growth.specs.Levels.{IsReached, IsIn, HasBegun, IsNext, LeadsAt, IsLevel, one_further}
+use Rattle.cq_growth.specs.Levels.{IsReached, HasBegun, IsNext, LeadsAt, IsLevel, one_further}
 
 empty_path : (xs : List ℕ) → length xs ≤ 0 → xs ≡ []
 empty_path [] h = refl

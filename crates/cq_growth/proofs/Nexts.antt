@@ -1,11 +1,11 @@
 -- A level after one, member by member.
-use Rattle.std.proofs.Common.{ℕ, Bool, true, List, [], Some, ◌≡◌, ◌<◌, ◌≤◌, ◌+◌, ◌⊎◌, inl, inr, length, refl, sym, ap, subst, ◌∙◌, arith}
+use Rattle.std.proofs.Common.{ℕ, Bool, List, [], Some, ◌≡◌, ◌≤◌, ◌+◌, inl, inr, length, refl, sym, ap, ◌∙◌, arith}
 use Rattle.std.specs.Prelude.{slice_get}
-use Rattle.std.proofs.lemmas.Option.{same_Some, slice_get_within}
+use Rattle.std.proofs.lemmas.Option.{same_Some}
 use Rattle.cq_tables.specs.Content.{Content, cell_of, IsWhole}
 use Rattle.cq_rows.proofs.Cells.{below_or_at, filled_below}
 use Rattle.cq_growth.specs.declared.levels.Member.{Member}
-use Rattle.cq_growth.specs.Levels.{IsReached, IsIn, Expands, IsStepFrom, IsNext, IsNextOf}
+use Rattle.cq_growth.specs.Levels.{Expands, IsNext, IsNextOf}
 
 pub next_none : (m : Content) (old : List Member) (marks : List Bool) → IsNextOf m 0 old marks [] marks
 next_none m old marks = record {

@@ -1,8 +1,7 @@
 -- What the rows up to a depth say of terms of that depth.
-use Rattle.std.proofs.Common.{ℕ, Bool, true, false, List, [], ◌∷◌, ◌++◌, Option, Some, None, ◌≡◌, ◌<◌, ◌≤◌, ◌+◌, ◌⊎◌, inl, inr, length, map, refl, sym, ap, subst, ◌∙◌, arith, length-append}
-use Rattle.std.specs.Prelude.{IsSome, is_some, slice_get, slice_index, option_and_then}
-use Rattle.std.proofs.lemmas.Option.{same_Some}
-use Rattle.cq_tables.specs.Content.{Content, keys_of, live_of, cell_of, step_of, trace_of}
+use Rattle.std.proofs.Common.{ℕ, Bool, true, false, List, [], ◌∷◌, Option, Some, None, ◌≡◌, ◌<◌, ◌+◌, inl, inr, map, refl, sym, ap, subst, ◌∙◌, arith, length-append}
+use Rattle.std.specs.Prelude.{IsSome, slice_get, slice_index, option_and_then}
+use Rattle.cq_tables.specs.Content.{Content, keys_of, cell_of, step_of}
 use Rattle.cq_tables.specs.Content.{entity_of as row_entity}
 use Rattle.cq_rows.specs.Plain.{ends_of}
 use Rattle.cq_rows.specs.Rows.{row_of_term, AllFilled}
@@ -12,14 +11,12 @@ use Rattle.cq_rows.proofs.Bridge.{step_same, has_key}
 use Rattle.cq_rows.proofs.Tracing.{trace_append}
 use Rattle.cq_theory.specs.declared.presentation.Presentation.{Presentation}
 use Rattle.cq_theory.specs.declared.term.EntTerm.{EntTerm}
-use Rattle.cq_theory.specs.declared.term.Term.TheVariants.{Ent}
-use Rattle.cq_theory.specs.Derivation.{Within}
 use Rattle.cq_theory.specs.EntTerm.{depth_of}
 use Rattle.cq_theory.specs.SchemaData.{SchemaData as Schema}
 use Rattle.cq_theory.specs.Sorts.{entity_of}
 use Rattle.cq_growth.specs.declared.levels.Member.{Member}
-use Rattle.cq_growth.specs.Levels.{LeadsAt, IsLevel, one_further}
-use Rattle.cq_growth.specs.News.{IsNew, IsEmptyAt, IsOpen, AreFilled}
+use Rattle.cq_growth.specs.Levels.{IsLevel, one_further}
+use Rattle.cq_growth.specs.News.{IsNew, IsOpen, AreFilled}
 use Rattle.cq_growth.proofs.Leading.{row_sort, further_sort}
 
 -- one key leads on exactly where the cell is filled

@@ -1,5 +1,5 @@
 -- How many rows an entity has.
-use Rattle.std.specs.Prelude.{ℕ, zero, suc, Bool, List, ◌+◌, ◌<◌, ◌≤◌, ◌≡◌, ◌==◌, ◌&&◌, if◌then◌else◌, map}
+use Rattle.std.specs.Prelude.{ℕ, zero, suc, Bool, ◌+◌, ◌<◌, ◌≤◌, ◌≡◌, ◌==◌, ◌&&◌, if◌then◌else◌}
 use Rattle.cq_tables.specs.Content.{Content, made_of, live_of}
 use Rattle.cq_tables.specs.Content.{entity_of as row_entity}
 use Rattle.cq_growth.specs.declared.counts.Most.{Most}

@@ -1,5 +1,5 @@
 -- Terms that are new at a depth.
-use Rattle.std.specs.Prelude.{ℕ, List, Some, None, Option, ◌≡◌, ◌<◌, slice_get}
+use Rattle.std.specs.Prelude.{ℕ, List, Some, None, ◌≡◌, ◌<◌, slice_get}
 use Rattle.cq_tables.specs.Content.{Content, keys_of, step_of, cell_of}
 use Rattle.cq_tables.specs.Content.{entity_of as row_entity}
 use Rattle.cq_rows.specs.Rows.{RowFilled}

@@ -76,11 +76,7 @@ fn greatest(numbers: &[u64]) -> Option<usize>
 }
 
 /// The first entity that has the most rows. There is none exactly where there are no entities.
-pub fn most_rows(
-    alloc: Global,
-    tables: &Tables,
-    entities: u32,
-) -> Result<Option<Most>, AllocError>
+pub fn most_rows(alloc: Global, tables: &Tables, entities: u32) -> Result<Option<Most>, AllocError>
     requires whole { IsWhole tables.now }
     requires entities { entities_of tables.now ≡ entities }
     ensures { IfOk result (λ found. MatchOption found (entities ≡ 0) (IsMost tables.now entities)) }

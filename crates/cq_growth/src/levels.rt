@@ -118,12 +118,7 @@ pub fn begin(
 }
 
 /// Adds the rows to which the keys lead from a row.
-fn expand(
-    alloc: Global,
-    tables: &Tables,
-    from: &Member,
-    next: &mut Level,
-) -> Result<(), AllocError>
+fn expand(alloc: Global, tables: &Tables, from: &Member, next: &mut Level) -> Result<(), AllocError>
     requires whole { IsWhole tables.now }
     requires marks { length next.old.reached.items ≡ made_of tables.now }
     requires live { live_of tables.now from.now.row ≡ true }

@@ -39,7 +39,10 @@ pub fn append_underivable(
 {
     let (over, equation) = asked.into_parts();
     match build(alloc, schema, over, depth) {
-        Ok(instance) => append_sides(alloc, out, &instance, &equation),
+        Ok(instance) => {
+            append_sides(alloc, out, &instance, &equation)?;
+            Ok(())
+        }
         Err(BuildRefusal::Depth) => Ok(()),
         Err(BuildRefusal::TooManyRows) => Ok(()),
         Err(BuildRefusal::Inconsistent(_, _)) => Ok(()),

@@ -1,5 +1,5 @@
 //! The images of generators by the parts of a transform, and the image of an equation by them.
-ghost use Rattle.std.specs.Prelude.{◌≡◌, ◌≤◌, ◌<◌, IfOk, MatchOption, length, option_copied, slice_get};
+ghost use Rattle.std.specs.Prelude.{◌≡◌, ◌≤◌, ◌<◌, IfOk, MatchOption, length, option_and_then, option_copied, slice_get};
 ghost use Rattle.cq_base.specs.Names.{number_of};
 ghost use Rattle.cq_scope.specs.Firsts.{AreFirstsOf};
 ghost use Rattle.cq_terms.specs.Generators.{names_of, sorts_of};
@@ -31,9 +31,9 @@ fn named_parts(alloc: Global, parts: &[(Name, Raw)]) -> Result<Vec<(Name, Sort)>
     Ok(made)
 }
 
-/// The number of the first generator with a name.
-fn number_in(firsts: &Firsts, name: &Name) -> Option<u32>
-    ensures { (G : Generators) → AreFirstsOf G firsts.now → result ≡ number_of (names_of G) name.now }
+/// The number that stands beside a name.
+fn number_beside(firsts: &Firsts, name: &Name) -> Option<u32>
+    ensures { result ≡ option_and_then (slice_get firsts.now.numbers) (number_of firsts.now.scope.names name.now) }
 {
     match firsts.scope.names.find(name) {
         Some(place) => firsts.numbers.as_slice().get(place as usize).copied(),
@@ -88,14 +88,25 @@ struct Giving<'a> {
     to: &'a Firsts,
 }
 
+/// The number of the first part with a name.
+fn number_in(giving: &Giving, name: &Name) -> Option<u32>
+    requires { AreFirstsOf (parts_as_generators giving.now.parts.now) giving.now.names.now }
+    ensures { result ≡ number_of (given giving.now.parts.now) name.now }
+{
+    number_beside(giving.names, name)
+}
+
 /// The image of the generator with a name.
 fn make_image(alloc: Global, giving: &Giving, name: &Name) -> Result<Image, AllocError>
     requires { AreFirstsOf (parts_as_generators giving.now.parts.now) giving.now.names.now }
     ensures { (H : Generators) → AreFirstsOf H giving.now.to.now → IfOk result (λ made. made
         ≡ image_named giving.now.schema.now (scope_of H) (given giving.now.parts.now) giving.now.parts.now name.now) }
 {
-    match number_in(giving.names, name) {
-        Some(place) => image_in(alloc, giving.schema, giving.to, giving.parts.get(place as usize)),
+    match number_in(giving, name) {
+        Some(place) => {
+            let part = giving.parts.get(place as usize);
+            image_in(alloc, giving.schema, giving.to, part)
+        }
         None => image_in(alloc, giving.schema, giving.to, None),
     }
 }
@@ -142,8 +153,9 @@ pub fn images_of(
     let named = named_parts(alloc, parts)?;
     let names = firsts_of(alloc, &named)?;
     let to = firsts_of(alloc, generators_of(finish))?;
+    let schema: &Schema = start.schema();
     let giving = Giving {
-        schema: start.schema(),
+        schema,
         parts,
         names: &names,
         to: &to,

@@ -108,7 +108,10 @@ pub fn append_rows(
     let grown = last_within(alloc, schema, presentation, depth)?;
     match &grown {
         Growth::Kept => Ok(()),
-        Growth::Passed(within) => append_within(alloc, out, schema, within),
+        Growth::Passed(within) => {
+            append_within(alloc, out, schema, within)?;
+            Ok(())
+        }
         Growth::AtOnce => {
             out.extend_from_slice(
                 b"The generators alone are over 200000 rows.\nTo mend it: split the instance.\n",

@@ -66,6 +66,7 @@ fn row_name<'a>(instance: &'a Instance, term: &EntTerm) -> Option<&'a EntTerm>
         (λ name. IsGround instance.now.schema instance.now.presentation (Ent term.now)
         × (name.now ≡ name_of_row instance.now term.now)) }
 {
+    instance.is_instance();
     let Some(entity) = entity_of(instance, term) else {
         return None;
     };
@@ -163,6 +164,7 @@ fn append_values(
 ) -> Result<(), AllocError>
     ensures { OnOk result (TellsSides instance.now (Typ left.now) (Typ right.now) out.old.items out.new.items) }
 {
+    instance.is_instance();
     let Some(first) = value_in(alloc, instance, left)? else {
         return Ok(());
     };

@@ -1,4 +1,4 @@
-use Rattle.std.proofs.Common.{ℕ, ◌≡◌, ◌∙◌, map, ap, sym, arith}
+use Rattle.std.proofs.Common.{◌≡◌, ◌∙◌, map, ap, sym, arith}
 use Rattle.cq_tables.specs.Content.{made_of}
 use Rattle.cq_theory.specs.Canonical.{below}
 use Rattle.cq_growth.specs.Counts.{rows_below}
@@ -13,5 +13,5 @@ loop-row-init c =
 pub returns : goal.returns
 returns c =
     let m = c.args.tables.now in
-    let count : c.loop-row.row ≡ made_of m = omega (arith, c.loop-row-test.false, c.loop-row.auto.row-end, c.made.ensures) in
+    let count : c.loop-row.row ≡ made_of m = omega (arith, c.loop-row-test.false, c.loop-row.auto.row-end, c.made-row-end.ensures) in
     c.loop-row.invariant ∙ (λ i. map (λ e. rows_below m e (count i)) (below (c.requires.entities i)))

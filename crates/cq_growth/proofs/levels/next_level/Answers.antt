@@ -1,4 +1,4 @@
-use Rattle.std.proofs.Common.{List, ap, refl, sym, subst, length, arith, ◌∙◌}
+use Rattle.std.proofs.Common.{List, ap, refl, sym, subst, length, ◌∙◌}
 use Rattle.std.specs.Prelude.{slice_get}
 use Rattle.std.proofs.lemmas.Option.{slice_get_read}
 use Rattle.cq_growth.specs.declared.levels.Member.{Member}

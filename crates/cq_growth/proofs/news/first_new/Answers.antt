@@ -1,5 +1,4 @@
-use Rattle.std.proofs.Common.{List, ◌≡◌, ◌∙◌, ap, sym, subst}
-use Rattle.cq_theory.specs.declared.term.EntTerm.{EntTerm}
+use Rattle.std.proofs.Common.{List, sym, subst}
 use Rattle.cq_growth.specs.declared.levels.Member.{Member}
 use Rattle.cq_growth.specs.News.{AreFilled, IsNew, IsOpen}
 use Rattle.cq_growth.proofs.Opened.{open_is_new, all_filled}

@@ -1,4 +1,4 @@
-use Rattle.std.proofs.Common.{ℕ, List, ◌≡◌, ◌+◌, length, subst, arith}
+use Rattle.std.proofs.Common.{ℕ, List, ◌≡◌, length, subst, arith}
 use Rattle.cq_growth.specs.Levels.{HasBegun, IsLevel}
 use Rattle.cq_growth.proofs.Leading.{level_begun, level_next}
 use Rattle.cq_growth.proofs.news.level_at.Goals as goal
