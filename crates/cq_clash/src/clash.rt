@@ -3,19 +3,17 @@ ghost use Rattle.std.specs.Prelude.{◌≡◌, ◌<◌, ◌^◌, IfOk};
 ghost use Rattle.cq_clash.specs.Clash.{Tells};
 ghost use Rattle.cq_parts.specs.Few.{part_count};
 ghost use Rattle.cq_stating.specs.Environment.{AreSettled, environment_of};
-ghost use Rattle.cq_stating.specs.Posing.{AreSpan, IsPosed};
-ghost use Rattle.cq_stating.specs.Environment.{transform_meant};
+ghost use Rattle.cq_stating.specs.Posing.{IsPosed};
 
-use crate::parts::{Asked, part_of, push_glued, push_image, push_own, push_parts};
+use crate::parts::{Asked, push_image, push_own, push_parts};
 use crate::writing::source_of;
 use cq_base::Name;
 use cq_conflict::{Constants, Rest};
 use cq_instance::Instance;
 use cq_io::Folder;
 use cq_mapping::Mapping;
-use cq_push::pushout_presentation;
 use cq_query::Query;
-use cq_stating::{Environment, NamedTransform, ProgramRefusal, Statement, read_stated, state};
+use cq_stating::{Environment, ProgramRefusal, Statement, read_stated, state};
 use cq_syntax::{Body, Decl, InstanceExp};
 use cq_theory::{Presentation, Schema, SizeRefusal};
 use std::alloc::{AllocError, Global};
@@ -84,7 +82,6 @@ fn push_posed<F: Folder>(
         Statement::Coeval(name, query, instance) => {
             push_coeval(&told, name, query, instance, folder, text)
         }
-        Statement::Pushout(left, right) => push_pushout(&told, left, right, folder, text),
         _ => Ok(false),
     }
 }
@@ -162,38 +159,6 @@ fn push_coeval<F: Folder>(
         Ok(presentation) => {
             let asked = told.asked(name, &query.source, &presentation);
             push_parts(&asked, &[], Rest::Rows(&operand.name), folder, text)
-        }
-        Err(SizeRefusal::Memory) => Err(AllocError),
-        Err(SizeRefusal::TooLarge) => Ok(false),
-    }
-}
-
-/// Tells of two instances that are glued along a third.
-fn push_pushout<F: Folder>(
-    told: &Told,
-    left: &NamedTransform,
-    right: &NamedTransform,
-    folder: &mut F,
-    text: &mut Vec<u8>,
-) -> Result<bool, AllocError>
-    requires { AreSpan (transform_meant left.now) (transform_meant right.now) }
-    ensures files { (F.state folder.new).files ≡ (F.state folder.old).files }
-    ensures told { IfOk result (Tells told.now.constants.least.now told.now.constants.greater.now text.old.items
-        text.new.items) }
-{
-    let alloc = told.alloc;
-    let first: &Instance = &left.ends.finish.instance;
-    let second: &Instance = &right.ends.finish.instance;
-    match pushout_presentation(alloc, &left.transform, &right.transform, first, second) {
-        Ok(presentation) => {
-            let start = &left.ends.start;
-            let asked = told.asked(&start.schema, start.instance.schema(), &presentation);
-            let parts = (
-                part_of(&asked, &left.ends.target, first),
-                part_of(&asked, &right.ends.target, second),
-                part_of(&asked, &left.ends.source, &start.instance),
-            );
-            push_glued(&asked, parts.0, parts.1, parts.2, folder, text)
         }
         Err(SizeRefusal::Memory) => Err(AllocError),
         Err(SizeRefusal::TooLarge) => Ok(false),

@@ -58,27 +58,6 @@ pub fn push_image<F: Folder>(
     push_parts(asked, &parts, Rest::None, folder, text)
 }
 
-/// Tells of a presentation that is put together from two, with an equation for each generator of a third.
-pub fn push_glued<F: Folder>(
-    asked: &Asked,
-    left: Part,
-    right: Part,
-    start: Part,
-    folder: &mut F,
-    text: &mut Vec<u8>,
-) -> Result<bool, AllocError>
-    ensures files { (F.state folder.new).files ≡ (F.state folder.old).files }
-    ensures told { IfOk result (Tells asked.now.constants.least.now asked.now.constants.greater.now text.old.items
-        text.new.items) }
-{
-    let parts = [left, right];
-    let rest = match start.name {
-        Some(name) => Rest::Images(name, start.presentation),
-        None => Rest::None,
-    };
-    push_parts(asked, &parts, rest, folder, text)
-}
-
 /// Tells of a presentation that has these parts, and what is behind them.
 pub fn push_parts<F: Folder>(
     asked: &Asked,
@@ -102,7 +81,7 @@ pub fn push_parts<F: Folder>(
 }
 
 /// An instance of a name as a part.
-pub fn part_of<'a>(asked: &Asked<'a>, name: &'a Name, instance: &'a Instance) -> Part<'a> {
+fn part_of<'a>(asked: &Asked<'a>, name: &'a Name, instance: &'a Instance) -> Part<'a> {
     let schema: &Schema = instance.schema();
     Part {
         name: Some(name),

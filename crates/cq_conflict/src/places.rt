@@ -63,7 +63,7 @@ fn push_entity(schema: &Schema, entity: u32, text: &mut Vec<u8>) -> Result<(), A
 /// Appends the name of the file of an entity in a folder.
 fn push_file(files: Files, entity: u32, text: &mut Vec<u8>) -> Result<(), AllocError>
     ensures { OnOk result (text.new.items ≡ text.old.items
-        ++ file_text files.dir.now files.schema.now entity) }
+        ++ file_text files.entry.dir.now files.entry.schema.now entity) }
 {
     push_name(files.dir, text)?;
     text.extend_from_slice(b"/")?;
@@ -96,7 +96,7 @@ pub fn push_cell(
     text: &mut Vec<u8>,
 ) -> Result<(), AllocError>
     ensures { OnOk result (text.new.items ≡ text.old.items
-        ++ cell_text files.dir.now files.schema.now place line) }
+        ++ cell_text files.entry.dir.now files.entry.schema.now place line) }
 {
     push_file(files, place.entity, text)?;
     text.extend_from_slice(b", ")?;

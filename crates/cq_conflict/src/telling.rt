@@ -6,14 +6,61 @@ use crate::constants::constant_of_text;
 use crate::found::{Found, Telling, equation_counts, find_parts, labels_in};
 use crate::labels::shown_presentation;
 use crate::notes::{Noting, notes_of, numbers_of};
+use crate::rows::{Label, Line};
 use crate::seeking::conflict;
 use crate::sources::Explained;
 use crate::text::{Shown, push_told};
 use crate::told::told_steps;
+use cq_base::Seq;
 use cq_io::Folder;
 use cq_steps::Step;
-use cq_theory::Typeside;
+use cq_theory::{Presentation, Schema, Typeside};
 use std::alloc::{AllocError, Global};
+
+/// What is noted of the told steps.
+fn notes_for(
+    alloc: Global,
+    telling: &Telling,
+    lines: &[Vec<Line>],
+) -> Result<Vec<Seq<u8>>, AllocError> {
+    let numbers = numbers_of(alloc, telling.steps.len(), telling.told)?;
+    let noting = Noting {
+        explained: telling.explained,
+        lengths: telling.lengths,
+        lines,
+        numbers: numbers.as_slice(),
+    };
+    notes_of(alloc, &noting, telling.steps, telling.told)
+}
+
+/// The generators under the names by which they are told.
+fn shown_for(
+    alloc: Global,
+    telling: &Telling,
+    labels: Vec<Label>,
+) -> Result<Presentation, AllocError> {
+    let labels = labels_in(alloc, telling, labels)?;
+    shown_presentation(alloc, telling.explained.presentation, labels.as_slice())
+}
+
+/// Appends the lines of the told steps, with generators under some names and with notes.
+fn push_shown(
+    telling: &Telling,
+    presentation: &Presentation,
+    notes: &[Seq<u8>],
+    text: &mut Vec<u8>,
+) -> Result<(), AllocError>
+    ensures told { OnOk result (TellsLines telling.now.explained.now.schema.now telling.now.steps.now telling.now.told.now
+        text.old.items text.new.items) }
+{
+    let shown = Shown {
+        schema: telling.explained.schema,
+        presentation,
+        steps: telling.steps,
+        notes,
+    };
+    push_told(&shown, telling.told, text)
+}
 
 /// Appends the lines of the told steps.
 fn push_lines<F: Folder>(
@@ -27,24 +74,9 @@ fn push_lines<F: Folder>(
         text.old.items text.new.items) }
 {
     let Found { lines, labels } = find_parts(alloc, telling, folder)?;
-    let labels = labels_in(alloc, telling, labels)?;
-    let explained = telling.explained;
-    let presentation = shown_presentation(alloc, explained.presentation, labels.as_slice())?;
-    let numbers = numbers_of(alloc, telling.steps.len(), telling.told)?;
-    let noting = Noting {
-        explained,
-        lengths: telling.lengths,
-        lines: lines.as_slice(),
-        numbers: numbers.as_slice(),
-    };
-    let notes = notes_of(alloc, &noting, telling.steps, telling.told)?;
-    let shown = Shown {
-        schema: explained.schema,
-        presentation: &presentation,
-        steps: telling.steps,
-        notes: notes.as_slice(),
-    };
-    push_told(&shown, telling.told, text)
+    let presentation = shown_for(alloc, telling, labels)?;
+    let notes = notes_for(alloc, telling, lines.as_slice())?;
+    push_shown(telling, &presentation, notes.as_slice(), text)
 }
 
 /// Appends the steps that a reader needs, each in a line with its equation and where it comes from or follows from.
@@ -90,7 +122,8 @@ pub fn push_conflict<F: Folder>(
     ensures told { IfOk result (Tells told.now.schema.now told.now.presentation.now constants.now.least.now
         constants.now.greater.now text.old.items text.new.items) }
 {
-    let typeside: &Typeside = &told.schema.typeside;
+    let schema: &Schema = told.schema;
+    let typeside: &Typeside = &schema.typeside;
     let Some(least) = constant_of_text(alloc, typeside, constants.least)? else {
         return Ok(false);
     };
@@ -99,7 +132,7 @@ pub fn push_conflict<F: Folder>(
     };
     let found = conflict(
         alloc,
-        told.schema,
+        schema,
         told.presentation,
         &least.constant,
         &greater.constant,

@@ -1,6 +1,6 @@
 -- The limits on a presentation that is glued together, and what is answered for it.
 use Rattle.std.proofs.Common.{ℕ, zero, suc, Bool, true, false, List, [], ◌∷◌, Some, None, ◌≡◌, ◌<◌, ◌≤◌, ◌||◌, ◌⊎◌, inl, inr, Result, Ok, Err, IfOk, length, refl, sym, ap, subst, ◌∙◌, arith}
-use Rattle.std.specs.Prelude.{slice_get, nat_lt, All, IfErr}
+use Rattle.std.specs.Prelude.{slice_get, nat_lt, All}
 use Rattle.std.specs.List.{list_any}
 use Rattle.std.proofs.lemmas.Bool.Decides.{nat_tests}
 use Rattle.cq_base.specs.declared.name.Name.{Name}
@@ -110,9 +110,3 @@ cause_of S P Q depth r m same is fits deep wide unequal = record {
 pub answer_of : (S T : Schema) (P Q : Presentation) (depth : ℕ) (result : Result InstanceData MoveRefusal) → S ≡ T → P ≡ Q → IsModelOrCause S P depth result → IsModelOrCause T Q depth result
 answer_of S T P Q depth result schemas presentations h =
     subst (λ (x : Schema × Presentation). IsModelOrCause x.0 x.1 depth result) (λ i. (schemas i, presentations i)) h
-
--- what follows where the answer is that a limit is passed
-pub too_large : {A Q : Type 0} (r : Result A SizeRefusal) → IfErr r (λ refusal. (refusal ≡ size.Memory) ⊎ ((refusal ≡ size.TooLarge) × Q)) → r ≡ Err size.TooLarge → Q
-too_large (Ok a) told is = cc
-too_large (Err e) (inl memory) is = cc (memory, is)
-too_large (Err e) (inr large) is = large.1

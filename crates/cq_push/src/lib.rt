@@ -13,4 +13,4 @@ pub mod pushouts;
 mod shifting;
 
 pub use coproducts::coproduct;
-pub use pushouts::{pushout, pushout_presentation};
+pub use pushouts::pushout;
