@@ -36,7 +36,6 @@ pub struct Over<'a> {
 pub struct Pass {
     pub faults: Faults,
     pub labels: Labels,
-    pub source: Source,
     pub going: bool,
 }
 
@@ -136,6 +135,19 @@ fn stop(cell: &Cell, trouble: Trouble, pass: &mut Pass) -> Result<(), AllocError
     add_fault(cell, kind_of(trouble), pass)
 }
 
+/// What a field means in the column of an attribute of this type. Its text stands in memory of its own.
+fn content_in(
+    alloc: Global,
+    typeside: &Typeside,
+    sort: u32,
+    field: &[u8],
+) -> Result<Content, AllocError>
+    ensures { IfOk result (λ content. content ≡ content_of typeside.now sort field.now) }
+{
+    let mut source = Source::new(alloc, field)?;
+    read_content(alloc, &mut source, typeside, sort, field.len(), field)
+}
+
 /// Tests a cell of an attribute.
 fn read_attribute(over: &Over, cell: &Cell, sort: u32, pass: &mut Pass) -> Result<(), AllocError>
     requires going { pass.old.going ≡ true }
@@ -145,8 +157,7 @@ fn read_attribute(over: &Over, cell: &Cell, sort: u32, pass: &mut Pass) -> Resul
 {
     let schema: &Schema = over.schema;
     let typeside: &Typeside = &schema.typeside;
-    let source = &mut pass.source;
-    match read_content(over.alloc, source, typeside, sort, 0, cell.field)? {
+    match content_in(over.alloc, typeside, sort, cell.field)? {
         Content::Blank => Ok(()),
         Content::Wrong => add_fault(cell, Kind::BadCell, pass),
         Content::Means(value) => read_value(over, cell, sort, &value, pass),

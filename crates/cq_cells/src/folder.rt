@@ -16,7 +16,7 @@ use crate::index::{MOST_GENERATORS, find_total, index_files};
 use crate::readings::{Reading, Unread, read_files};
 use crate::rows::{Tested, check_reading};
 use crate::tables::read_cells;
-use cq_base::{Name, Source};
+use cq_base::Name;
 use cq_import::columns::{Column, columns, header};
 use cq_import::labels::Labels;
 use cq_io::Folder;
@@ -120,11 +120,9 @@ fn check_over(over: &Over, faults: Faults) -> Result<Faults, AllocError>
         (typeside_over over.now) (Some over.now.most) [] (all_cells over.now.schema.now (sheets_over over.now name)))) }
 {
     let labels = Labels::new(over.alloc);
-    let source = Source::new(over.alloc, &[])?;
     let mut pass = Pass {
         faults,
         labels,
-        source,
         going: true,
     };
     read_cells(over, &mut pass)?;

@@ -9,7 +9,7 @@ pub returns-in-None : goal.returns-in-None
 returns-in-None c = λ generator.
     let same = c.deref-typeside.ensures ∙ ap (λ (s : SchemaData). s.typeside) c.schema.view_is in
     let old = c.args.pass.now in
-    let new : Pass = record { faults = old.faults; labels = c.note_labels.new.labels; source = old.source; going = old.going } in
+    let new : Pass = record { faults = old.faults; labels = c.note_labels.new.labels; going = old.going } in
     let right = ap (λ t. uses_trouble (Some c.args.over.now.most) old.labels (uses_in t c.args.value.now c.args.sort)) (sym same) ∙ sym c.in_ok-note_labels.ensures.told ∙ c.in-None.is in
     let noted = c.in_ok-note_labels.ensures.noted c.in-None.is ∙ ap (λ t. with_uses old.labels (uses_in t c.args.value.now c.args.sort)) same in
     attribute_right c.args.over.now old new c.args.cell.now generator c.requires.going c.requires.column.0 c.args.sort c.requires.column.1 c.args.value.now c.requires.content right c.requires.going noted refl

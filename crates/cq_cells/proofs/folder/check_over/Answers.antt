@@ -7,5 +7,5 @@ use Rattle.cq_cells.proofs.folder.check_over.Goals as goal
 
 pub returns : goal.returns
 returns c =
-    let old : Pass = record { faults = c.args.faults; labels = c.new-labels.result; source = c.in_ok-source.source; going = true } in
+    let old : Pass = record { faults = c.args.faults; labels = c.new-labels.result; going = true } in
     passes_listed c.args.over.now old c.read_cells.new.pass (λ name. all_cells c.args.over.now.schema.now (sheets_over c.args.over.now name)) refl c.new-labels.ensures c.in_ok-read_cells.ensures
