@@ -112,6 +112,14 @@ weight_more weights vs i d total within is =
 over : (n : ℕ) → nat_lt 16000000 (capped n) ≡ nat_lt 16000000 n
 over n = grind (arith, nat_tests)
 
+or_right : (c d : Bool) → d ≡ true → (c || d) ≡ true
+or_right true d h = refl
+or_right false d h = h
+
+or_none : (c d : Bool) → (c || d) ≡ false → (c ≡ false) × (d ≡ false)
+or_none true d h = cc
+or_none false d h = (refl, h)
+
 -- some block has too many variables
 pub many_large : (Q : Query) → list_any (nat_lt 16000000) (widths_of Q) ≡ true → is_large Q ≡ true
 many_large Q = go Q.blocks
@@ -126,9 +134,6 @@ many_large Q = go Q.blocks
             || list_any is_large_block bs) is
         at false is k = or_right (is_large_block b) (list_any is_large_block bs) (go bs k)
 
-    or_right : (c d : Bool) → d ≡ true → (c || d) ≡ true
-    or_right true d h = refl
-    or_right false d h = h
 
 -- no block has too many variables
 pub few_variables : (Q : Query) → list_any (nat_lt 16000000) (widths_of Q) ≡ false → (u : ℕ) (b : Block) → slice_get Q.blocks u ≡ Some b → nat_lt 16000000 (length b.vars) ≡ false
@@ -140,7 +145,3 @@ few_variables Q = go Q.blocks
         let same : c ≡ b = cc in
         sym (over (length b.vars)) ∙ ap (λ (d : Block). nat_lt 16000000 (capped (length d.vars))) (sym same) ∙ (or_none (nat_lt 16000000 (capped (length c.vars))) (list_any (nat_lt 16000000) (map (λ (b : Block). capped (length b.vars)) bs)) h).0
     go (c ∷ bs) h (suc u) b at = go bs (or_none (nat_lt 16000000 (capped (length c.vars))) (list_any (nat_lt 16000000) (map (λ (b : Block). capped (length b.vars)) bs)) h).1 u b at
-
-    or_none : (c d : Bool) → (c || d) ≡ false → (c ≡ false) × (d ≡ false)
-    or_none true d h = cc
-    or_none false d h = (refl, h)

@@ -1,6 +1,6 @@
 -- The lengths of a composite: those of the second query, with the first's for what it asks.
 use Rattle.std.proofs.Common.{ℕ, zero, suc, List, [], ◌∷◌, ◌++◌, Option, Some, None, ◌≡◌, ◌<◌, ◌≤◌, ◌+◌, ◌*◌, map, sum, length, get_or, refl, sym, ap, subst, ◌∙◌, arith, length-append}
-use Rattle.std.specs.Prelude.{slice_get, All, option_and_then}
+use Rattle.std.specs.Prelude.{slice_get, All, IfSome, option_and_then}
 use Rattle.std.specs.List.{flat_map, enumerate_from, range_with_len}
 use Rattle.std.proofs.Math.Nat.{mul-le-mul_left}
 use Rattle.std.proofs.lemmas.List.Sums.{sum_by-cons}
@@ -248,3 +248,18 @@ lengths_composed m n k Q W first second wider = record {
     composed_short m Q n first W y.0 k wider y.1 there (Every-at (IsShortBlock n k) W.blocks y.0 y.1 (Every-from_All (IsShortBlock n k) W.blocks second.blocks) there))
   );
 }
+
+-- the bounds of one query, by which those of the next are found
+pub bounded_twice : (r : Option Lengths) (m n : Lengths) (Q W C : Query) → composite Q W ≡ C → AreLengths m Q n → m.most ≤ n.most
+    → IfSome r (λ k. AreLengths n W k × (n.most ≤ k.most) × (k.most ≤ 1024)) → IfSome r (λ k. AreLengths m C k × (m.most ≤ k.most) × (k.most ≤ 1024))
+bounded_twice None m n Q W C same first wider told = tt
+bounded_twice (Some k) m n Q W C same first wider told =
+    (subst (λ (X : Query). AreLengths m X k) same (lengths_composed m n k Q W first told.0 told.1), omega (arith, wider, told.1), told.2)
+
+pub bounded_next : (r : Option Lengths) (m n : Lengths) (Q W C : Query) → composite Q W ≡ C → AreLengths m Q n
+    → IfSome r (λ k. AreLengths n W k × (n.most ≤ k.most) × (k.most ≤ 1024)) → IfSome r (λ k. AreLengths m C k × (k.most ≤ 1024))
+bounded_next None m n Q W C same first told = tt
+bounded_next (Some k) m n Q W C same first told = (subst (λ (X : Query). AreLengths m X k) same (lengths_composed m n k Q W first told.0 told.1), told.2)
+
+pub at_some : {X : Type 0} (o : Option X) (x : X) (P : X → Type 0) → o ≡ Some x → IfSome o P → P x
+at_some o x P is told = subst (λ p. IfSome p P) is told

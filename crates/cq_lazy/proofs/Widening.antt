@@ -1,16 +1,18 @@
 -- Bounds that grow.
-use Rattle.std.proofs.Common.{ℕ, List, [], ◌∷◌, ◌≡◌, ◌<◌, ◌≤◌, ◌+◌, ◌*◌, length, take, get_or, subst, arith}
-use Rattle.std.specs.Prelude.{All}
+use Rattle.std.proofs.Common.{ℕ, List, [], ◌∷◌, ◌≡◌, ◌<◌, ◌≤◌, ◌+◌, ◌*◌, length, map, sum, take, get_or, sym, ap, subst, ◌∙◌, arith}
+use Rattle.std.specs.Prelude.{All, IfSome, Option, Some, None}
 use Rattle.std.proofs.Math.Nat.{mul-le-mul_right}
-use Rattle.std.proofs.lemmas.List.{take_all}
+use Rattle.std.proofs.lemmas.List.{take_all, take_more, map-append}
+use Rattle.std.proofs.lemmas.List.Sums.{sum_by-append, sum_by-cons}
 use Rattle.std.proofs.lemmas.List.Elements.{All-more}
 use Rattle.cq_theory.specs.declared.presentation.Equation.{Equation}
 use Rattle.cq_theory.specs.declared.presentation.Equation.TheVariants as equation
 use Rattle.cq_theory.specs.declared.term.EntTerm.{EntTerm}
 use Rattle.cq_theory.specs.declared.term.TypeTerm.{TypeTerm}
 use Rattle.cq_blocks.specs.declared.block.Block.{Block}
+use Rattle.cq_query.specs.QueryData.{QueryData as Query}
 use Rattle.cq_lazy.specs.declared.lengths.Lengths.{Lengths}
-use Rattle.cq_lazy.specs.Lengths.{length_at, IsShortKey, IsShortAttribute, IsShortTest, IsShortBlock, AreWider}
+use Rattle.cq_lazy.specs.Lengths.{length_at, IsShortKey, IsShortAttribute, IsShortTest, IsShortBlock, AreLengths, AreWider}
 
 pub wider_itself : (m : Lengths) → AreWider m m
 wider_itself m = record { keys = omega arith; symbols = omega arith; leaves = omega arith; most = omega arith }
@@ -71,3 +73,54 @@ wider_none P xs m = (wider_itself m, λ k d within. absurd (none xs k within))
 -- and all at the end
 pub wider_all : {X : Type 0} (P : Lengths → X → Type 0) (xs : List X) (i : ℕ) (m n : Lengths) → length xs ≤ i → AreWider m n × All (P n) (take i xs) → AreWider m n × All (P n) xs
 wider_all P xs i m n past h = (h.0, subst (All (P n)) (take_all i xs past) h.1)
+
+-- a sum of lengths with one summand more
+pub line_more : (f : TypeTerm → ℕ) (ts : List TypeTerm) (i : ℕ) (d : TypeTerm) (x s l s' l' s'' l'' : ℕ) → i < length ts → sum (map f (take i ts)) + 1 ≡ s + l * x → f (get_or ts i d) ≡ s' + l' * x
+    → s'' ≡ s + s' → l'' ≡ l + l' → sum (map f (take (i + 1) ts)) + 1 ≡ s'' + l'' * x
+line_more f ts i d x s l s' l' s'' l'' within before next symbols leaves =
+    let more : sum (map f (take (i + 1) ts)) ≡ sum (map f (take i ts)) + sum (f (get_or ts i d) ∷ []) =
+    ap (λ l. sum (map f l)) (take_more ts i d within) ∙ ap sum (map-append f (take i ts) (get_or ts i d ∷ [])) ∙ sum_by-append (λ n. n) (map f (take i ts)) (f (get_or ts i d) ∷ []) in
+    let one : sum (f (get_or ts i d) ∷ []) ≡ f (get_or ts i d) + 0 = sum_by-cons (λ n. n) (f (get_or ts i d)) [] in
+    let both : l'' * x ≡ (l + l') * x = ap (λ n. n * x) leaves in
+    omega (arith, more, one, before, next, symbols, both)
+
+pub if_some : {X : Type 0} (r : Option X) (P R : X → Type 0) → ((x : X) → P x → R x) → IfSome r P → IfSome r R
+if_some None P R f h = tt
+if_some (Some x) P R f h = f x h
+
+-- the bounds of a query, by those of its blocks
+pub lengths_closed : (m none found closed : Lengths) (Q : Query) (bs : List Block) → bs ≡ Q.blocks → 1 ≤ none.symbols → AreWider none found × All (IsShortBlock m found) bs
+    → AreWider found closed × (closed.symbols ≤ closed.most) × (closed.keys + 1 ≤ closed.most) × (closed.most ≤ 1024)
+    → AreLengths m Q closed × (none.most ≤ closed.most) × (closed.most ≤ 1024)
+lengths_closed m none found closed Q bs same some so_far done =
+    let wider = wider_twice none found closed so_far.0 done.0 in
+    (
+      record {
+        some = omega (arith, some, wider.symbols);
+        symbols = done.1;
+        keys = done.2;
+        blocks = subst (All (IsShortBlock m closed)) same (all_wider (IsShortBlock m found) (IsShortBlock m closed) (block_wider m found closed done.0) bs so_far.1);
+      },
+      wider.most,
+      done.3,
+    )
+
+-- a where equation between type terms
+pub typ_short : (m : Lengths) (most : ℕ) (t u : TypeTerm) (e : Equation) → e ≡ equation.Typ t u → length_at m 0 t ≤ most → length_at m 0 u ≤ most → IsShortTest m most e
+typ_short m most t u e is left right = subst (IsShortTest m most) (sym is) (left, right)
+
+-- the bounds of a block
+pub block_covered : (m found by_tests by_attributes : Lengths) (b : Block) (tests : List Equation) (attributes : List TypeTerm) (keys : List (List EntTerm)) → tests ≡ b.tests → attributes ≡ b.attributes → keys ≡ b.keys
+    → AreWider found by_tests × All (IsShortTest m by_tests.most) tests → AreWider by_tests by_attributes × All (IsShortAttribute m by_attributes) attributes
+    → (r : Option Lengths) → IfSome r (λ wide. AreWider by_attributes wide × All (All (IsShortKey m wide)) keys) → IfSome r (λ wide. AreWider found wide × IsShortBlock m wide b)
+block_covered m found by_tests by_attributes b tests attributes keys tests_are attributes_are keys_are first second r told =
+    if_some r (λ wide. AreWider by_attributes wide × All (All (IsShortKey m wide)) keys) (λ wide. AreWider found wide × IsShortBlock m wide b) (λ wide h.
+    let later : AreWider by_tests wide = wider_twice by_tests by_attributes wide second.0 h.0 in
+    (
+      wider_twice found by_tests wide first.0 later,
+      record {
+        tests = subst (All (IsShortTest m wide.most)) tests_are (tests_wider m by_tests wide later tests first.1);
+        attributes = subst (All (IsShortAttribute m wide)) attributes_are (attributes_wider m by_attributes wide h.0 attributes second.1);
+        keys = subst (All (All (IsShortKey m wide))) keys_are h.1;
+      },
+    )) told

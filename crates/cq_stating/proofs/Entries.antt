@@ -1,5 +1,5 @@
 -- The table of the declared names as an environment.
-use Rattle.std.proofs.Common.{Bool, true, false, List, [], ◌∷◌, ◌++◌, ◌≡◌, Option, Some, None, refl, ap, sym}
+use Rattle.std.proofs.Common.{Bool, true, false, List, [], ◌∷◌, ◌++◌, ◌≡◌, Option, Some, None, Result, Ok, Err, IfOk, IfSome, Bor, refl, ap, sym, ◌∙◌}
 use Rattle.std.specs.Prelude.{Box, cond, if◌then◌else◌, is_some, option_and_then, option_map}
 use Rattle.std.specs.Map.{lookup}
 use Rattle.std.specs.declared.alloc.Global.{Global}
@@ -66,3 +66,13 @@ replaced (entry ∷ entries) name m there moved = step (same_name name entry.0) 
         let mover : m.value.moved ≡ entry.1.value.moved = sym moved in
         λ i. (entry.0, same i, mover i) ∷ environment_of entries
     step false there moved rest = ap (λ (env : Environment). (entry.0, meant entry.1.value.meaning, entry.1.value.moved) ∷ env) (rest there moved)
+
+-- what is made in place of what a name stands for, where no operation moved it
+pub bound_under : {E : Type 0} (r : Result (Option Bound) E) (env : Environment) (name : Name) (m : Meant) (o : Option (Bor Moved)) → Some m ≡ meant_by env name
+    → option_map (λ (v : Bor Moved). v.now) o ≡ moved_under env name → is_some o ≡ false
+    → IfOk r (λ found. IfSome found (λ bound. (meant bound.meaning ≡ m) × (bound.moved ≡ None)))
+    → IfOk r (λ found. IfSome found (λ bound. (meant_by env name ≡ Some (meant bound.meaning)) × (moved_under env name ≡ bound.moved)))
+bound_under (Err e) env name m o there moved none told = tt
+bound_under (Ok None) env name m o there moved none told = tt
+bound_under (Ok (Some bound)) env name m (Some v) there moved none told = cc
+bound_under (Ok (Some bound)) env name m None there moved none told = (sym there ∙ ap (λ (n : Meant). Some n) (sym told.0), sym moved ∙ sym told.1)

@@ -54,8 +54,9 @@ fn replace(
     requires moved { moved_under (environment_of env.old.names.entries) name.now ≡ bound.moved }
     ensures { environment_of env.new.names.entries ≡ environment_of env.old.names.entries }
 {
+    let key = name.clone()?;
     let bound = Box::new(alloc, bound)?;
-    env.names.insert(name.clone()?, bound)?;
+    env.names.insert(key, bound)?;
     Ok(())
 }
 

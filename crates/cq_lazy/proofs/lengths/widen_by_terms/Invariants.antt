@@ -4,4 +4,4 @@ use Rattle.cq_lazy.specs.Lengths.{AreWider, IsShortKey}
 use Rattle.cq_lazy.proofs.lengths.widen_by_terms.Given as goal
 
 abbrev pub invariant-loop-term : goal.invariant-loop-term
-invariant-loop-term l = AreWider l.found l.wide × All (IsShortKey l.under l.wide) (take l.term-index l.terms)
+invariant-loop-term l = AreWider l.fn.found l.wide × All (IsShortKey l.under l.wide) (take l.term-index l.terms)
