@@ -120,20 +120,23 @@ or_none : (c d : Bool) → (c || d) ≡ false → (c ≡ false) × (d ≡ false)
 or_none true d h = cc
 or_none false d h = (refl, h)
 
+-- a block that has too many variables, or else one behind it
+large_head : (b : Block) (bs : List Block) (c : Bool) → nat_lt 16000000 (length b.vars) ≡ c → (rest : Bool) → (rest ≡ true → list_any is_large_block bs ≡ true) → (c || rest) ≡ true
+    → (is_large_block b || list_any is_large_block bs) ≡ true
+large_head b bs true is rest later h =
+    ap (λ c. c || list_any has_long_side b.tests || list_any (λ t. nat_lt 1024 (typ.symbols_of t)) b.attributes || list_any (list_any (λ t. nat_lt 1024 (ent.symbols_of t))) b.keys
+    || list_any is_large_block bs) is
+large_head b bs false is rest later h = or_right (is_large_block b) (list_any is_large_block bs) (later h)
+
 -- some block has too many variables
 pub many_large : (Q : Query) → list_any (nat_lt 16000000) (widths_of Q) ≡ true → is_large Q ≡ true
 many_large Q = go Q.blocks
   where
     go : (bs : List Block) → list_any (nat_lt 16000000) (map (λ (b : Block). capped (length b.vars)) bs) ≡ true → list_any is_large_block bs ≡ true
     go [] h = h
-    go (b ∷ bs) h = at (nat_lt 16000000 (length b.vars)) refl (ap (λ c. c || list_any (nat_lt 16000000) (map (λ (b : Block). capped (length b.vars)) bs)) (sym (over (length b.vars))) ∙ h)
-      where
-        at : (c : Bool) → nat_lt 16000000 (length b.vars) ≡ c → (c || list_any (nat_lt 16000000) (map (λ (b : Block). capped (length b.vars)) bs)) ≡ true → (is_large_block b || list_any is_large_block bs) ≡ true
-        at true is k =
-            ap (λ c. c || list_any has_long_side b.tests || list_any (λ t. nat_lt 1024 (typ.symbols_of t)) b.attributes || list_any (list_any (λ t. nat_lt 1024 (ent.symbols_of t))) b.keys
-            || list_any is_large_block bs) is
-        at false is k = or_right (is_large_block b) (list_any is_large_block bs) (go bs k)
-
+    go (b ∷ bs) h =
+        large_head b bs (nat_lt 16000000 (length b.vars)) refl (list_any (nat_lt 16000000) (map (λ (c : Block). capped (length c.vars)) bs)) (go bs)
+        (ap (λ c. c || list_any (nat_lt 16000000) (map (λ (c : Block). capped (length c.vars)) bs)) (sym (over (length b.vars))) ∙ h)
 
 -- no block has too many variables
 pub few_variables : (Q : Query) → list_any (nat_lt 16000000) (widths_of Q) ≡ false → (u : ℕ) (b : Block) → slice_get Q.blocks u ≡ Some b → nat_lt 16000000 (length b.vars) ≡ false
