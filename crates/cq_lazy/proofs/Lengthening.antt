@@ -173,8 +173,13 @@ module _ (m : Lengths) where
           (λ g. omega (arith, ap (length_at m x) (fold-Gen TypeTerm (translated_step Q W u) g), length-Gen m x g, length-Gen n x g))
           (λ c. omega (arith, ap (length_at m x) (fold-Const TypeTerm (translated_step Q W u) c), length-Const m x c, length-Const n x c))
           (λ a t.
-          omega (arith, ap (length_at m x) (fold-Att TypeTerm (translated_step Q W u) a t), length-Att n x a t,
-          put_type_within (n.keys * length t.path) (term_components Q W u t) (term_within t) x (attribute_term Q a), attribute_within a (n.keys * length t.path + x)))
+          omega (
+            arith,
+            ap (length_at m x) (fold-Att TypeTerm (translated_step Q W u) a t),
+            length-Att n x a t,
+            put_type_within (n.keys * length t.path) (term_components Q W u t) (term_within t) x (attribute_term Q a),
+            attribute_within a (n.keys * length t.path + x),
+          ))
           (λ f args under.
           let less : sum (map (length_at m x) (map (translated Q W u) args)) ≤ sum (map (length_at n x) args) = sums (translated Q W u) (length_at m x) (length_at n x) args under in
           omega (arith, ap (length_at m x) (fold-Fun TypeTerm (translated_step Q W u) f args), length-Fun m x f (map (translated Q W u) args), length-Fun n x f args, less))
@@ -213,25 +218,25 @@ module _ (m : Lengths) where
         pub composed_short : (b : Block) → slice_get W.blocks u ≡ Some b → IsShortBlock n k b → IsShortBlock m k (composite_block Q W (u, b))
         composed_short b there short = record {
           tests = All-from_Every (IsShortTest m k.most) (composite_tests Q W u) (
-            Every-append (IsShortTest m k.most) (flat_map (λ (y : ℕ × (Name × ℕ)). map (put_equation (components Q W u y.0)) (tests_at Q y.1.1)) (enumerate_from 0 (variables_at W u)))
-            (flat_map (translated_test Q W u) (tests_at W u))
-            (Every-flat_map (IsShortTest m k.most) (λ (y : ℕ × (Name × ℕ)). map (put_equation (components Q W u y.0)) (tests_at Q y.1.1)) (enumerate_from 0 (variables_at W u)) (λ p y at.
-            Every-map (IsShortTest m k.most) (put_equation (components Q W u y.0)) (tests_at Q y.1.1) (λ q e at'. first_short y.0 e (Every-at (IsShortTest m n.most) (tests_at Q y.1.1) q e (tests_short y.1.1) at'))))
-            (subst (λ (o : Option Block). Every (IsShortTest m k.most) (flat_map (translated_test Q W u) (tests_in o))) (sym there)
-            (Every-flat_map (IsShortTest m k.most) (translated_test Q W u) b.tests (λ q e at. second_short e (Every-at (IsShortTest n k.most) b.tests q e (Every-from_All (IsShortTest n k.most) b.tests short.tests) at))))
-          );
+              Every-append (IsShortTest m k.most) (flat_map (λ (y : ℕ × (Name × ℕ)). map (put_equation (components Q W u y.0)) (tests_at Q y.1.1)) (enumerate_from 0 (variables_at W u)))
+              (flat_map (translated_test Q W u) (tests_at W u))
+              (Every-flat_map (IsShortTest m k.most) (λ (y : ℕ × (Name × ℕ)). map (put_equation (components Q W u y.0)) (tests_at Q y.1.1)) (enumerate_from 0 (variables_at W u)) (λ p y at.
+              Every-map (IsShortTest m k.most) (put_equation (components Q W u y.0)) (tests_at Q y.1.1) (λ q e at'. first_short y.0 e (Every-at (IsShortTest m n.most) (tests_at Q y.1.1) q e (tests_short y.1.1) at'))))
+              (subst (λ (o : Option Block). Every (IsShortTest m k.most) (flat_map (translated_test Q W u) (tests_in o))) (sym there)
+              (Every-flat_map (IsShortTest m k.most) (translated_test Q W u) b.tests (λ q e at. second_short e (Every-at (IsShortTest n k.most) b.tests q e (Every-from_All (IsShortTest n k.most) b.tests short.tests) at))))
+              );
           attributes = All-from_Every (IsShortAttribute m k) (map (translated Q W u) b.attributes) (
-            Every-map (IsShortAttribute m k) (translated Q W u) b.attributes (λ q t at x.
-            omega (arith, translated_within x t, Every-at (IsShortAttribute n k) b.attributes q t (Every-from_All (IsShortAttribute n k) b.attributes short.attributes) at x))
-          );
+              Every-map (IsShortAttribute m k) (translated Q W u) b.attributes (λ q t at x.
+              omega (arith, translated_within x t, Every-at (IsShortAttribute n k) b.attributes q t (Every-from_All (IsShortAttribute n k) b.attributes short.attributes) at x))
+              );
           keys = All-from_Every (All (IsShortKey m k)) (map (flat_map (term_components Q W u)) b.keys) (
-            Every-map (All (IsShortKey m k)) (flat_map (term_components Q W u)) b.keys (λ q ts at.
-            All-from_Every (IsShortKey m k) (flat_map (term_components Q W u) ts)
-            (Every-flat_map (IsShortKey m k) (term_components Q W u) ts (λ r t at'.
-            let own : n.keys * length t.path ≤ k.keys =
-            Every-at (IsShortKey n k) ts r t (Every-from_All (IsShortKey n k) ts (Every-at (All (IsShortKey n k)) b.keys q ts (Every-from_All (All (IsShortKey n k)) b.keys short.keys) at)) at' in
-            Every-weaker (λ (s : EntTerm). m.keys * length s.path ≤ n.keys * length t.path) (IsShortKey m k) (λ s h. omega (arith, h, own)) (term_components Q W u t) (term_within t))))
-          );
+              Every-map (All (IsShortKey m k)) (flat_map (term_components Q W u)) b.keys (λ q ts at.
+              All-from_Every (IsShortKey m k) (flat_map (term_components Q W u) ts)
+              (Every-flat_map (IsShortKey m k) (term_components Q W u) ts (λ r t at'.
+              let own : n.keys * length t.path ≤ k.keys =
+              Every-at (IsShortKey n k) ts r t (Every-from_All (IsShortKey n k) ts (Every-at (All (IsShortKey n k)) b.keys q ts (Every-from_All (All (IsShortKey n k)) b.keys short.keys) at)) at' in
+              Every-weaker (λ (s : EntTerm). m.keys * length s.path ≤ n.keys * length t.path) (IsShortKey m k) (λ s h. omega (arith, h, own)) (term_components Q W u t) (term_within t))))
+              );
         }
 
 -- the lengths of a composite
@@ -241,12 +246,12 @@ lengths_composed m n k Q W first second wider = record {
   symbols = second.symbols;
   keys = second.keys;
   blocks = All-from_Every (IsShortBlock m k) (composite Q W).blocks (
-    Every-map (IsShortBlock m k) (composite_block Q W) (enumerate_from 0 W.blocks) (λ p y at.
-    let here = from_enumerated 0 W.blocks p y at in
-    let number : y.0 ≡ p = omega (arith, here.1) in
-    let there : slice_get W.blocks y.0 ≡ Some y.1 = ap (slice_get W.blocks) number ∙ here.0 in
-    composed_short m Q n first W y.0 k wider y.1 there (Every-at (IsShortBlock n k) W.blocks y.0 y.1 (Every-from_All (IsShortBlock n k) W.blocks second.blocks) there))
-  );
+      Every-map (IsShortBlock m k) (composite_block Q W) (enumerate_from 0 W.blocks) (λ p y at.
+      let here = from_enumerated 0 W.blocks p y at in
+      let number : y.0 ≡ p = omega (arith, here.1) in
+      let there : slice_get W.blocks y.0 ≡ Some y.1 = ap (slice_get W.blocks) number ∙ here.0 in
+      composed_short m Q n first W y.0 k wider y.1 there (Every-at (IsShortBlock n k) W.blocks y.0 y.1 (Every-from_All (IsShortBlock n k) W.blocks second.blocks) there))
+      );
 }
 
 -- the bounds of one query, by which those of the next are found

@@ -93,8 +93,7 @@ pub lengths_closed : (m none found closed : Lengths) (Q : Query) (bs : List Bloc
     → AreWider found closed × (closed.symbols ≤ closed.most) × (closed.keys + 1 ≤ closed.most) × (closed.most ≤ 1024)
     → AreLengths m Q closed × (none.most ≤ closed.most) × (closed.most ≤ 1024)
 lengths_closed m none found closed Q bs same some so_far done =
-    let wider = wider_twice none found closed so_far.0 done.0 in
-    (
+    let wider = wider_twice none found closed so_far.0 done.0 in (
       record {
         some = omega (arith, some, wider.symbols);
         symbols = done.1;
@@ -115,8 +114,7 @@ pub block_covered : (m found by_tests by_attributes : Lengths) (b : Block) (test
     → (r : Option Lengths) → IfSome r (λ wide. AreWider by_attributes wide × All (All (IsShortKey m wide)) keys) → IfSome r (λ wide. AreWider found wide × IsShortBlock m wide b)
 block_covered m found by_tests by_attributes b tests attributes keys tests_are attributes_are keys_are first second r told =
     if_some r (λ wide. AreWider by_attributes wide × All (All (IsShortKey m wide)) keys) (λ wide. AreWider found wide × IsShortBlock m wide b) (λ wide h.
-    let later : AreWider by_tests wide = wider_twice by_tests by_attributes wide second.0 h.0 in
-    (
+    let later : AreWider by_tests wide = wider_twice by_tests by_attributes wide second.0 h.0 in (
       wider_twice found by_tests wide first.0 later,
       record {
         tests = subst (All (IsShortTest m wide.most)) tests_are (tests_wider m by_tests wide later tests first.1);

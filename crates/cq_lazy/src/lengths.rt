@@ -158,7 +158,10 @@ fn close(found: Lengths) -> Option<Lengths>
     ensures { IfSome result (λ closed. AreWider found closed × (closed.symbols ≤ closed.most)
         × (closed.keys + 1 ≤ closed.most) × (closed.most ≤ 1024)) }
 {
-    let most = found.most.max(found.symbols).max(found.keys.saturating_add(1));
+    let most = found
+        .most
+        .max(found.symbols)
+        .max(found.keys.saturating_add(1));
     if most as u64 > MOST_SYMBOLS {
         return None;
     }

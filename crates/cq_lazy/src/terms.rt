@@ -62,11 +62,20 @@ pub(crate) fn type_length(under: &Lengths, term: &TypeTerm) -> Option<Line>
     ensures { IfSome result (λ line. (x : ℕ) → length_at under.now x term.now ≡ line.symbols + line.leaves * x) }
 {
     match term {
-        TypeTerm::Gen(_) => Some(Line { symbols: 1, leaves: 0 }),
-        TypeTerm::Const(_) => Some(Line { symbols: 1, leaves: 0 }),
+        TypeTerm::Gen(_) => Some(Line {
+            symbols: 1,
+            leaves: 0,
+        }),
+        TypeTerm::Const(_) => Some(Line {
+            symbols: 1,
+            leaves: 0,
+        }),
         TypeTerm::Att(_, at) => attribute_length(under, at),
         TypeTerm::Fun(_, args) => {
-            let mut line = Line { symbols: 1, leaves: 0 };
+            let mut line = Line {
+                symbols: 1,
+                leaves: 0,
+            };
             for arg in args.as_slice() {
                 let next = type_length(under, arg)?;
                 line = add_lines(line, next)?;

@@ -49,11 +49,7 @@ fn weigh_variables(weights: &[u32], vars: &[(Name, u32)]) -> u32
 }
 
 /// The weights of blocks.
-fn weigh_blocks(
-    alloc: Global,
-    weights: &[u32],
-    blocks: &[Block],
-) -> Result<Vec<u32>, AllocError>
+fn weigh_blocks(alloc: Global, weights: &[u32], blocks: &[Block]) -> Result<Vec<u32>, AllocError>
     ensures { IfOk result (λ made. made.items ≡ map (λ b. weight_of weights.now b.vars) blocks.now) }
 {
     let mut made = Vec::new(alloc);

@@ -131,7 +131,11 @@ fn named_mapping(
     })
 }
 
-fn named_query(source: &Name, target: &Name, query: &Rc<LazyQuery>) -> Result<NamedQuery, AllocError>
+fn named_query(
+    source: &Name,
+    target: &Name,
+    query: &Rc<LazyQuery>,
+) -> Result<NamedQuery, AllocError>
     ensures { IfOk result (λ named. query_meant named
         ≡ record { source = source.now; target = target.now; query = query.now.value }) }
 {
