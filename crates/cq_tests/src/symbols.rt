@@ -93,7 +93,10 @@ static TERMS: [(Written, Found); 9] = [
     (("zero", &[]), Found::Constant(0)),
     (("e", &[]), Found::Nothing(TermRefusal::Unknown)),
     (("c", &["boss"]), Found::Nothing(TermRefusal::Unknown)),
-    (("c", &["secretary"]), Found::Nothing(TermRefusal::WrongSort)),
+    (
+        ("c", &["secretary"]),
+        Found::Nothing(TermRefusal::WrongSort),
+    ),
     (("c", &["size"]), Found::Nothing(TermRefusal::WrongSort)),
 ];
 
@@ -133,8 +136,14 @@ enum Way {
 /// Foreign keys, with and without the names of entities between them; an attribute, and an entity, alone; an entity that
 /// isn't where the path has come, an attribute before the end, and a name that isn't declared.
 static PATHS: [(&[&str], Way); 7] = [
-    (&["worksIn", "secretary"], Way::Leads(0, &[0, 1], None, Sort::Entity(0))),
-    (&["Emp", "worksIn", "Dep", "size"], Way::Leads(0, &[0], Some(0), Sort::Plain(0))),
+    (
+        &["worksIn", "secretary"],
+        Way::Leads(0, &[0, 1], None, Sort::Entity(0)),
+    ),
+    (
+        &["Emp", "worksIn", "Dep", "size"],
+        Way::Leads(0, &[0], Some(0), Sort::Plain(0)),
+    ),
     (&["size"], Way::Leads(1, &[], Some(0), Sort::Plain(0))),
     (&["Emp"], Way::Leads(0, &[], None, Sort::Entity(0))),
     (&["worksIn", "Emp"], Way::Fails(TermRefusal::WrongSort)),
