@@ -1,7 +1,7 @@
 #!/usr/bin/env python3
-"""Proves and builds the program of ./cqlrun, with every crate below it, several crates at a time.
+"""Proves and builds the program of ./cqlrun, or that of ./cqlwhy, with every crate below it, several crates at a time.
 
-    ./build.py [--jobs N]
+    ./build.py [--jobs N] [cqlrun|cqlwhy]
 
 A crate is begun as soon as those that it uses are built; where there is a choice, in the order of crates.txt. N is how
 many are built at a time: by default one for each processor, and not more than one for each 4 GiB of memory. Where fewer
@@ -18,7 +18,7 @@ import sys
 import time
 
 ROOT = pathlib.Path(__file__).resolve().parent
-PROGRAM = "cqlrun"
+PROGRAMS = ["cqlrun", "cqlwhy"]
 FAILED = 70
 MEMORY_OF_ONE = 4 << 30
 SHOWN = 20
@@ -50,14 +50,14 @@ def begin(crate, share):
     """Starts the build of a crate with its share of the processors."""
     log_of(crate).parent.mkdir(exist_ok=True)
     # With no words the program writes its usage and ends.
-    words = ["rt", "run" if crate == PROGRAM else "lib", "--jobs", str(share)]
+    words = ["rt", "run" if crate in PROGRAMS else "lib", "--jobs", str(share)]
     with open(log_of(crate), "wb") as log:
         streams = {"stdin": subprocess.DEVNULL, "stdout": log, "stderr": subprocess.STDOUT}
         return subprocess.Popen(words, cwd=ROOT / "crates" / crate, **streams)
 
 
 def is_built(crate, status):
-    if crate == PROGRAM:
+    if crate in PROGRAMS:
         return any(line.startswith("rt: running ") for line in log_of(crate).read_text(errors="replace").splitlines())
     return status == 0
 
@@ -114,9 +114,11 @@ class Build:
 def main():
     words = argparse.ArgumentParser()
     words.add_argument("--jobs", type=int, default=default_jobs())
-    jobs = max(1, words.parse_args().jobs)
-    uses = crates_below(PROGRAM)
-    tell(f"building {PROGRAM}: {len(uses)} crates, each of which is proved first, {jobs} at a time")
+    words.add_argument("program", nargs="?", choices=PROGRAMS, default=PROGRAMS[0])
+    asked = words.parse_args()
+    jobs, program = max(1, asked.jobs), asked.program
+    uses = crates_below(program)
+    tell(f"building {program}: {len(uses)} crates, each of which is proved first, {jobs} at a time")
     signal.signal(signal.SIGTERM, lambda *_: sys.exit(FAILED))
     failed = Build(uses, jobs).run()
     if failed:

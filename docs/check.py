@@ -1,13 +1,13 @@
 #!/usr/bin/env python3
 """Types each command of README.md, docs/TUTORIAL.md and docs/RECIPES.md, and compares what it prints with the page.
 
-    docs/check.py [--program FILE] [PAGE..]
-    docs/check.py [--program FILE] --record
+    docs/check.py [--program FILE] [--why FILE] [PAGE..]
+    docs/check.py [--program FILE] [--why FILE] --record
 
-FILE is the program that `./cqlrun` stands for; by default it is `./cqlrun` itself, which builds it. The commands of a
-page are typed in turn by bash, in a new folder with a copy of examples/. A block of code whose first word is one of a
-command is typed as it stands, and has to end with status 0, or with one line that is a refusal. Each block that follows
-it has to be lines of what it printed, one after the other, where blanks at their ends aren't compared; or pieces of a
+The FILEs are the programs that `./cqlrun` and `./cqlwhy` stand for; by default they are these themselves, which build
+them. The commands of a page are typed in turn by bash, in a new folder with a copy of examples/. A block of code whose
+first word is one of a command is typed as it stands, and has to end with status 0, or with a refusal: of `cqlrun` this
+is one line, and of `cqlwhy` the first one. Each block that follows it has to be lines of what it printed, one after the other, where blanks at their ends aren't compared; or pieces of a
 file of examples/, or of one that was exported, but for comments and where its lines end. A line `..` stands for any
 lines. SQL that says the same as CQL is counted and not run. A command that this machine doesn't have is told, and what
 needs it isn't run. Where the machine has PostgreSQL, a server is started for the time of the check, in a folder of its
@@ -32,7 +32,7 @@ from check_names import faults_of
 
 ROOT = pathlib.Path(__file__).resolve().parent.parent
 TYPED = ["README.md", "docs/TUTORIAL.md", "docs/RECIPES.md"]
-COMMANDS = "./cqlrun cat cp diff for iconv mkdir mlr psql rm sed sqlite3".split()
+COMMANDS = "./cqlrun ./cqlwhy cat cp diff for iconv mkdir mlr psql rm sed sqlite3".split()
 LEFT = "git ln ls rt".split()
 SQL = "create insert select".split()
 RECORDING = ROOT / "docs/terminal.txt"
@@ -119,7 +119,8 @@ class Typist:
         ran = self.run("set -e -o pipefail\n" + "\n".join(block.lines))
         self.printed = ran.stdout.split("\n")
         self.counts["typed"] += 1
-        is_refusal = ran.returncode == 1 and ran.stdout.startswith("refused ") and ran.stdout.count("\n") == 1
+        is_refusal = ran.returncode == 1 and ran.stdout.startswith("refused ")
+        is_refusal &= ran.stdout.count("\n") == 1 or block.lines[-1].startswith("./cqlwhy ")
         if ran.returncode != 0 and not is_refusal:
             self.faults.append(f"{page}:{block.line}: status {ran.returncode}: {ran.stderr.strip()}")
 
@@ -186,35 +187,36 @@ def database(folder):
 
 
 @contextlib.contextmanager
-def typing(program, has_database=False):
+def typing(programs, has_database=False):
     """A typist in a new folder."""
-    with tempfile.TemporaryDirectory() as name, contextlib.ExitStack() as stack:
-        folder = pathlib.Path(name, "root")
+    with tempfile.TemporaryDirectory() as place, contextlib.ExitStack() as stack:
+        folder = pathlib.Path(place, "root")
         shutil.copytree(ROOT / "examples", folder / "examples")
-        (folder / "cqlrun").symlink_to(program)
-        server = stack.enter_context(database(pathlib.Path(name, "server"))) if has_database else {}
+        for name, program in programs.items():
+            (folder / name).symlink_to(program)
+        server = stack.enter_context(database(pathlib.Path(place, "server"))) if has_database else {}
         yield Typist(folder, {**os.environ, **server})
 
 
-def check_page(page, program):
-    with typing(program, "psql" in (ROOT / page).read_text()) as typist:
+def check_page(page, programs):
+    with typing(programs, "psql" in (ROOT / page).read_text()) as typist:
         typist.read(page)
     counts = ", ".join(f"{count} {what}" for what, count in typist.counts.items())
     print(f"{page}: {counts}" + "".join(f"; this machine has no {word}" for word in sorted(typist.missing)))
     return typist.faults
 
 
-def record(commands, program):
+def record(commands, programs):
     """What a terminal shows when these commands are typed."""
-    with typing(program) as typist:
+    with typing(programs) as typist:
         return "".join(f"$ {command}\n{typist.run(command).stdout}" for command in commands)
 
 
-def check_recording(program):
+def check_recording(programs):
     shown = RECORDING.read_text()
     commands = [line[2:] for line in shown.split("\n") if line.startswith("$ ")]
     print(f"{RECORDING.relative_to(ROOT)}: {len(commands)} typed")
-    return [] if record(commands, program) == shown else [f"{RECORDING.relative_to(ROOT)}: shows something else"]
+    return [] if record(commands, programs) == shown else [f"{RECORDING.relative_to(ROOT)}: shows something else"]
 
 
 def check_scale():
@@ -227,14 +229,15 @@ def check_scale():
 def main():
     words = argparse.ArgumentParser()
     words.add_argument("--program", type=pathlib.Path, default=ROOT / "cqlrun")
+    words.add_argument("--why", type=pathlib.Path, default=ROOT / "cqlwhy")
     words.add_argument("--record", action="store_true")
     words.add_argument("pages", nargs="*", default=TYPED)
     words = words.parse_args()
-    program = words.program.resolve()
+    programs = {"cqlrun": words.program.resolve(), "cqlwhy": words.why.resolve()}
     if words.record:
-        RECORDING.write_text(record(RECORDED, program))
-    faults = [fault for page in words.pages for fault in check_page(page, program)]
-    faults += check_recording(program) + check_scale() + faults_of(ROOT)
+        RECORDING.write_text(record(RECORDED, programs))
+    faults = [fault for page in words.pages for fault in check_page(page, programs)]
+    faults += check_recording(programs) + check_scale() + faults_of(ROOT)
     for fault in faults:
         print(fault)
     sys.exit(1 if faults else 0)

@@ -1,5 +1,5 @@
 //! The declarations of a program in order.
-ghost use Rattle.std.specs.Prelude.{◌≡◌, ◌<◌, ◌≤◌, ◌^◌, ◌++◌, [], IfOk, IfErr, OnOk, map};
+ghost use Rattle.std.specs.Prelude.{◌≡◌, ◌<◌, ◌≤◌, ◌^◌, ◌++◌, [], IfOk, IfErr, OnErr, OnOk, map};
 ghost use Rattle.std.specs.List.{filter_map, flat_map};
 ghost use Rattle.cq_import.specs.Folders.{Keeps};
 ghost use Rattle.cq_parts.specs.Few.{HasFewParts, part_count};
@@ -104,8 +104,9 @@ fn declare_all<F: Folder>(
     Ok(env)
 }
 
-/// Adds the name of a declaration, with what it stands for.
-fn declare<F: Folder>(
+/// Adds the name of a declaration, with what it stands for, or tells the first rule that it breaks; then the names are
+/// those that there were.
+pub fn declare<F: Folder>(
     alloc: Global,
     env: &mut Environment,
     decl: &Decl,
@@ -118,6 +119,7 @@ fn declare<F: Folder>(
     ensures declares { OnOk result (AddsDecl (F.state folder.old).files
         (environment_of env.old.names.entries) decl.now (environment_of env.new.names.entries)) }
     ensures settled { OnOk result (AreSettled (environment_of env.new.names.entries)) }
+    ensures unchanged { OnErr result (env.new.names.entries ≡ env.old.names.entries) }
     ensures keeps { Keeps (F.state folder.old) (F.state folder.new) }
     ensures refuses { IfErr result (RefusesDecl depth (F.state folder.old) (F.state folder.new)
         (environment_of env.old.names.entries) decl.now) }

@@ -25,4 +25,4 @@ mod queries;
 
 pub use cq_parts::has_few_parts;
 pub use cq_stating::{ProgramRefusal, ReadCause, Reason, numbered_line, refusal_line};
-pub use declarations::{Named, meaning};
+pub use declarations::{Named, declare, meaning};

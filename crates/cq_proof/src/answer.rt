@@ -1,5 +1,5 @@
 //! Why an equation holds in an instance, or that it doesn't.
-ghost use Rattle.std.specs.Prelude.{◌↔◌, IfOk, IsTrue};
+ghost use Rattle.std.specs.Prelude.{◌↔◌, IfOk, IfSome, IsTrue};
 ghost use Rattle.cq_proof.specs.Answers.{IsInitial, IsWellSorted, AreOne, Proves, Explains};
 
 use crate::enumeration::{proves, sought_among_all};
@@ -53,6 +53,25 @@ fn are_one(alloc: Global, instance: &Instance, equation: &Equation) -> Result<bo
     }
 }
 
+/// A list of steps that proves the equation, where the fast search finds one that the checker passes. Nothing is
+/// claimed of an equation for which there is none.
+pub fn quick_derivation(
+    alloc: Global,
+    schema: &Schema,
+    presentation: &Presentation,
+    equation: &Equation,
+) -> Result<Option<Vec<Step>>, AllocError>
+    ensures { IfOk result (λ found. IfSome found (λ steps. Proves schema.now presentation.now steps.items
+        equation.now)) }
+{
+    if let Some(steps) = sought(alloc, schema, presentation, equation)? {
+        if proves(alloc, schema, presentation, steps.as_slice(), equation)? {
+            return Ok(Some(steps));
+        }
+    }
+    Ok(None)
+}
+
 /// A list of steps that proves the equation: the one that is found fast, if the checker passes it, or else the first
 /// one of all there are, which comes too late for anyone to wait for. Where none proves it, memory runs out.
 fn derivation(
@@ -63,10 +82,8 @@ fn derivation(
 ) -> Result<Vec<Step>, AllocError>
     ensures { IfOk result (λ steps. Proves schema.now presentation.now steps.items equation.now) }
 {
-    if let Some(steps) = sought(alloc, schema, presentation, equation)? {
-        if proves(alloc, schema, presentation, steps.as_slice(), equation)? {
-            return Ok(steps);
-        }
+    if let Some(steps) = quick_derivation(alloc, schema, presentation, equation)? {
+        return Ok(steps);
     }
     match sought_among_all(alloc, schema, presentation, equation) {
         Ok(steps) => Ok(steps),

@@ -9,4 +9,4 @@ pub mod laws;
 pub mod same;
 pub mod stack;
 
-pub use answer::{Answer, explain};
+pub use answer::{Answer, explain, quick_derivation};

@@ -1,0 +1,10 @@
+pub mod Listing
+pub mod Indexing
+pub mod Rowing
+pub mod Passing
+pub mod Tabling
+pub mod Sheeting
+pub mod Firsts
+pub mod Celling
+pub mod Filing
+pub mod Whole

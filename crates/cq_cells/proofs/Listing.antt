@@ -1,0 +1,34 @@
+-- Lists of faults that are added one behind the other.
+use Rattle.std.proofs.Common.{ℕ, zero, suc, List, [], ◌∷◌, ◌++◌, ◌+◌, ◌≤◌, ◌≡◌, Option, Some, None, length, map, take, refl, sym, ap, subst, ◌∙◌, append_assoc, arith}
+use Rattle.std.proofs.lemmas.List.{append-nil, length-map, map-append, take-append-le}
+use Rattle.cq_cells.specs.declared.faults.Fault.{Fault}
+use Rattle.cq_cells.specs.Found.{Found}
+use Rattle.cq_cells.specs.Shown.{Lists, listed, most_faults, shown}
+
+pub take_front : {X : Type 0} (k : ℕ) (xs ys : List X) → take k (take k xs ++ ys) ≡ take k (xs ++ ys)
+take_front zero xs ys = refl
+take_front (suc k) [] ys = refl
+take_front (suc k) (x ∷ xs) ys = ap (λ l. x ∷ l) (take_front k xs ys)
+
+-- two ways to the same front
+pub take_same : {X : Type 0} (k : ℕ) (xs ys zs : List X) → take k xs ≡ take k ys → take k (xs ++ zs) ≡ take k (ys ++ zs)
+take_same k xs ys zs same = sym (take_front k xs zs) ∙ ap (λ l. take k (l ++ zs)) same ∙ take_front k ys zs
+
+pub lists_none : (old : List Fault) → Lists old old (λ name. [])
+lists_none old = λ name. ap (take most_faults) (sym (append-nil (map (shown name) old)))
+
+pub lists_then : (a b c : List Fault) (f g : (ℕ → List ℕ) → List Found) → Lists a b f → Lists b c g → Lists a c (λ name. f name ++ g name)
+lists_then a b c f g first second = λ name.
+    second name ∙ take_same most_faults (map (shown name) b) (map (shown name) a ++ f name) (g name) (first name)
+    ∙ ap (take most_faults) (append_assoc (map (shown name) a) (f name) (g name))
+
+pub lists_same : (old new : List Fault) (f g : (ℕ → List ℕ) → List Found) → ((name : ℕ → List ℕ) → f name ≡ g name) → Lists old new f → Lists old new g
+lists_same old new f g same lists = λ name. lists name ∙ ap (λ l. take most_faults (map (shown name) old ++ l)) (same name)
+
+pub lists_full : (old : List Fault) (found : (ℕ → List ℕ) → List Found) → most_faults ≤ length old → Lists old old found
+lists_full old found full = λ name.
+    let enough : most_faults ≤ length (map (shown name) old) = omega (arith, length-map old (shown name)) in
+    sym (take-append-le most_faults (map (shown name) old) (found name) enough)
+
+pub lists_one : (old new : List Fault) (fault : Fault) → new ≡ old ++ fault ∷ [] → Lists old new (λ name. listed name (Some fault))
+lists_one old new fault is = λ name. ap (λ l. take most_faults (map (shown name) l)) is ∙ ap (take most_faults) (map-append (shown name) old (fault ∷ []))

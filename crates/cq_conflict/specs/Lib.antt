@@ -1,0 +1,5 @@
+pub mod Conflict
+pub mod Told
+pub mod Text
+pub mod Notes
+pub mod Telling

@@ -1,0 +1,10 @@
+pub mod Twice
+pub mod Nones
+pub mod Reaching
+pub mod Expanding
+pub mod Beginnings
+pub mod Nexts
+pub mod Leading
+pub mod Opened
+pub mod Counting
+pub mod Growing

@@ -1,0 +1,1 @@
+use Rattle.cq_growth.proofs.news.open_member.Goals as goal

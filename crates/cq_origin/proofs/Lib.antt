@@ -1,0 +1,6 @@
+mod Splits
+mod Starting
+mod Saying
+mod Telling
+mod Placing
+mod Ids

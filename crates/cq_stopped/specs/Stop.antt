@@ -1,0 +1,48 @@
+-- Where the declarations of a program stop to meet their rules.
+use Rattle.std.specs.Prelude.{◌≡◌, ℕ, List, [], Option, Some, None, Result, Ok, IsErr, slice_get, string_bytes, take}
+use Rattle.std.specs.declared.alloc.AllocError.{AllocError}
+use Rattle.cq_base.specs.declared.name.Name.{Name}
+use Rattle.cq_syntax.specs.declared.program.Decl.{Decl}
+use Rattle.cq_syntax.specs.declared.program.Program.{Program}
+use Rattle.cq_stating.specs.Checks.{Stated, stated_by}
+use Rattle.cq_stating.specs.Environment.{AreSettled, environment_of}
+use Rattle.cq_stating.specs.Folders.{LacksFile, Told}
+use Rattle.cq_stating.specs.Meanings.{Environment}
+use Rattle.cq_program.specs.Program.{Breach, Follow}
+use Rattle.cq_stating.specs.declared.environment.Environment.{Environment as TheEnvironment}
+use Rattle.cq_stating.specs.declared.reason.ProgramRefusal.{ProgramRefusal}
+use Rattle.cq_stating.specs.declared.reason.ProgramRefusal.TheVariants as program_refusal
+use Rattle.cq_stopped.specs.declared.stop.Fault.{Fault}
+use Rattle.cq_stopped.specs.declared.stop.Fault.TheVariants.{Broken, Unread}
+use Rattle.cq_stopped.specs.declared.stop.Stop.{Stop}
+
+-- a file that the declaration reads was not read
+pub record LacksSome (told : Told) (env : Environment) (d : Decl) (lacks : Stated → Type 0) : Type 0 where
+  pub stated : Stated
+  pub checked : stated_by env d ≡ Ok stated
+  pub lacking : lacks stated
+
+-- this is wrong with the declaration, over the names declared before it: the first rule that it breaks, or a file that was not read
+abbrev pub IsFaultOf : ℕ → Told → Environment → Decl → Fault → Type 0
+IsFaultOf depth told env d (Broken place reason) = Breach depth told env d place reason
+IsFaultOf depth told env d (Unread file cause) = LacksSome told env d (λ stated. LacksFile told stated (string_bytes file) cause)
+
+-- The declarations before that of this number, from 0, meet their rules, and lead to these names; and this is wrong with it.
+pub record StopsAt (depth : ℕ) (told : Told) (program : Program) (stop : Stop) : Type 0 where
+  pub declared : Decl
+  pub is_at : slice_get program.decls stop.number ≡ Some declared
+  pub follow : Follow told [] (take stop.number program.decls) (environment_of stop.env.names.entries)
+  pub settled : AreSettled (environment_of stop.env.names.entries)
+  pub fault : IsFaultOf depth told (environment_of stop.env.names.entries) declared stop.fault
+
+-- all declarations meet their rules
+abbrev pub MeetRules : Told → Program → Type 0
+MeetRules told program = (env : Environment) × Follow told [] program.decls env
+
+-- what is made of a refusal: a stop with these names and this number, or want of memory
+abbrev pub IsStopped : TheEnvironment → ℕ → ProgramRefusal → Result (Option Stop) AllocError → Type 0
+IsStopped env number (program_refusal.Broken place reason) result =
+    result ≡ Ok (Some (record { env = env; number = number; fault = Broken place reason }))
+IsStopped env number (program_refusal.Read file cause) result =
+    result ≡ Ok (Some (record { env = env; number = number; fault = Unread file cause }))
+IsStopped env number program_refusal.Memory result = IsErr result

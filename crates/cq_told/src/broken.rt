@@ -1,0 +1,253 @@
+//! The rules of declarations.
+ghost use Rattle.std.specs.Prelude.{◌≡◌, ◌<◌, ◌≤◌, ◌^◌};
+ghost use Rattle.cq_parts.specs.Few.{part_count};
+ghost use Rattle.cq_stating.specs.Environment.{AreSettled, environment_of};
+
+use crate::case::Case;
+use crate::codes::code_of;
+use crate::details::append_details;
+use crate::page::{append_remedy, append_sentence, append_where, has_remedy};
+use crate::texts::{append_name, append_number, name_text, number_text, quoted_text};
+use cq_base::{Name, Place};
+use cq_io::Folder;
+use cq_known::{Unknown, known_as, near_used, unknown_in_part, wanted_at};
+use cq_lex::{Kind, Token};
+use cq_sentences::Code;
+use cq_stating::Reason;
+use std::alloc::{AllocError, Global};
+
+/// Appends why a declaration is refused.
+pub fn append_broken<F: Folder>(
+    case: Case<'_>,
+    reason: &Reason,
+    folder: &mut F,
+    out: &mut Vec<u8>,
+) -> Result<(), AllocError>
+    requires few { part_count case.decl.now.body < 2 ^ 32 }
+    requires settled { AreSettled (environment_of case.env.now.names.entries) }
+    requires depth { case.depth ≤ 64 }
+    ensures { (F.state folder.new).files ≡ (F.state folder.old).files }
+{
+    match reason {
+        Reason::NameTaken => append_taken(case, out)?,
+        Reason::NameUnknown => append_unknown_name(case, out)?,
+        Reason::WrongKind => append_wrong_kind(case, out)?,
+        Reason::WrongSchema => append_named(case, Code::WrongSchema, out)?,
+        Reason::WrongOperand => append_named(case, Code::WrongOperand, out)?,
+        Reason::Duplicate => append_named(case, Code::Duplicate, out)?,
+        Reason::Unknown => append_unknown(case, out)?,
+        _ => append_plain(case, reason, out)?,
+    }
+    let mut details = Vec::new(case.book.alloc);
+    append_details(case, reason, folder, &mut details)?;
+    out.extend_from_slice(details.as_slice())?;
+    if has_remedy(details.as_slice()) {
+        return Ok(());
+    }
+    append_remedy(code_of(reason).remedy(), out)
+}
+
+/// Appends the place, and a sentence with the texts that the reason has.
+fn append_plain(case: Case<'_>, reason: &Reason, out: &mut Vec<u8>) -> Result<(), AllocError> {
+    append_where(case.book, case.place, case.decl, out)?;
+    let texts = texts_of(case, reason)?;
+    append_texts(case.book.alloc, code_of(reason), texts.as_slice(), out)
+}
+
+/// Appends the sentence of a code with these texts.
+pub fn append_texts(
+    alloc: Global,
+    code: Code,
+    texts: &[Vec<u8>],
+    out: &mut Vec<u8>,
+) -> Result<(), AllocError> {
+    let mut slices = Vec::new(alloc);
+    for text in texts {
+        slices.push(text.as_slice())?;
+    }
+    append_sentence(code, slices.as_slice(), out)
+}
+
+/// The texts of a reason, as its sentence names them.
+fn texts_of(case: Case<'_>, reason: &Reason) -> Result<Vec<Vec<u8>>, AllocError> {
+    let alloc = case.book.alloc;
+    match reason {
+        Reason::Missing(name) | Reason::TooManyAnswers(name) => {
+            one(alloc, name_text(alloc, name)?)
+        }
+        Reason::NotPreserved(number) | Reason::DutyRows(number) | Reason::Broken(number) => {
+            one(alloc, number_text(alloc, *number)?)
+        }
+        Reason::DutyDepth(number) => numbers(alloc, *number, u64::from(case.depth)),
+        Reason::Depth => one(alloc, number_text(alloc, u64::from(case.depth))?),
+        Reason::Inconsistent(least, greater) => {
+            let least = Vec::from_slice(alloc, least.as_slice())?;
+            let greater = Vec::from_slice(alloc, greater.as_slice())?;
+            two(alloc, least, greater)
+        }
+        Reason::NameClash(first, second) => {
+            numbers(alloc, u64::from(*first), u64::from(*second))
+        }
+        Reason::LongName(part) => one(alloc, number_text(alloc, u64::from(*part))?),
+        _ => file_texts(alloc, reason),
+    }
+}
+
+fn numbers(alloc: Global, first: u64, second: u64) -> Result<Vec<Vec<u8>>, AllocError> {
+    let first = number_text(alloc, first)?;
+    let second = number_text(alloc, second)?;
+    two(alloc, first, second)
+}
+
+fn one(alloc: Global, text: Vec<u8>) -> Result<Vec<Vec<u8>>, AllocError> {
+    Ok(vec![in alloc; text]?)
+}
+
+fn two(alloc: Global, first: Vec<u8>, second: Vec<u8>) -> Result<Vec<Vec<u8>>, AllocError> {
+    Ok(vec![in alloc; first, second]?)
+}
+
+/// The texts of a reason that is told of a file: a record, a column and the file, as far as there are some.
+fn file_texts(alloc: Global, reason: &Reason) -> Result<Vec<Vec<u8>>, AllocError> {
+    match reason {
+        Reason::BadHeader(file) => one(alloc, Vec::from_slice(alloc, file.as_slice())?),
+        Reason::NotCsv(file, record) | Reason::DoubleId(file, record) => {
+            let record = number_text(alloc, u64::from(*record))?;
+            let file = Vec::from_slice(alloc, file.as_slice())?;
+            two(alloc, record, file)
+        }
+        Reason::BadCell(file, record, column) | Reason::NoSuchId(file, record, column) => {
+            let record = number_text(alloc, u64::from(*record))?;
+            let column = number_text(alloc, u64::from(*column))?;
+            let file = Vec::from_slice(alloc, file.as_slice())?;
+            Ok(vec![in alloc; record, column, file]?)
+        }
+        _ => Ok(Vec::new(alloc)),
+    }
+}
+
+/// Appends that the declared name is taken, and where it is declared.
+fn append_taken(case: Case<'_>, out: &mut Vec<u8>) -> Result<(), AllocError> {
+    append_where(case.book, case.place, case.decl, out)?;
+    let texts = one(
+        case.book.alloc,
+        name_text(case.book.alloc, &case.decl.name)?,
+    )?;
+    append_texts(case.book.alloc, Code::NameTaken, texts.as_slice(), out)?;
+    for decl in case.book.program.decls.as_slice() {
+        if decl.name == case.decl.name {
+            return append_first(case, decl.name_place, out);
+        }
+    }
+    Ok(())
+}
+
+/// Appends where a name is declared first, and what it stands for.
+fn append_first(case: Case<'_>, place: Place, out: &mut Vec<u8>) -> Result<(), AllocError> {
+    out.extend_from_slice(b"  It is declared on line ")?;
+    append_number(u64::from(place.line), out)?;
+    if let Some(kind) = known_as(case.env, &case.decl.name) {
+        out.extend_from_slice(b", as ")?;
+        out.extend_from_slice(kind.words().as_bytes())?;
+    }
+    out.extend_from_slice(b".\n")?;
+    Ok(())
+}
+
+/// Appends that a used name isn't declared, and the nearest that may stand there.
+fn append_unknown_name(case: Case<'_>, out: &mut Vec<u8>) -> Result<(), AllocError> {
+    append_named(case, Code::NameUnknown, out)?;
+    match wanted_at(&case.decl.body, case.place) {
+        Some((name, wanted)) => {
+            let near = near_used(case.book.alloc, case.env, name, wanted)?;
+            append_near(&near, out)
+        }
+        None => Ok(()),
+    }
+}
+
+/// Appends that a used name stands for something else than what is wanted.
+fn append_wrong_kind(case: Case<'_>, out: &mut Vec<u8>) -> Result<(), AllocError> {
+    let Some((name, wanted)) = wanted_at(&case.decl.body, case.place) else {
+        return append_named(case, Code::WrongKind, out);
+    };
+    append_where(case.book, case.place, case.decl, out)?;
+    let alloc = case.book.alloc;
+    let kind = match known_as(case.env, name) {
+        Some(kind) => kind.words(),
+        None => "something else",
+    };
+    let kind = Vec::from_slice(alloc, kind.as_bytes())?;
+    let wanted = Vec::from_slice(alloc, wanted.words().as_bytes())?;
+    let texts = vec![in alloc; name_text(alloc, name)?, kind, wanted]?;
+    append_texts(alloc, Code::WrongKind, texts.as_slice(), out)
+}
+
+/// Appends the place, and a sentence with the name that stands there.
+fn append_named(case: Case<'_>, code: Code, out: &mut Vec<u8>) -> Result<(), AllocError> {
+    append_where(case.book, case.place, case.decl, out)?;
+    let texts = one(case.book.alloc, name_at(case)?)?;
+    append_texts(case.book.alloc, code, texts.as_slice(), out)
+}
+
+/// The name at the place, between quotes. At the image of an entity that is the entity's, behind its word.
+fn name_at(case: Case<'_>) -> Result<Vec<u8>, AllocError> {
+    let first = case.book.page.token_at(case.place);
+    let found = match first {
+        Some(token) if case.book.page.spelling(token) == b"entity".as_slice() => {
+            case.book.page.token_behind(case.place)
+        }
+        _ => first,
+    };
+    match found {
+        Some(token) => token_text(case, token),
+        None => Ok(Vec::new(case.book.alloc)),
+    }
+}
+
+/// The name of a token, between quotes, or else what is written there.
+fn token_text(case: Case<'_>, token: &Token) -> Result<Vec<u8>, AllocError> {
+    match &token.kind {
+        Kind::Word(name) | Kind::Text(name) => name_text(case.book.alloc, name),
+        Kind::Mark(_) | Kind::End => quoted_text(case.book.alloc, case.book.page.spelling(token)),
+    }
+}
+
+/// Appends which name of a part isn't declared, with the caret under this very name, and the nearest that is.
+fn append_unknown(case: Case<'_>, out: &mut Vec<u8>) -> Result<(), AllocError> {
+    let found = unknown_in_part(
+        case.book.alloc,
+        case.env,
+        &case.decl.body,
+        case.book.page.tokens,
+        case.place,
+    )?;
+    match &found {
+        Some(unknown) => append_unknown_at(case, unknown, out),
+        None => append_named(case, Code::Unknown, out),
+    }
+}
+
+fn append_unknown_at(
+    case: Case<'_>,
+    unknown: &Unknown,
+    out: &mut Vec<u8>,
+) -> Result<(), AllocError> {
+    append_where(case.book, unknown.place, case.decl, out)?;
+    let texts = one(case.book.alloc, name_text(case.book.alloc, &unknown.name)?)?;
+    append_texts(case.book.alloc, Code::Unknown, texts.as_slice(), out)?;
+    append_near(&unknown.near, out)
+}
+
+/// Appends a name that may have been meant, if there is one.
+fn append_near(near: &Option<Name>, out: &mut Vec<u8>) -> Result<(), AllocError> {
+    match near {
+        Some(name) => {
+            out.extend_from_slice(b"  Is ")?;
+            append_name(name, out)?;
+            out.extend_from_slice(b" meant?\n")?;
+            Ok(())
+        }
+        None => Ok(()),
+    }
+}

@@ -1,0 +1,24 @@
+use Rattle.std.proofs.Common.{refl, subst}
+use Rattle.cq_growth.specs.Limits.{TellsGrowth}
+use Rattle.cq_witness.specs.Rows.{at_once, kept}
+use Rattle.cq_witness.proofs.rows.append_rows.Goals as goal
+
+pub returns-in-Kept : goal.returns-in-Kept
+returns-in-Kept c =
+    let rows = subst (TellsGrowth c.args.schema.now c.args.presentation.now c.args.depth) c.in-Kept.is c.in_ok-grown.ensures in
+    kept rows.0 rows.1 refl
+
+pub append_within-requires : goal.append_within-requires
+append_within-requires c =
+    let last = subst (TellsGrowth c.args.schema.now c.args.presentation.now c.args.depth) c.in-Passed.is c.in_ok-grown.ensures in
+    record { whole = last.rows.whole; entities = last.rows.entities }
+
+pub returns-in-Passed : goal.returns-in-Passed
+returns-in-Passed c =
+    let last = subst (TellsGrowth c.args.schema.now c.args.presentation.now c.args.depth) c.in-Passed.is c.in_ok-grown.ensures in
+    c.in_ok-append_within.ensures c.args.presentation.now c.args.depth last
+
+pub returns-in-AtOnce : goal.returns-in-AtOnce
+returns-in-AtOnce c =
+    let wide = subst (TellsGrowth c.args.schema.now c.args.presentation.now c.args.depth) c.in-AtOnce.is c.in_ok-grown.ensures in
+    at_once wide c.in_ok-extend_from_slice.ensures.items

@@ -1,0 +1,6 @@
+pub mod Paths
+pub mod Depth
+pub mod Rows
+pub mod Sides
+pub mod Images
+pub mod Broken

@@ -1,0 +1,122 @@
+//! Which rows are too many.
+ghost use Rattle.std.specs.Prelude.{ℕ, ◌≡◌, ◌≤◌, ◌++◌, OnOk, length, slice_get};
+ghost use Rattle.cq_tables.specs.Content.{entities_of, IsWhole};
+ghost use Rattle.cq_growth.specs.Limits.{IsLastWithin};
+ghost use Rattle.cq_text.specs.Transcript.{name_or_empty};
+ghost use Rattle.cq_theory.specs.Presentation.{IsPresentation};
+ghost use Rattle.cq_theory.specs.declared.presentation.Presentation.{Presentation as Presented};
+ghost use Rattle.cq_witness.specs.Rows.{most_text, next_text, TellsRows};
+
+use cq_explain::push_ordinal;
+use cq_growth::{Growth, Most, Within, last_within, most_rows};
+use cq_text::push_number;
+use cq_theory::{Presentation, Schema};
+use std::alloc::{AllocError, Global};
+
+/// Appends the name of an entity, if there is such an entity.
+fn append_entity(out: &mut Vec<u8>, schema: &Schema, entity: u32) -> Result<(), AllocError>
+    ensures { OnOk result (out.new.items ≡ out.old.items
+        ++ name_or_empty (slice_get schema.now.entities entity)) }
+{
+    match schema.entities.as_slice().get(entity as usize) {
+        Some(name) => {
+            out.extend_from_slice(name.as_str().as_bytes())?;
+            Ok(())
+        }
+        None => Ok(()),
+    }
+}
+
+/// Appends which entity has most rows at a depth, and how many.
+fn append_most(
+    out: &mut Vec<u8>,
+    schema: &Schema,
+    depth: u32,
+    most: &Most,
+) -> Result<(), AllocError>
+    ensures { OnOk result (out.new.items ≡ out.old.items ++ most_text schema.now depth most.now) }
+{
+    out.extend_from_slice(b"With terms of depth ")?;
+    push_number(u64::from(depth), out)?;
+    out.extend_from_slice(b" there are ")?;
+    push_number(most.count, out)?;
+    out.extend_from_slice(b" rows of ")?;
+    append_entity(out, schema, most.entity)?;
+    out.extend_from_slice(b", and of no entity more.\n")?;
+    Ok(())
+}
+
+/// Appends that the rows are too many at the next depth, and what there is to mend.
+fn append_next(
+    out: &mut Vec<u8>,
+    schema: &Schema,
+    depth: u32,
+    most: &Most,
+) -> Result<(), AllocError>
+    ensures { OnOk result (out.new.items ≡ out.old.items ++ next_text schema.now depth most.now) }
+{
+    out.extend_from_slice(b"With depth ")?;
+    push_ordinal(u64::from(depth), out)?;
+    out.extend_from_slice(b" there are over 200000 rows in all.\nTo mend it: say by equations where the keys of ")?;
+    append_entity(out, schema, most.entity)?;
+    out.extend_from_slice(b" lead, so that fewer rows are new, or split the instance.\n")?;
+    Ok(())
+}
+
+/// How many entities there are.
+fn entity_count(schema: &Schema) -> u32
+    ensures { result ≡ length schema.now.entities }
+{
+    schema.is_well_sorted();
+    schema.entities.len() as u32
+}
+
+/// Appends the last depth at which rows are not too many, with the entity that has most.
+fn append_within(
+    alloc: Global,
+    out: &mut Vec<u8>,
+    schema: &Schema,
+    within: &Within,
+) -> Result<(), AllocError>
+    requires whole { IsWhole within.now.rows.tables }
+    requires entities { entities_of within.now.rows.tables ≡ length schema.now.entities }
+    ensures { OnOk result ((P : Presented) (depth : ℕ) → IsLastWithin schema.now P depth within.now
+        → TellsRows schema.now P depth out.old.items out.new.items) }
+{
+    let entities = entity_count(schema);
+    let Some(most) = most_rows(alloc, &within.rows.tables, entities)? else {
+        return Ok(());
+    };
+    append_most(out, schema, within.depth, &most)?;
+    append_next(out, schema, within.depth, &most)?;
+    Ok(())
+}
+
+/// Appends how the rows of a presentation become too many up to a depth, of at most 64: the entity that has most at the
+/// last depth at which they aren't, and how many. Nothing is appended where they are at no depth too many.
+pub fn append_rows(
+    alloc: Global,
+    out: &mut Vec<u8>,
+    schema: &Schema,
+    presentation: &Presentation,
+    depth: u32,
+) -> Result<(), AllocError>
+    requires presentation { IsPresentation schema.now presentation.now }
+    requires depth { depth ≤ 64 }
+    ensures { OnOk result (TellsRows schema.now presentation.now depth out.old.items out.new.items) }
+{
+    let grown = last_within(alloc, schema, presentation, depth)?;
+    match &grown {
+        Growth::Kept => Ok(()),
+        Growth::Passed(within) => {
+            append_within(alloc, out, schema, within)?;
+            Ok(())
+        }
+        Growth::AtOnce => {
+            out.extend_from_slice(
+                b"The generators alone are over 200000 rows.\nTo mend it: split the instance.\n",
+            )?;
+            Ok(())
+        }
+    }
+}

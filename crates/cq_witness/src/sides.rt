@@ -1,0 +1,196 @@
+//! What the two sides of an equation lead to in an instance.
+ghost use Rattle.std.specs.Prelude.{◌≡◌, ◌++◌, true, IfOk, MatchOption, OnOk, slice_get};
+ghost use Rattle.cq_theory.specs.Derivation.{left_of, right_of};
+ghost use Rattle.cq_theory.specs.Sorts.{entity_at as entity_of_generator, entity_of as entity_of_term};
+ghost use Rattle.cq_theory.specs.Sorts.{followed as followed_by, target_of as target_by, IsGround};
+ghost use Rattle.cq_theory.specs.Tables.{value_of as value_meant};
+ghost use Rattle.cq_theory.specs.ValueText.{is_named};
+ghost use Rattle.cq_theory.specs.declared.term.Term.TheVariants.{Ent, Typ};
+ghost use Rattle.cq_witness.specs.Sides.{names_text, row_name as name_of_row, two_values_text, TellsSides};
+
+use cq_base::Name;
+use cq_explain::push_entity_term;
+use cq_instance::Instance;
+use cq_steps::side::Side;
+use cq_steps::sorts::is_ground;
+use cq_terms::is_same_value;
+use cq_theory::value_text::push_value;
+use cq_theory::{Edge, EntTerm, Equation, Sort, TypeTerm, Value};
+use std::alloc::{AllocError, Global};
+
+/// The entity of a generator.
+fn entity_at(generators: &[(Name, Sort)], number: u32) -> Option<u32>
+    ensures { result ≡ entity_of_generator (slice_get generators.now number) }
+{
+    match generators.get(number as usize)?.1 {
+        Sort::Plain(_) => None,
+        Sort::Entity(entity) => Some(entity),
+    }
+}
+
+/// Where a foreign key leads from an entity.
+fn followed(edges: &[Edge], number: u32, entity: u32) -> Option<u32>
+    ensures { result ≡ followed_by (slice_get edges.now number) entity }
+{
+    let edge = edges.get(number as usize)?;
+    if edge.from == entity {
+        Some(edge.to)
+    } else {
+        None
+    }
+}
+
+/// Where the foreign keys of a path lead from an entity.
+fn target_of(keys: &[Edge], path: &[u32], entity: u32) -> Option<u32>
+    ensures { result ≡ target_by keys.now path.now entity }
+{
+    let mut here = entity;
+    for key in path {
+        here = followed(keys, *key, here)?;
+    }
+    Some(here)
+}
+
+/// The entity of a term over the instance's presentation.
+fn entity_of(instance: &Instance, term: &EntTerm) -> Option<u32>
+    ensures { result ≡ entity_of_term instance.now.schema instance.now.presentation.generators term.now }
+{
+    let schema = instance.schema();
+    let entity = entity_at(instance.presentation().generators.as_slice(), term.generator)?;
+    target_of(schema.keys.as_slice(), term.path.as_slice(), entity)
+}
+
+/// The least name of the row to which a term leads. None exactly where it is no term over the instance's presentation.
+fn row_name<'a>(instance: &'a Instance, term: &EntTerm) -> Option<&'a EntTerm>
+    ensures { MatchOption result (IsGround instance.now.schema instance.now.presentation (Ent term.now) → ⊥)
+        (λ name. IsGround instance.now.schema instance.now.presentation (Ent term.now)
+        × (name.now ≡ name_of_row instance.now term.now)) }
+{
+    instance.is_instance();
+    let Some(entity) = entity_of(instance, term) else {
+        return None;
+    };
+    let row = instance.row_of(term);
+    Some(instance.name_of(entity, row))
+}
+
+/// Appends two rows by their names.
+fn append_names(
+    out: &mut Vec<u8>,
+    instance: &Instance,
+    first: &EntTerm,
+    second: &EntTerm,
+) -> Result<(), AllocError>
+    ensures { OnOk result (out.new.items ≡ out.old.items ++ names_text instance.now first.now second.now) }
+{
+    let schema = instance.schema();
+    let presentation = instance.presentation();
+    out.extend_from_slice(b"  two rows: ")?;
+    push_entity_term(schema, presentation, first, out)?;
+    out.extend_from_slice(b" and ")?;
+    push_entity_term(schema, presentation, second, out)?;
+    out.extend_from_slice(b"\n")?;
+    Ok(())
+}
+
+/// Appends the two rows to which two terms lead, where they are two.
+fn append_rows(
+    out: &mut Vec<u8>,
+    instance: &Instance,
+    left: &EntTerm,
+    right: &EntTerm,
+) -> Result<(), AllocError>
+    ensures { OnOk result (TellsSides instance.now (Ent left.now) (Ent right.now) out.old.items out.new.items) }
+{
+    let Some(first) = row_name(instance, left) else {
+        return Ok(());
+    };
+    let Some(second) = row_name(instance, right) else {
+        return Ok(());
+    };
+    if instance.row_of(left) == instance.row_of(right) {
+        return Ok(());
+    }
+    append_names(out, instance, first, second)?;
+    Ok(())
+}
+
+/// The value of a term. None exactly where it is no term over the instance's presentation.
+fn value_in(
+    alloc: Global,
+    instance: &Instance,
+    term: &TypeTerm,
+) -> Result<Option<Value>, AllocError>
+    ensures { IfOk result (λ found. MatchOption found
+        (IsGround instance.now.schema instance.now.presentation (Typ term.now) → ⊥)
+        (λ value. IsGround instance.now.schema instance.now.presentation (Typ term.now)
+        × (value ≡ value_meant instance.now.tables instance.now.assignment term.now))) }
+{
+    if !is_ground(instance.schema(), instance.presentation(), Side::Typ(term)) {
+        return Ok(None);
+    }
+    let value = instance.value_of(alloc, term)?;
+    Ok(Some(value))
+}
+
+/// Appends two values.
+fn append_texts(
+    out: &mut Vec<u8>,
+    instance: &Instance,
+    first: &Value,
+    second: &Value,
+) -> Result<(), AllocError>
+    requires first { is_named instance.now.schema.typeside first.now ≡ true }
+    requires second { is_named instance.now.schema.typeside second.now ≡ true }
+    ensures { OnOk result (out.new.items ≡ out.old.items
+        ++ two_values_text instance.now first.now second.now) }
+{
+    let schema = instance.schema();
+    out.extend_from_slice(b"  two values: ")?;
+    push_value(&schema.typeside, first, out)?;
+    out.extend_from_slice(b" and ")?;
+    push_value(&schema.typeside, second, out)?;
+    out.extend_from_slice(b"\n")?;
+    Ok(())
+}
+
+/// Appends the values of two terms, where they are two.
+fn append_values(
+    alloc: Global,
+    out: &mut Vec<u8>,
+    instance: &Instance,
+    left: &TypeTerm,
+    right: &TypeTerm,
+) -> Result<(), AllocError>
+    ensures { OnOk result (TellsSides instance.now (Typ left.now) (Typ right.now) out.old.items out.new.items) }
+{
+    instance.is_instance();
+    let Some(first) = value_in(alloc, instance, left)? else {
+        return Ok(());
+    };
+    let Some(second) = value_in(alloc, instance, right)? else {
+        return Ok(());
+    };
+    if is_same_value(&first, &second) {
+        return Ok(());
+    }
+    append_texts(out, instance, &first, &second)?;
+    Ok(())
+}
+
+/// Appends the two rows, by their least names, or the two values to which the sides of an equation lead in an instance.
+/// Nothing is appended where a side is no term over the instance's presentation, and where both lead to one.
+pub fn append_sides(
+    alloc: Global,
+    out: &mut Vec<u8>,
+    instance: &Instance,
+    equation: &Equation,
+) -> Result<(), AllocError>
+    ensures { OnOk result (TellsSides instance.now (left_of equation.now) (right_of equation.now)
+        out.old.items out.new.items) }
+{
+    match equation {
+        Equation::Ent(left, right) => append_rows(out, instance, left, right),
+        Equation::Typ(left, right) => append_values(alloc, out, instance, left, right),
+    }
+}
