@@ -82,9 +82,9 @@ module _ (rest : List (List ℕ)) where
   same_row row rows s is b [] h = tt
   same_row row rows s is b (x ∷ xs) h =
       let here : order_to (row ∷ rows) (s ∷ x) ≡ order_to rows x = same_begins s row x rows is in (
-      omega (arith, here, h.0),
-      subst (λ m. RisesFrom (order_to (row ∷ rows)) m (map (λ l. s ∷ l) xs)) (sym here) (same_row row rows s is (order_to rows x) xs h.1),
-    )
+        omega (arith, here, h.0),
+        subst (λ m. RisesFrom (order_to (row ∷ rows)) m (map (λ l. s ∷ l) xs)) (sym here) (same_row row rows s is (order_to rows x) xs h.1),
+      )
 
   each_rises : (row : ℕ) (rows : List ℕ) → RisesFrom (order_to rows) 0 rest → (s n : ℕ) → RisesFrom (order_to (row ∷ rows)) 0 (flat_map longer (range_with_len s n))
   each_rises row rows rises s zero = tt
