@@ -112,7 +112,7 @@ fn append_width(
 ) -> Result<(), AllocError> {
     append(&[b"it has "], out)?;
     append_number(fields.len() as u64, out)?;
-    append(&[b" fields, and the header "], out)?;
+    append(&[b" fields, and the header has "], out)?;
     append_number(sheet.wanted.len() as u64, out)?;
     append(&[b".\n  "], out)?;
     append_record(fields, out)?;
@@ -272,6 +272,16 @@ pub fn append_file_faults(
     append_faults(&told, file, faults, out)
 }
 
+/// Whether a fault is one of files, each read by itself.
+pub fn is_of_file(fault: &Fault) -> bool {
+    match fault.kind {
+        Kind::NoSuchId => false,
+        Kind::TooLarge => false,
+        Kind::BadCell => fault.column == 1,
+        _ => true,
+    }
+}
+
 /// Whether one of the faults is that of this file.
 fn has_fault(faults: &[Fault], file: u32) -> bool {
     faults.iter().any(|fault| fault.file == file)
@@ -310,13 +320,16 @@ pub fn append_report(
             append_file_faults(&sheet, file as u32, faults, out)?;
         }
     }
-    append_count(faults.len(), out)
+    append_rest(faults, out)
 }
 
-/// Appends that there may be more.
-fn append_count(count: usize, out: &mut Vec<u8>) -> Result<(), AllocError> {
-    if count >= 100 {
+/// Appends what isn't told: faults behind the first 100, and those of cells, where files have faults.
+fn append_rest(faults: &[Fault], out: &mut Vec<u8>) -> Result<(), AllocError> {
+    if faults.len() >= 100 {
         append(&[b"There may be more: the first 100 are told.\n"], out)?;
+    }
+    if faults.iter().any(is_of_file) {
+        append(&[b"The cells are tested once this is mended.\n"], out)?;
     }
     Ok(())
 }

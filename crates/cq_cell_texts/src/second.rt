@@ -1,5 +1,5 @@
 //! The first fault of a folder of the second format, with its file of nulls and entries.
-use crate::folder::{append_file_faults, append_report};
+use crate::folder::{append_file_faults, append_report, is_of_file};
 use crate::sheet::Sheet;
 use cq_base::Name;
 use cq_cells::{Fault, Kind, Reading, Report, Unread, bytes_of, examine, read_file};
@@ -49,16 +49,6 @@ fn refused_of(refusal: CsvRefusal) -> Option<Refused> {
         CsvRefusal::ReadFault(_) => None,
         CsvRefusal::TooLarge => None,
         CsvRefusal::Memory => None,
-    }
-}
-
-/// Whether a fault is one of files, each read by itself.
-fn is_of_file(fault: &Fault) -> bool {
-    match fault.kind {
-        Kind::NoSuchId => false,
-        Kind::TooLarge => false,
-        Kind::BadCell => fault.column == 1,
-        _ => true,
     }
 }
 
