@@ -261,8 +261,8 @@ pub fn append_file_faults(
     faults: &[Fault],
     out: &mut Vec<u8>,
 ) -> Result<(), AllocError> {
-    if sheet.text.len() >= 1 << 31 {
-        return Err(AllocError);
+    if !has_fault(faults, file) || sheet.text.len() >= 1 << 31 {
+        return Ok(());
     }
     let earlier = earlier_lines(sheet.alloc, faults, file, sheet.text)?;
     let told = Told {
@@ -282,6 +282,14 @@ pub fn is_of_file(fault: &Fault) -> bool {
     }
 }
 
+/// The bytes that were read of a file; none, where none were.
+fn text_of(report: &Report, file: usize) -> &[u8] {
+    match report.readings.as_slice().get(file) {
+        Some(reading) => bytes_of(reading),
+        None => &[],
+    }
+}
+
 /// Whether one of the faults is that of this file.
 fn has_fault(faults: &[Fault], file: u32) -> bool {
     faults.iter().any(|fault| fault.file == file)
@@ -296,31 +304,29 @@ pub fn append_report(
     out: &mut Vec<u8>,
 ) -> Result<(), AllocError> {
     let columns = columns(alloc, schema)?;
-    let faults = report.faults.as_slice();
-    let readings = report.readings.as_slice();
     let lists = columns.as_slice();
-    let entities = schema.entities.as_slice();
-    for (file, entity) in entities.iter().enumerate() {
-        if file >= readings.len() || file >= lists.len() || file >= 1 << 31 {
+    for (file, entity) in schema.entities.as_slice().iter().enumerate() {
+        let Ok(number) = u32::try_from(file) else {
             return Ok(());
-        }
-        if has_fault(faults, file as u32) {
-            let list = lists[file].as_slice();
-            let wanted = header(alloc, schema, list)?;
-            let sheet = Sheet {
-                alloc,
-                schema,
-                dir,
-                entity,
-                columns: list,
-                wanted: wanted.as_slice(),
-                text: bytes_of(&readings[file]),
-                is_entries: false,
-            };
-            append_file_faults(&sheet, file as u32, faults, out)?;
-        }
+        };
+        let Some(list) = lists.get(file) else {
+            return Ok(());
+        };
+        let list = list.as_slice();
+        let wanted = header(alloc, schema, list)?;
+        let sheet = Sheet {
+            alloc,
+            schema,
+            dir,
+            entity,
+            columns: list,
+            wanted: wanted.as_slice(),
+            text: text_of(report, file),
+            is_entries: false,
+        };
+        append_file_faults(&sheet, number, report.faults.as_slice(), out)?;
     }
-    append_rest(faults, out)
+    append_rest(report.faults.as_slice(), out)
 }
 
 /// Appends what isn't told: faults behind the first 100, and those of cells, where files have faults.

@@ -80,12 +80,13 @@ fn is_file_of(file: &str, entity: &Name) -> bool {
 }
 
 /// The number of the entity whose file this is.
-fn entity_of(schema: &Schema, file: &str) -> Option<usize> {
-    schema
+fn entity_of(schema: &Schema, file: &str) -> Option<u32> {
+    let place = schema
         .entities
         .as_slice()
         .iter()
-        .position(|entity| is_file_of(file, entity))
+        .position(|entity| is_file_of(file, entity))?;
+    u32::try_from(place).ok()
 }
 
 fn fault_of(refused: &Refused, file: u32) -> Fault {
@@ -160,11 +161,11 @@ pub fn append_folder2<F: Folder>(
         return Ok(());
     };
     match entity_of(schema, refused.file.as_str()) {
-        Some(entity) if entity < 1 << 31 => {
-            let fault = fault_of(&refused, entity as u32);
+        Some(entity) => {
+            let fault = fault_of(&refused, entity);
             append_entity(alloc, schema, dir, found.readings, fault, out)?;
         }
-        _ => append_entries(alloc, folder, schema, dir, &refused, out)?,
+        None => append_entries(alloc, folder, schema, dir, &refused, out)?,
     }
     Ok(())
 }
