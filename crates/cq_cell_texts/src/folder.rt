@@ -261,8 +261,12 @@ pub fn append_file_faults(
     faults: &[Fault],
     out: &mut Vec<u8>,
 ) -> Result<(), AllocError> {
-    if !has_fault(faults, file) || sheet.text.len() >= 1 << 31 {
+    if !has_fault(faults, file) {
         return Ok(());
+    }
+    // No file is so long.
+    if sheet.text.len() >= 1 << 31 {
+        return Err(AllocError);
     }
     let earlier = earlier_lines(sheet.alloc, faults, file, sheet.text)?;
     let told = Told {
