@@ -9,7 +9,7 @@ ghost use Rattle.cq_lines.specs.Walks.{IsWalk};
 ghost use Rattle.cq_origin.specs.Records.{AreFound, IsFound, first_id};
 
 use cq_base::Seq;
-use cq_lines::{Walk, find_place, go_on, start};
+use cq_lines::{Walk, find_place, start, walk_to};
 use csv::{ByteRecord, ReaderBuilder};
 use std::alloc::{AllocError, Global};
 
@@ -114,7 +114,7 @@ pub fn find_records(
         if *number < walk.number {
             continue;
         }
-        walk = go_on(text, walk, *number);
+        walk = walk_to(text, walk, *number);
         push_record(alloc, text, walk, &mut found)?;
     }
     Ok(found)
