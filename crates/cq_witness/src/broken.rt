@@ -3,6 +3,7 @@ ghost use Rattle.std.specs.Prelude.{◌≡◌, ◌-◌, ◌++◌, OnOk, option_c
 ghost use Rattle.cq_witness.specs.Broken.{kept_text, named_text, TellsBroken};
 
 use crate::images::{images_of, put_equation};
+use crate::phrases::{Phrase, append_phrase};
 use crate::sides::append_sides;
 use cq_base::{Name, Raw};
 use cq_explain::{push_equation, push_ordinal};
@@ -31,9 +32,9 @@ fn append_equation(
     let schema = instance.schema();
     let presentation = instance.presentation();
     out.extend_from_slice(name.as_str().as_bytes())?;
-    out.extend_from_slice(b": ")?;
+    append_phrase(out, Phrase::Colon)?;
     push_equation(schema, presentation, equation, out)?;
-    out.extend_from_slice(b"\n")?;
+    append_phrase(out, Phrase::LineEnd)?;
     Ok(())
 }
 
@@ -48,11 +49,11 @@ fn append_kept(
     ensures { OnOk result (out.new.items ≡ out.old.items ++ kept_text ends.now.source.now ends.now.target.now
         ends.now.start.now ends.now.finish.now place equation.now image.now) }
 {
-    out.extend_from_slice(b"Equation ")?;
+    append_phrase(out, Phrase::Equation)?;
     push_ordinal(place, out)?;
-    out.extend_from_slice(b" of ")?;
+    append_phrase(out, Phrase::Of)?;
     append_equation(out, ends.source, ends.start, equation)?;
-    out.extend_from_slice(b"Its image in ")?;
+    append_phrase(out, Phrase::Image)?;
     append_equation(out, ends.target, ends.finish, image)?;
     Ok(())
 }
@@ -84,9 +85,7 @@ fn append_at(
     let image = put_equation(alloc, &images, equation)?;
     append_kept(out, ends, place, equation, &image)?;
     append_sides(alloc, out, ends.finish, &image)?;
-    out.extend_from_slice(
-        b"To mend it: give its generators other images, or state the image in that instance.\n",
-    )?;
+    append_phrase(out, Phrase::OtherImages)?;
     Ok(())
 }
 
