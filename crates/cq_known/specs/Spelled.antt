@@ -30,8 +30,10 @@ number_spelled names token = option_and_then (number_among names) (spelled_by to
 abbrev pub spells_from : Place → List Name → Token → Bool
 spells_from from names token = not (is_before token.place from) && is_some (number_spelled names token)
 
--- the place of the first token from a place on that spells one of the names, and the number of that name
+-- the place of a token, and the number of the name that it spells
+abbrev pub place_and_number : List Name → Token → Option (Place × ℕ)
+place_and_number names token = option_map (λ (number : ℕ). (token.place, number)) (number_spelled names token)
+
+-- the same of the first token from a place on that spells one of the names
 abbrev pub first_spelled : List Token → Place → List Name → Option (Place × ℕ)
-first_spelled tokens from names =
-    option_and_then (λ (token : Token). option_map (λ (number : ℕ). (token.place, number)) (number_spelled names token))
-    (find (spells_from from names) tokens)
+first_spelled tokens from names = option_and_then (place_and_number names) (find (spells_from from names) tokens)

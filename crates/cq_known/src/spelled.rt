@@ -1,6 +1,8 @@
 //! The place of a name among the tokens of a file.
-ghost use Rattle.std.specs.Prelude.{◌≡◌};
-ghost use Rattle.cq_known.specs.Spelled.{first_spelled, is_before, number_among, number_spelled, spells_from};
+ghost use Rattle.std.specs.Prelude.{◌≡◌, find};
+ghost use Rattle.std.specs.Option.{option_copied};
+ghost use Rattle.cq_known.specs.Spelled.{first_spelled, is_before, number_among, number_spelled, place_and_number};
+ghost use Rattle.cq_known.specs.Spelled.{spells_from};
 
 use cq_base::{Name, Place};
 use cq_lex::{Kind, Token};
@@ -9,9 +11,32 @@ use cq_lex::{Kind, Token};
 pub fn first_spelled(tokens: &[Token], from: Place, names: &[Name]) -> Option<(Place, usize)>
     ensures { result ≡ first_spelled tokens.now from names.now }
 {
-    let token = tokens.iter().find(|token| spells_from(token, from, names))?;
-    let number = number_spelled(token, names)?;
-    Some((token.place, number))
+    match first_token(tokens, from, names) {
+        Some(token) => place_and_number(token, names),
+        None => None,
+    }
+}
+
+/// The first token from a place on that spells one of these names.
+fn first_token<'a>(tokens: &'a [Token], from: Place, names: &[Name]) -> Option<&'a Token>
+    ensures { option_copied result ≡ find (spells_from from names.now) tokens.now }
+{
+    for token in tokens {
+        if spells_from(token, from, names) {
+            return Some(token);
+        }
+    }
+    None
+}
+
+/// The place of a token, and the number of the name that it spells.
+fn place_and_number(token: &Token, names: &[Name]) -> Option<(Place, usize)>
+    ensures { result ≡ place_and_number names.now token.now }
+{
+    match number_spelled(token, names) {
+        Some(number) => Some((token.place, number)),
+        None => None,
+    }
 }
 
 /// Whether a token stands at the place or behind it, and spells one of the names.
