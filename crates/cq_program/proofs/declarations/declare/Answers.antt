@@ -1,4 +1,4 @@
-use Rattle.std.proofs.Common.{IfErr, OnOk, sym, subst, ◌∙◌}
+use Rattle.std.proofs.Common.{◌≡◌, IfErr, OnErr, OnOk, sym, subst}
 use Rattle.cq_stating.specs.Meanings.{Environment}
 use Rattle.cq_stating.specs.Environment.{AreSettled, environment_of}
 use Rattle.cq_program.specs.Judging.{AddsDecl, RefusesDecl}
@@ -16,3 +16,8 @@ pub returns-clause-refuses : goal.returns-clause-refuses
 returns-clause-refuses g c =
     subst (λ (env : Environment). IfErr c.declare_next.result (RefusesDecl c.args.depth (g.F.Folder.state c.args.folder.now) (g.F.Folder.state c.declare_next.new.folder) env c.args.decl.now)) c.in_ok-make_used.ensures
     c.declare_next.ensures.refuses
+
+pub returns-clause-unchanged : goal.returns-clause-unchanged
+returns-clause-unchanged g c =
+    subst (λ (env : Environment). OnErr c.declare_next.result (environment_of c.declare_next.new.env.names.entries ≡ env)) c.in_ok-make_used.ensures
+    c.declare_next.ensures.unchanged
