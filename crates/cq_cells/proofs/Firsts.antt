@@ -141,7 +141,7 @@ first_cells sheets T room labels (cell ∷ cells) =
 
 first_contents : (S : Schema) (sheets : List Sheet)
     → first_of (if nat_lt most_generators (total S sheets) then found_in (Some TooLarge) None
-      else cells_found sheets S.typeside (Some (most_generators - total S sheets)) [] (all_cells S sheets)) ≡ sheets_fault S sheets
+    else cells_found sheets S.typeside (Some (most_generators - total S sheets)) [] (all_cells S sheets)) ≡ sheets_fault S sheets
 first_contents S sheets = by (nat_lt most_generators (total S sheets))
   where
     by : (b : Bool) → first_of (if b then found_in (Some TooLarge) None else cells_found sheets S.typeside (Some (most_generators - total S sheets)) [] (all_cells S sheets))

@@ -1,6 +1,6 @@
 -- Tables of ids to which one more id is added.
-use Rattle.std.proofs.Common.{ℕ, suc, Bool, true, false, not, List, [], ◌∷◌, ◌++◌, ◌+◌, ◌<◌, ◌≡◌, ◌⊎◌, inl, inr, Option, Some, None, cond, length, map, drop, refl, sym, ap, subst, ◌∙◌, add-one, arith}
-use Rattle.std.specs.Prelude.{is_some, option_map, position}
+use Rattle.std.proofs.Common.{ℕ, suc, Bool, true, false, not, List, [], ◌∷◌, ◌++◌, ◌+◌, ◌<◌, ◌≡◌, ◌⊎◌, inl, inr, Option, Some, None, Result, Ok, Err, cond, length, map, drop, refl, sym, ap, subst, ◌∙◌, add-one, arith}
+use Rattle.std.specs.Prelude.{IfOk, OnOk, is_some, option_map, position}
 use Rattle.std.specs.Cmp.Lexicographic.{bytes_decides}
 use Rattle.std.specs.Str.{bytes_eq}
 use Rattle.std.specs.Map.{lookup}
@@ -20,14 +20,14 @@ moved false (Some n) here count = refl
 moved false None true count = refl
 moved false None false count = refl
 
+alone : (b : Bool) → cond b (Some 0) (option_map suc None) ≡ or_last None b 0
+unfolding or_last
+alone true = refl
+alone false = refl
+
 -- the number of an id among ids with one more
 position_more : (p : List ℕ → Bool) (ids : List (List ℕ)) (id : List ℕ) → position p (ids ++ id ∷ []) ≡ or_last (position p ids) (p id) (length ids)
 position_more p [] id = position-cons p id [] ∙ alone (p id)
-  where
-    alone : (b : Bool) → cond b (Some 0) (option_map suc (position p [])) ≡ or_last None b 0
-    unfolding or_last
-    alone true = refl
-    alone false = refl
 position_more p (x ∷ ids) id =
     position-cons p x (ids ++ id ∷ [])
     ∙ ap (λ o. cond (p x) (Some 0) (option_map suc o)) (position_more p ids id)
@@ -61,33 +61,37 @@ last_here (Some n) here count is same = cc is
 
 -- an id that stands already
 pub index_kept : (ids : List (List ℕ)) (id : List ℕ) (old new : List (List ℕ × ℕ)) → IsIndexOf ids old → is_some (lookup (same_name id) old) ≡ true → new ≡ old → IsIndexOf (ids ++ id ∷ []) new
-index_kept ids id old new index known kept = record { finds = λ other.
-    let place = number_of ids other in
-    let more = position_more (same_name other) ids id in
-    ap (lookup (same_name other)) kept ∙ index.finds other
-    ∙ sym (more ∙ elim (cases_Bool (same_name other id)) as (λ _. or_last place (same_name other id) (length ids) ≡ place) [
-      | inl same ↦ elim (found_or_not place) as (λ _. or_last place (same_name other id) (length ids) ≡ place) [
-        | inl none ↦ absurd (cc (sym known ∙ ap is_some (ap (λ x. lookup (same_name x) old) (sym (same_is other id same)) ∙ index.finds other ∙ none)))
-        | inr some ↦ last_some place (same_name other id) (length ids) some.0 some.1
-      ]
-      | inr differs ↦ last_none place (same_name other id) (length ids) differs
-    ]) }
+index_kept ids id old new index known kept = record {
+  finds = λ other.
+      let place = number_of ids other in
+      let more = position_more (same_name other) ids id in
+      ap (lookup (same_name other)) kept ∙ index.finds other
+      ∙ sym (more ∙ elim (cases_Bool (same_name other id)) as (λ _. or_last place (same_name other id) (length ids) ≡ place) [
+        | inl same ↦ elim (found_or_not place) as (λ _. or_last place (same_name other id) (length ids) ≡ place) [
+          | inl none ↦ absurd (cc (sym known ∙ ap is_some (ap (λ x. lookup (same_name x) old) (sym (same_is other id same)) ∙ index.finds other ∙ none)))
+          | inr some ↦ last_some place (same_name other id) (length ids) some.0 some.1
+        ]
+        | inr differs ↦ last_none place (same_name other id) (length ids) differs
+      ]);
+}
 
 -- a new id
 pub index_noted : (ids : List (List ℕ)) (id : List ℕ) (number : ℕ) (old new : List (List ℕ × ℕ)) → IsIndexOf ids old → lookup (same_name id) old ≡ None → length ids ≡ number
     → ((other : List ℕ) → lookup (same_name other) new ≡ cond (same_name id other) (Some number) (lookup (same_name other) old)) → IsIndexOf (ids ++ id ∷ []) new
-index_noted ids id number old new index absent many noted = record { finds = λ other.
-    let place = number_of ids other in
-    noted other ∙ sym (position_more (same_name other) ids id ∙ elim (cases_Bool (same_name other id)) as (λ _. or_last place (same_name other id) (length ids) ≡ cond (same_name id other) (Some number) (lookup (same_name other) old)) [
-      | inl same ↦
-          let is = same_is other id same in
-          let none : place ≡ None = sym (index.finds other) ∙ ap (λ x. lookup (same_name x) old) is ∙ absent in
-          last_here place (same_name other id) (length ids) none same ∙ ap Some many
-          ∙ sym (ap (λ b. cond b (Some number) (lookup (same_name other) old)) (ap (λ x. same_name x other) (sym is) ∙ same_itself other))
-      | inr differs ↦
-          last_none place (same_name other id) (length ids) differs ∙ sym (index.finds other)
-          ∙ sym (ap (λ b. cond b (Some number) (lookup (same_name other) old)) (unlike id other (λ is. cc (sym differs ∙ ap (λ x. same_name x id) (sym is) ∙ same_itself id))))
-    ]) }
+index_noted ids id number old new index absent many noted = record {
+  finds = λ other.
+      let place = number_of ids other in
+      noted other ∙ sym (position_more (same_name other) ids id ∙ elim (cases_Bool (same_name other id)) as (λ _. or_last place (same_name other id) (length ids) ≡ cond (same_name id other) (Some number) (lookup (same_name other) old)) [
+        | inl same ↦
+            let is = same_is other id same in
+            let none : place ≡ None = sym (index.finds other) ∙ ap (λ x. lookup (same_name x) old) is ∙ absent in
+            last_here place (same_name other id) (length ids) none same ∙ ap Some many
+            ∙ sym (ap (λ b. cond b (Some number) (lookup (same_name other) old)) (ap (λ x. same_name x other) (sym is) ∙ same_itself other))
+        | inr differs ↦
+            last_none place (same_name other id) (length ids) differs ∙ sym (index.finds other)
+            ∙ sym (ap (λ b. cond b (Some number) (lookup (same_name other) old)) (unlike id other (λ is. cc (sym differs ∙ ap (λ x. same_name x id) (sym is) ∙ same_itself id))))
+      ]);
+}
   where
     unlike : (a b : List ℕ) → (a ≡ b → ⊥) → same_name a b ≡ false
     unlike a b never = elim (cases_Bool (same_name a b)) [
@@ -106,3 +110,13 @@ index_more ids id number old new before index many is kept noted = elim (found_o
   | inl none ↦ index_noted ids id number old new index (sym is ∙ none) many (noted none)
   | inr some ↦ index_kept ids id old new index (ap is_some (sym is) ∙ ap is_some some.1) (kept (ap is_some some.1))
 ]
+
+-- the same of a note that may want memory
+pub index_on_ok : {E : Type 0} (result : Result (Option ℕ) E) (ids : List (List ℕ)) (id same : List ℕ) (number : ℕ) (old new : List (List ℕ × ℕ)) → IsIndexOf ids old → length ids ≡ number → same ≡ id
+    → IfOk result (λ before. before ≡ lookup (same_name same) old)
+    → IfOk result (λ before. is_some before ≡ true → new ≡ old)
+    → IfOk result (λ before. before ≡ None → (other : List ℕ) → lookup (same_name other) new ≡ cond (same_name same other) (Some number) (lookup (same_name other) old))
+    → OnOk result (IsIndexOf (ids ++ id ∷ []) new)
+index_on_ok (Ok before) ids id same number old new index many is known kept noted =
+    subst (λ i. IsIndexOf (ids ++ i ∷ []) new) is (index_more ids same number old new before index many known kept noted)
+index_on_ok (Err e) ids id same number old new index many is known kept noted = tt

@@ -5,3 +5,6 @@ pub mod Passing
 pub mod Tabling
 pub mod Sheeting
 pub mod Firsts
+pub mod Celling
+pub mod Filing
+pub mod Whole

@@ -83,3 +83,15 @@ goes_all over old now whole rest goes none = λ name others. ap (λ l. told_with
 
 pub passes_same : (over : Over) (old new : Pass) (cells others : Cells) → ((name : ℕ → List ℕ) → cells name ≡ others name) → Passes over old new cells → Passes over old new others
 passes_same over old new cells others same passes = λ name rest. passes name rest ∙ ap (λ l. told_with over name old (l ++ rest)) (same name)
+
+-- what is listed behind all cells
+pub passes_listed : (over : Over) (old new : Pass) (cells : Cells) → old.going ≡ true → old.labels ≡ [] → Passes over old new cells
+    → Lists old.faults new.faults (λ name. cells_found (sheets_over over name) (typeside_over over) (Some over.most) [] (cells name))
+passes_listed over old new cells going none passes = λ name.
+    sym (nothing name new.going) ∙ passes name [] ∙ told_going over name old (cells name ++ []) going
+    ∙ ap (λ l. take most_faults (map (shown name) old.faults ++ cells_found (sheets_over over name) (typeside_over over) (Some over.most) l (cells name ++ []))) none
+    ∙ ap (λ l. take most_faults (map (shown name) old.faults ++ cells_found (sheets_over over name) (typeside_over over) (Some over.most) [] l)) (append-nil (cells name))
+  where
+    nothing : (name : ℕ → List ℕ) (b : Bool) → (if b then still over name new [] else stopped name new) ≡ stopped name new
+    nothing name true = ap (take most_faults) (append-nil (map (shown name) new.faults))
+    nothing name false = refl

@@ -19,4 +19,5 @@ pub record IsIndexed (text : List ℕ) (made : Indexed) : Type 0 where
 -- one for each file that was read
 pub record AreIndexed (readings : List Reading) (made : List Indexed) : Type 0 where
   pub many : length made ≡ length readings
-  pub each : (entity : ℕ) (d : Indexed) → entity < length readings → IsIndexed (text_in (reading_at readings entity)) (slice_index_or made entity d)
+  pub each : (entity : ℕ) (d : Indexed) → entity < length readings
+      → IsIndexed (text_in (reading_at readings entity)) (slice_index_or made entity d)

@@ -37,9 +37,11 @@ typeside_over over = over.schema.now.typeside
 -- what will be listed once these cells are read too
 abbrev pub told_with : Over → (ℕ → List ℕ) → Pass → List Cell → List Found
 told_with over name pass cells = if pass.going
-    then take most_faults (map (shown name) pass.faults ++ cells_found (sheets_over over name) (typeside_over over) (Some over.most) pass.labels cells)
+    then take most_faults (map (shown name) pass.faults
+    ++ cells_found (sheets_over over name) (typeside_over over) (Some over.most) pass.labels cells)
     else take most_faults (map (shown name) pass.faults)
 
 -- these cells were read: with any others behind them the same will be listed
 abbrev pub Passes : Over → Pass → Pass → ((ℕ → List ℕ) → List Cell) → Type 0
-Passes over old new cells = (name : ℕ → List ℕ) (others : List Cell) → told_with over name new others ≡ told_with over name old (cells name ++ others)
+Passes over old new cells = (name : ℕ → List ℕ) (others : List Cell)
+    → told_with over name new others ≡ told_with over name old (cells name ++ others)

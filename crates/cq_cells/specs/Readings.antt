@@ -1,5 +1,6 @@
 -- What was read of the files of a folder, and all faults in it.
-use Rattle.std.specs.Prelude.{ℕ, List, [], ◌∷◌, ◌-◌, ◌≡◌, ◌<◌, ◌≤◌, Option, Some, None, if◌then◌else◌, nat_lt, length, map, unwrap_or, slice_get}
+use Rattle.std.specs.Prelude.{ℕ, List, [], ◌∷◌, ◌-◌, ◌≡◌, ◌<◌, ◌≤◌, Option, Some, None, if◌then◌else◌, nat_lt, length, map, unwrap_or}
+use Rattle.std.specs.Prelude.{slice_get}
 use Rattle.std.specs.List.{flat_map}
 use Rattle.cq_base.specs.declared.name.Name.{Name}
 use Rattle.cq_io.specs.Content.{File, find_file}

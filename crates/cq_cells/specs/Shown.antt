@@ -1,9 +1,13 @@
 -- The faults that the program lists.
 use Rattle.std.specs.Prelude.{ℕ, List, [], ◌∷◌, ◌++◌, ◌≡◌, Option, Some, None, map, take}
-use Rattle.cq_import.specs.Faults.{Fault as ImportFault, Absent as AbsentFault, TooLong as TooLongFault, NotCsv as NotCsvFault, BadHeader as BadHeaderFault, BadCell as BadCellFault, DoubleId as DoubleIdFault, NoSuchId as NoSuchIdFault, TooLarge as TooLargeFault}
+use Rattle.cq_import.specs.Faults.{Fault as ImportFault, Absent as AbsentFault, TooLong as TooLongFault, NotCsv as NotCsvFault}
+use Rattle.cq_import.specs.Faults.{BadHeader as BadHeaderFault, BadCell as BadCellFault, DoubleId as DoubleIdFault}
+use Rattle.cq_import.specs.Faults.{NoSuchId as NoSuchIdFault, TooLarge as TooLargeFault}
 use Rattle.cq_cells.specs.declared.faults.Fault.{Fault}
 use Rattle.cq_cells.specs.declared.faults.Kind.{Kind}
 use Rattle.cq_cells.specs.declared.faults.Kind.TheVariants.{Absent, TooLong, NotCsv, BadHeader, BadCell, DoubleId, NoSuchId, TooLarge}
+use Rattle.cq_import.specs.declared.labels.Trouble.{Trouble}
+use Rattle.cq_import.specs.declared.labels.Trouble.TheVariants as trouble
 use Rattle.cq_cells.specs.Found.{Found}
 
 -- what import tells of such a fault
@@ -16,6 +20,11 @@ told BadCell file number column = BadCellFault file number column
 told DoubleId file number column = DoubleIdFault file number
 told NoSuchId file number column = NoSuchIdFault file number column
 told TooLarge file number column = TooLargeFault
+
+-- what is told of a label that is wrong, or one too many
+abbrev pub trouble_kind : Trouble → Kind
+trouble_kind trouble.Wrong = BadCell
+trouble_kind trouble.Full = TooLarge
 
 -- over the names of the files by their numbers
 abbrev pub shown : (ℕ → List ℕ) → Fault → Found
@@ -31,4 +40,5 @@ most_faults = 100
 
 -- these faults are listed next, up to the most
 abbrev pub Lists : List Fault → List Fault → ((ℕ → List ℕ) → List Found) → Type 0
-Lists old new found = (name : ℕ → List ℕ) → take most_faults (map (shown name) new) ≡ take most_faults (map (shown name) old ++ found name)
+Lists old new found = (name : ℕ → List ℕ)
+    → take most_faults (map (shown name) new) ≡ take most_faults (map (shown name) old ++ found name)

@@ -6,7 +6,7 @@ ghost use Rattle.cq_import.specs.Cells.{content_of, row_with_id, trouble_fault};
 ghost use Rattle.cq_import.specs.Context.{IsColumn};
 ghost use Rattle.cq_cells.specs.Found.{found_in};
 ghost use Rattle.cq_cells.specs.Passes.{IsOver, Passes, cell_shown, sheets_over, typeside_over};
-ghost use Rattle.cq_cells.specs.Shown.{Lists};
+ghost use Rattle.cq_cells.specs.Shown.{Lists, told, trouble_kind};
 
 use crate::faults::{Fault, Faults, Kind};
 use crate::ids::Id;
@@ -36,7 +36,6 @@ pub struct Over<'a> {
 pub struct Pass {
     pub faults: Faults,
     pub labels: Labels,
-    pub source: Source,
     pub going: bool,
 }
 
@@ -50,17 +49,20 @@ pub struct Cell<'a> {
     pub field: &'a [u8],
 }
 
-fn fault_of_cell(cell: &Cell, kind: Kind) -> Fault
-    ensures { result ≡ record { kind = kind; file = cell.now.file; number = cell.now.number; column = cell.now.place;
-        before = None } }
+/// Adds the fault of a cell.
+fn add_fault(cell: &Cell, kind: Kind, pass: &mut Pass) -> Result<(), AllocError>
+    ensures listed { OnOk result (Lists pass.old.faults pass.new.faults
+        (λ name. found_in (Some (told kind (name cell.now.file) cell.now.number cell.now.place)) None)) }
+    ensures labels { pass.new.labels ≡ pass.old.labels }
+    ensures going { pass.new.going ≡ pass.old.going }
 {
-    Fault {
+    pass.faults.add(Some(Fault {
         kind,
         file: cell.file,
         number: cell.number,
         column: cell.place,
         before: None,
-    }
+    }))
 }
 
 /// Whether a record of an entity has this id.
@@ -89,8 +91,7 @@ fn read_key(over: &Over, cell: &Cell, target: u32, pass: &mut Pass) -> Result<()
     if has_record(over, target, cell.field)? {
         return Ok(());
     }
-    pass.faults.add(Some(fault_of_cell(cell, Kind::NoSuchId)))?;
-    Ok(())
+    add_fault(cell, Kind::NoSuchId, pass)
 }
 
 /// Notes the labels in the value of a cell.
@@ -115,6 +116,15 @@ fn read_value(
     }
 }
 
+fn kind_of(trouble: Trouble) -> Kind
+    ensures { result ≡ trouble_kind trouble }
+{
+    match trouble {
+        Trouble::Wrong => Kind::BadCell,
+        Trouble::Full => Kind::TooLarge,
+    }
+}
+
 /// Tells what is wrong with a label, and that nothing behind it is told.
 fn stop(cell: &Cell, trouble: Trouble, pass: &mut Pass) -> Result<(), AllocError>
     ensures stops { OnOk result (pass.new.going ≡ false) }
@@ -122,12 +132,20 @@ fn stop(cell: &Cell, trouble: Trouble, pass: &mut Pass) -> Result<(), AllocError
         (λ name. found_in (trouble_fault (cell_shown generator cell.now name) (Some trouble)) None)) }
 {
     pass.going = false;
-    let kind = match trouble {
-        Trouble::Wrong => Kind::BadCell,
-        Trouble::Full => Kind::TooLarge,
-    };
-    pass.faults.add(Some(fault_of_cell(cell, kind)))?;
-    Ok(())
+    add_fault(cell, kind_of(trouble), pass)
+}
+
+/// What a field means in the column of an attribute of this type. Its text stands in memory of its own.
+fn content_in(
+    alloc: Global,
+    typeside: &Typeside,
+    sort: u32,
+    field: &[u8],
+) -> Result<Content, AllocError>
+    ensures { IfOk result (λ content. content ≡ content_of typeside.now sort field.now) }
+{
+    let mut source = Source::new(alloc, field)?;
+    read_content(alloc, &mut source, typeside, sort, field.len(), field)
 }
 
 /// Tests a cell of an attribute.
@@ -139,10 +157,9 @@ fn read_attribute(over: &Over, cell: &Cell, sort: u32, pass: &mut Pass) -> Resul
 {
     let schema: &Schema = over.schema;
     let typeside: &Typeside = &schema.typeside;
-    let source = &mut pass.source;
-    match read_content(over.alloc, source, typeside, sort, 0, cell.field)? {
+    match content_in(over.alloc, typeside, sort, cell.field)? {
         Content::Blank => Ok(()),
-        Content::Wrong => Ok(pass.faults.add(Some(fault_of_cell(cell, Kind::BadCell)))?),
+        Content::Wrong => add_fault(cell, Kind::BadCell, pass),
         Content::Means(value) => read_value(over, cell, sort, &value, pass),
     }
 }

@@ -16,7 +16,7 @@ use crate::index::{MOST_GENERATORS, find_total, index_files};
 use crate::readings::{Reading, Unread, read_files};
 use crate::rows::{Tested, check_reading};
 use crate::tables::read_cells;
-use cq_base::{Name, Source};
+use cq_base::Name;
 use cq_import::columns::{Column, columns, header};
 use cq_import::labels::Labels;
 use cq_io::Folder;
@@ -59,7 +59,14 @@ fn check_files(
     schema.is_well_sorted();
     for entity in 0..schema.entities.len() as u32 {
         let list = columns[entity as usize].as_slice();
-        check_file(alloc, schema, list, entity, &readings[entity as usize], faults)?;
+        check_file(
+            alloc,
+            schema,
+            list,
+            entity,
+            &readings[entity as usize],
+            faults,
+        )?;
     }
     Ok(())
 }
@@ -112,10 +119,10 @@ fn check_over(over: &Over, faults: Faults) -> Result<Faults, AllocError>
     ensures { IfOk result (λ made. Lists faults made (λ name. cells_found (sheets_over over.now name)
         (typeside_over over.now) (Some over.now.most) [] (all_cells over.now.schema.now (sheets_over over.now name)))) }
 {
+    let labels = Labels::new(over.alloc);
     let mut pass = Pass {
         faults,
-        labels: Labels::new(over.alloc),
-        source: Source::new(over.alloc, &[])?,
+        labels,
         going: true,
     };
     read_cells(over, &mut pass)?;
@@ -158,7 +165,7 @@ pub struct Report {
 }
 
 /// Reads the file `DIR/ENTITY.csv` of each entity of the schema, and lists the faults.
-pub fn report<F: Folder>(
+pub fn examine<F: Folder>(
     alloc: Global,
     folder: &mut F,
     dir: &Name,

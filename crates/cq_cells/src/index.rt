@@ -1,5 +1,6 @@
 //! The tables of ids of the files of a folder.
-ghost use Rattle.std.specs.Prelude.{ℕ, List, ◌≡◌, ◌+◌, ◌≤◌, ◌<◌, ◌++◌, ◌∷◌, [], IfOk, OnOk, MatchOption, length, map, sum};
+ghost use Rattle.std.specs.Prelude.{ℕ, List, ◌≡◌, ◌+◌, ◌≤◌, ◌<◌, ◌++◌, ◌∷◌, [], IfOk, OnOk, MatchOption, length, map};
+ghost use Rattle.std.specs.Prelude.{sum};
 ghost use Rattle.cq_import.specs.Records.{Record, Remains};
 ghost use Rattle.cq_import.specs.Rows.{ids_of};
 ghost use Rattle.cq_cells.specs.Index.{AreIndexed, IsIndexOf, IsIndexed};
@@ -37,7 +38,8 @@ fn index_rows(
     places: &mut Places,
 ) -> Result<u32, AllocError>
     requires { places.old ≡ [] }
-    ensures index { (rows : List Record) → Remains reader.old rows → OnOk result (IsIndexOf (ids_of rows) places.new) }
+    ensures index { (rows : List Record) → Remains reader.old rows
+        → OnOk result (IsIndexOf (ids_of rows) places.new) }
     ensures count { (rows : List Record) → Remains reader.old rows → IfOk result (λ count. count ≡ length rows) }
 {
     for number in 0..u32::MAX {

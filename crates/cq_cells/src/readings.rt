@@ -83,8 +83,8 @@ fn read_one<F: Folder>(folder: &mut F, name: String) -> Result<Reading, Unread>
     }
 }
 
-/// Reads the file of an entity.
-fn read_entity_file<F: Folder>(
+/// Reads the file of a folder with this name before its `.csv`, that of an entity.
+pub fn read_file<F: Folder>(
     alloc: Global,
     folder: &mut F,
     dir: &Name,
@@ -112,7 +112,7 @@ pub fn read_files<F: Folder>(
     let entities = schema.entities.as_slice();
     let mut made = Vec::new(alloc);
     for entity in entities {
-        let reading = read_entity_file(alloc, folder, dir, entity)?;
+        let reading = read_file(alloc, folder, dir, entity)?;
         push_reading(reading, &mut made)?;
     }
     Ok(made)

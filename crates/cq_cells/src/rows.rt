@@ -1,5 +1,5 @@
 //! The records of a file, tested by themselves.
-ghost use Rattle.std.specs.Prelude.{ℕ, List, ◌≡◌, ◌+◌, ◌≤◌, ◌++◌, ◌∷◌, [], IfOk, OnOk, length};
+ghost use Rattle.std.specs.Prelude.{ℕ, List, ◌≡◌, ◌+◌, ◌≤◌, ◌++◌, ◌∷◌, [], Some, None, IfOk, OnOk, length};
 ghost use Rattle.csv.specs.Records.{fields_of};
 ghost use Rattle.cq_base.specs.Names.{number_of};
 ghost use Rattle.cq_import.specs.Records.{Record, Remains, records_of};
@@ -7,7 +7,7 @@ ghost use Rattle.cq_import.specs.Rows.{id_of, row_fault};
 ghost use Rattle.cq_cells.specs.Found.{found_in, rows_found, sheet_found};
 ghost use Rattle.cq_cells.specs.Index.{IsIndexOf};
 ghost use Rattle.cq_cells.specs.Readings.{reading_found};
-ghost use Rattle.cq_cells.specs.Shown.{Lists, listed};
+ghost use Rattle.cq_cells.specs.Shown.{Lists, listed, told};
 
 use crate::faults::{Fault, Faults, Kind};
 use crate::ids::{Id, Places};
@@ -25,17 +25,18 @@ pub struct Tested<'a> {
     pub wanted: &'a [Name],
 }
 
-/// A fault of the whole file.
-fn fault_of_file(tested: &Tested, kind: Kind) -> Fault
-    ensures { result ≡ record { kind = kind; file = tested.now.file; number = 0; column = 0; before = None } }
+/// Adds a fault of the whole file.
+fn add_to_file(tested: &Tested, kind: Kind, faults: &mut Faults) -> Result<(), AllocError>
+    ensures { OnOk result (Lists faults.old faults.new
+        (λ name. found_in (Some (told kind (name tested.now.file) 0 0)) None)) }
 {
-    Fault {
+    faults.add(Some(Fault {
         kind,
         file: tested.file,
         number: 0,
         column: 0,
         before: None,
-    }
+    }))
 }
 
 /// The fault of a record, whose id stands first in an earlier record or in none.
@@ -46,8 +47,8 @@ fn fault_of_row(
     before: Option<u32>,
 ) -> Option<Fault>
     ensures { (name : ℕ → List ℕ) (ids : List (List ℕ)) → before ≡ number_of ids (id_of (fields_of fields.now))
-        → listed name result ≡ found_in (row_fault (name tested.now.file) (length tested.now.wanted.now) ids number
-        (fields_of fields.now)) before }
+        → listed name result ≡ found_in (row_fault (name tested.now.file) (length tested.now.wanted.now) ids
+        number (fields_of fields.now)) before }
 {
     let file = tested.file;
     if !is_row(fields, tested.wanted.len()) {
@@ -150,13 +151,13 @@ fn check_records(
     ensures { (rows : List Record) → Remains reader.old rows → OnOk result (Lists faults.old faults.new
         (λ name. sheet_found (name tested.now.file) tested.now.wanted.now rows)) }
 {
-    if next(reader, fields)? {
-        if is_same(fields, tested.wanted) {
-            return check_rows(tested, reader, fields, places, faults);
-        }
+    if !next(reader, fields)? {
+        return add_to_file(tested, Kind::BadHeader, faults);
     }
-    faults.add(Some(fault_of_file(tested, Kind::BadHeader)))?;
-    Ok(())
+    if !is_same(fields, tested.wanted) {
+        return add_to_file(tested, Kind::BadHeader, faults);
+    }
+    check_rows(tested, reader, fields, places, faults)
 }
 
 /// Tests the text of a file.
@@ -180,8 +181,8 @@ pub fn check_reading(
         (λ name. reading_found (name tested.now.file) tested.now.wanted.now reading.now)) }
 {
     match reading {
-        Reading::Absent => faults.add(Some(fault_of_file(tested, Kind::Absent))),
-        Reading::TooLong => faults.add(Some(fault_of_file(tested, Kind::TooLong))),
+        Reading::Absent => add_to_file(tested, Kind::Absent, faults),
+        Reading::TooLong => add_to_file(tested, Kind::TooLong, faults),
         Reading::Text(text) => check_text(tested, text.as_slice(), faults),
     }
 }

@@ -73,12 +73,7 @@ fn read_rows(
 }
 
 /// Tests the cells of a file with this text.
-fn read_text(
-    over: &Over,
-    table: &Table,
-    text: &[u8],
-    pass: &mut Pass,
-) -> Result<(), AllocError>
+fn read_text(over: &Over, table: &Table, text: &[u8], pass: &mut Pass) -> Result<(), AllocError>
     requires over { IsOver over.now }
     requires columns { All (IsColumn over.now.schema.now) table.now.columns.now }
     requires narrow { length table.now.columns.now ≤ 2 ^ 31 }

@@ -1,2 +1,2 @@
 mod Seen
-mod Telling
+mod Appended

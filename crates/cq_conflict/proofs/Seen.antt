@@ -46,14 +46,11 @@ module _ (steps : List Step) where
 
   -- Two premises of which the second waits first.
   pub pair_leads : (waiting : List ℕ) (first second : ℕ) → Leads steps waiting ((second ∷ []) ++ first ∷ []) → Leads steps waiting (first ∷ second ∷ [])
-  pair_leads waiting first second leads cited seen = let both = leads cited seen in (both.1.0, both.0, tt)
+  pair_leads waiting first second leads cited seen = let both = leads cited seen in (both.1.0, (both.0, tt))
 
   -- What is cited so far, and what waits: where all that waits is seen in what is cited at the end, so is the whole.
   abbrev pub AreWaiting : List ℕ → List ℕ → List ℕ → Type 0
   AreWaiting cited waiting whole = (later : List ℕ) → Extends steps cited later → AreSeen steps later waiting → AreSeen steps later whole
-
-  pub waiting_start : (cited waiting whole : List ℕ) → Leads steps waiting whole → AreWaiting cited waiting whole
-  waiting_start cited waiting whole leads later extends seen = leads later seen
 
   pub waiting_more : (old new waiting rest whole : List ℕ) (n : ℕ) → waiting ≡ rest ++ n ∷ [] → IsSeen steps new n → Extends steps old new → AreWaiting old waiting whole → AreWaiting new rest whole
   waiting_more old new waiting rest whole n are one extends before later further seen =

@@ -17,13 +17,12 @@ module _ (S : Schema) (P : Presentation) where
   step_text None = []
   step_text (Some step) = equation_text S P step.equation
 
-  -- the number from 1, the equation of the step, and what is noted of it
-  abbrev pub told_line : Option Step → List ℕ → ℕ → List ℕ
-  told_line step note n = with_end (codes "  " ++ ordinal n ++ codes ". " ++ step_text step ++ codes "    " ++ note)
-
   module _ (steps : List Step) (notes : List (List ℕ)) where
+    -- the number from 1, the equation of the step, and what is noted of it
     abbrev pub line_of : ℕ × Told → List ℕ
-    line_of numbered = told_line (slice_get steps numbered.1.step) (note_at notes numbered.0) numbered.0
+    line_of numbered =
+        with_end
+        (codes "  " ++ ordinal numbered.0 ++ codes ". " ++ step_text (slice_get steps numbered.1.step) ++ codes "    " ++ note_at notes numbered.0)
 
     abbrev pub told_lines : List Told → List ℕ
     told_lines told = flat_map line_of (enumerate_from 0 told)

@@ -1,5 +1,5 @@
 //! From which steps a told one follows.
-ghost use Rattle.std.specs.Prelude.{◌≡◌, ◌∷◌, ◌++◌, [], true, IfOk, IfSome, OnOk};
+ghost use Rattle.std.specs.Prelude.{◌≡◌, ◌∷◌, ◌++◌, [], true, IfOk, IfSome, OnOk, option_copied, slice_get};
 ghost use Rattle.cq_steps.specs.declared.step.Rule.TheVariants.{Reflexivity as Reflexive, Symmetry as Turning};
 ghost use Rattle.cq_steps.specs.declared.step.Rule.TheVariants.{Transitivity as Joining};
 ghost use Rattle.cq_conflict.specs.Told.{AreSeen, Extends, IsBy, IsSeen, Leads};
@@ -18,11 +18,30 @@ fn pair(numbers: &[u64]) -> Option<(u64, u64)>
     }
 }
 
+/// The one number, where there is one.
+fn only(numbers: &[u64]) -> Option<u64>
+    ensures { IfSome result (λ p. numbers.now ≡ p ∷ []) }
+{
+    match numbers {
+        [number] => Some(*number),
+        _ => None,
+    }
+}
+
+/// The step of a number.
+pub fn step_at(steps: &[Step], number: u64) -> Option<&Step>
+    ensures { option_copied result ≡ slice_get steps.now number }
+{
+    steps.get(number as usize)
+}
+
 /// The two premises of a step that joins them.
 fn joined(steps: &[Step], number: u64) -> Option<(u64, u64)>
     ensures { IfSome result (λ p. IsBy steps.now number Joining (p.0 ∷ p.1 ∷ [])) }
 {
-    let step = steps.get(number as usize)?;
+    let Some(step) = step_at(steps, number) else {
+        return None;
+    };
     match &step.rule {
         Rule::Transitivity => pair(step.from.as_slice()),
         _ => None,
@@ -33,12 +52,11 @@ fn joined(steps: &[Step], number: u64) -> Option<(u64, u64)>
 fn turned(steps: &[Step], number: u64) -> Option<u64>
     ensures { IfSome result (λ p. IsBy steps.now number Turning (p ∷ [])) }
 {
-    let step = steps.get(number as usize)?;
+    let Some(step) = step_at(steps, number) else {
+        return None;
+    };
     match &step.rule {
-        Rule::Symmetry => match step.from.as_slice() {
-            [only] => Some(*only),
-            _ => None,
-        },
+        Rule::Symmetry => only(step.from.as_slice()),
         _ => None,
     }
 }
@@ -47,7 +65,7 @@ fn turned(steps: &[Step], number: u64) -> Option<u64>
 fn is_reflexive(steps: &[Step], number: u64) -> bool
     ensures { result ≡ true → IsBy steps.now number Reflexive [] }
 {
-    let Some(step) = steps.get(number as usize) else {
+    let Some(step) = step_at(steps, number) else {
         return false;
     };
     match &step.rule {

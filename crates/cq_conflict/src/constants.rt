@@ -1,5 +1,5 @@
 //! Constants by their printed texts.
-ghost use Rattle.std.specs.Prelude.{◌≡◌, IfOk, IfSome};
+ghost use Rattle.std.specs.Prelude.{◌≡◌, Some, IfOk, IfSome};
 ghost use Rattle.cq_theory.specs.Typeside.{constant_type};
 ghost use Rattle.cq_theory.specs.ValueText.{con_text};
 
@@ -24,9 +24,13 @@ fn constant_of_type(
     ensures printed { IfOk result (λ found. IfSome found (λ c. con_text typeside.now c.constant ≡ text.now)) }
     ensures typed { IfOk result (λ found. IfSome found (λ c. constant_type typeside.now c.constant ≡ Some c.sort)) }
 {
-    match read_value(alloc, typeside, sort, text)? {
-        Some(Value::Const(constant)) => Ok(Some(TypedConstant { constant, sort })),
-        _ => Ok(None),
+    let Some(value) = read_value(alloc, typeside, sort, text)? else {
+        return Ok(None);
+    };
+    match value {
+        Value::Const(constant) => Ok(Some(TypedConstant { constant, sort })),
+        Value::Null(_) => Ok(None),
+        Value::Fun(_, _) => Ok(None),
     }
 }
 

@@ -4,7 +4,7 @@ ghost use Rattle.std.specs.Prelude.{◌≡◌};
 use crate::cited::{cited_generators, push_sides};
 use crate::labels::labels_of_parts;
 use crate::rows::{Label, Line, Rows, find_rows};
-use crate::sources::{Conflict, Part, Source};
+use crate::sources::{Explained, Part, Source};
 use crate::told::Told;
 use crate::written::files_of;
 use cq_io::Folder;
@@ -15,7 +15,7 @@ use std::alloc::{AllocError, Global};
 /// What is told: steps over a presentation, which of them are told, and how many equations each part has.
 #[derive(Clone, Copy)]
 pub struct Telling<'a> {
-    pub conflict: &'a Conflict<'a>,
+    pub explained: &'a Explained<'a>,
     pub steps: &'a [Step],
     pub told: &'a [Told],
     pub lengths: &'a [u64],
@@ -40,7 +40,7 @@ pub fn equation_counts(alloc: Global, parts: &[Part]) -> Result<Vec<u64>, AllocE
 /// The generators in the equations of a part that told steps give, each once, rising.
 fn cited_in_part(
     alloc: Global,
-    conflict: &Conflict,
+    explained: &Explained,
     lengths: &[u64],
     number: usize,
     steps: &[Step],
@@ -48,7 +48,13 @@ fn cited_in_part(
 ) -> Result<Vec<u32>, AllocError> {
     let mut cited = Vec::new(alloc);
     for one in told {
-        push_cited(conflict, lengths, number, steps.get(one.step as usize), &mut cited)?;
+        push_cited(
+            explained,
+            lengths,
+            number,
+            steps.get(one.step as usize),
+            &mut cited,
+        )?;
     }
     cited.sort_unstable();
     cited.dedup();
@@ -57,7 +63,7 @@ fn cited_in_part(
 
 /// Appends the generators of the equation that a step gives, if that is one of this part.
 fn push_cited(
-    conflict: &Conflict,
+    explained: &Explained,
     lengths: &[u64],
     number: usize,
     step: Option<&Step>,
@@ -75,10 +81,15 @@ fn push_cited(
     if place.part != number {
         return Ok(());
     }
-    let Some(part) = conflict.parts.get(number) else {
+    let Some(part) = explained.parts.get(number) else {
         return Ok(());
     };
-    match part.presentation.equations.as_slice().get(place.place as usize) {
+    match part
+        .presentation
+        .equations
+        .as_slice()
+        .get(place.place as usize)
+    {
         Some(equation) => push_sides(equation, cited),
         None => Ok(()),
     }
@@ -97,6 +108,7 @@ fn rows_of_part<F: Folder>(
         Source::Folder(dir) => find_rows(alloc, files_of(part, dir), cited, folder),
         Source::Literal(_) => Ok(Rows::new(alloc)),
         Source::Tables => Ok(Rows::new(alloc)),
+        Source::Unknown => Ok(Rows::new(alloc)),
     }
 }
 
@@ -131,7 +143,7 @@ fn wanted_of_part(
     }
     cited_in_part(
         alloc,
-        telling.conflict,
+        telling.explained,
         telling.lengths,
         number,
         telling.steps,
@@ -151,7 +163,7 @@ pub fn find_parts<F: Folder>(
         lines: Vec::new(alloc),
         labels: Vec::new(alloc),
     };
-    for (number, part) in telling.conflict.parts.iter().enumerate() {
+    for (number, part) in telling.explained.parts.iter().enumerate() {
         let cited = wanted_of_part(alloc, telling, number, part)?;
         add_part(alloc, part, cited.as_slice(), folder, &mut found)?;
     }
@@ -159,8 +171,12 @@ pub fn find_parts<F: Folder>(
 }
 
 /// The labels of generators: those of records, or of several parts.
-pub fn labels_in(alloc: Global, telling: &Telling, found: Vec<Label>) -> Result<Vec<Label>, AllocError> {
-    let parts = telling.conflict.parts;
+pub fn labels_in(
+    alloc: Global,
+    telling: &Telling,
+    found: Vec<Label>,
+) -> Result<Vec<Label>, AllocError> {
+    let parts = telling.explained.parts;
     if parts.len() < 2 {
         return Ok(found);
     }

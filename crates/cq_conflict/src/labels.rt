@@ -38,11 +38,7 @@ fn push_shown(
 }
 
 /// The name of the label at this place; where there is none, the generator's own.
-fn name_at(
-    labels: &[Label],
-    place: usize,
-    generator: &(Name, Sort),
-) -> Result<Name, AllocError> {
+fn name_at(labels: &[Label], place: usize, generator: &(Name, Sort)) -> Result<Name, AllocError> {
     match labels.get(place) {
         Some(label) => label.name.clone(),
         None => generator.0.clone(),
@@ -93,7 +89,12 @@ fn name_in_part(
     let Some(name) = part.name else {
         return Ok(None);
     };
-    let Some(own) = part.presentation.generators.as_slice().get(place.place as usize) else {
+    let Some(own) = part
+        .presentation
+        .generators
+        .as_slice()
+        .get(place.place as usize)
+    else {
         return Ok(None);
     };
     joined_name(alloc, name, &own.0)

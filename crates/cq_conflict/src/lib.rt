@@ -12,7 +12,6 @@
 
 mod chains;
 mod cited;
-mod conflict;
 mod constants;
 mod found;
 mod labels;
@@ -20,15 +19,16 @@ mod marks;
 mod notes;
 mod places;
 mod rows;
+mod seeking;
 mod sources;
 mod telling;
 mod text;
 mod told;
 mod written;
 
-pub use conflict::conflict;
 pub use constants::{TypedConstant, constant_of_text};
-pub use sources::{Conflict, Files, Part, Rest, Rules, Source};
-pub use telling::push_steps;
-pub use text::push_told;
+pub use seeking::conflict;
+pub use sources::{Explained, Files, Part, Rest, Rules, Source};
+pub use telling::{Constants, push_conflict, push_steps};
+pub use text::{Shown, push_told};
 pub use told::{Told, told_steps};

@@ -1,7 +1,7 @@
 //! What is noted of a told step: where its equation comes from, or from which lines it follows.
 use crate::places::{push_name, push_place};
 use crate::rows::Line;
-use crate::sources::{Conflict, Rest, Rules};
+use crate::sources::{Explained, Rest, Rules, Source};
 use crate::told::Told;
 use crate::written::{push_original, push_written};
 use cq_base::{Place, Seq};
@@ -14,7 +14,7 @@ use std::alloc::{AllocError, Global};
 /// generators of each part, and the line of each step that is told.
 #[derive(Clone, Copy)]
 pub struct Noting<'a> {
-    pub conflict: &'a Conflict<'a>,
+    pub explained: &'a Explained<'a>,
     pub lengths: &'a [u64],
     pub lines: &'a [Vec<Line>],
     pub numbers: &'a [Option<u64>],
@@ -60,7 +60,7 @@ fn push_note(
     from: &[u64],
     text: &mut Vec<u8>,
 ) -> Result<(), AllocError> {
-    let rules = noting.conflict.rules;
+    let rules = noting.explained.rules;
     match &step.rule {
         Rule::Given(number) => push_given(noting, *number, text),
         Rule::Path(number, _) => {
@@ -111,7 +111,7 @@ fn push_given(noting: &Noting, number: u64, text: &mut Vec<u8>) -> Result<(), Al
 /// Appends where an equation of a part comes from: the name of the part, and the equation there, if it is an image, and
 /// where it is written.
 fn push_in_part(noting: &Noting, place: PartPlace, text: &mut Vec<u8>) -> Result<(), AllocError> {
-    let parts = noting.conflict.parts;
+    let parts = noting.explained.parts;
     let Some(part) = parts.get(place.part) else {
         return Ok(());
     };
@@ -121,7 +121,9 @@ fn push_in_part(noting: &Noting, place: PartPlace, text: &mut Vec<u8>) -> Result
             text.extend_from_slice(b": ")?;
             push_original(part, place.place, text)?;
         }
-        text.extend_from_slice(b", ")?;
+        if !matches!(part.source, Source::Unknown) {
+            text.extend_from_slice(b", ")?;
+        }
     }
     let lines = match noting.lines.get(place.part) {
         Some(lines) => lines.as_slice(),
@@ -132,7 +134,7 @@ fn push_in_part(noting: &Noting, place: PartPlace, text: &mut Vec<u8>) -> Result
 
 /// Appends where an equation behind those of the parts comes from.
 fn push_rest(noting: &Noting, number: u64, text: &mut Vec<u8>) -> Result<(), AllocError> {
-    match noting.conflict.rest {
+    match noting.explained.rest {
         Rest::None => Ok(()),
         Rest::Images(name, presentation) => {
             let place = number.saturating_sub(sum(noting.lengths));
@@ -160,11 +162,7 @@ fn sum(lengths: &[u64]) -> u64 {
 }
 
 /// Appends the lines from which a step follows.
-fn push_from(
-    numbers: &[Option<u64>],
-    from: &[u64],
-    text: &mut Vec<u8>,
-) -> Result<(), AllocError> {
+fn push_from(numbers: &[Option<u64>], from: &[u64], text: &mut Vec<u8>) -> Result<(), AllocError> {
     for (place, step) in from.iter().enumerate() {
         text.extend_from_slice(word_before(place, from.len()))?;
         if let Some(Some(line)) = numbers.get(*step as usize) {

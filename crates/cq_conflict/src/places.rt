@@ -45,11 +45,7 @@ fn push_column(schema: &Schema, column: Column, text: &mut Vec<u8>) -> Result<()
     ensures { OnOk result (text.new.items ≡ text.old.items ++ column_text schema.now column) }
 {
     match column {
-        Column::Attribute(attribute, _) => push_edge(
-            schema.attributes.as_slice(),
-            attribute,
-            text,
-        ),
+        Column::Attribute(attribute, _) => push_edge(schema.attributes.as_slice(), attribute, text),
         Column::Key(key, _) => push_edge(schema.keys.as_slice(), key, text),
     }
 }
@@ -67,7 +63,7 @@ fn push_entity(schema: &Schema, entity: u32, text: &mut Vec<u8>) -> Result<(), A
 /// Appends the name of the file of an entity in a folder.
 fn push_file(files: Files, entity: u32, text: &mut Vec<u8>) -> Result<(), AllocError>
     ensures { OnOk result (text.new.items ≡ text.old.items
-        ++ file_text files.dir.now files.schema.now entity) }
+        ++ file_text files.entry.dir.now files.entry.schema.now entity) }
 {
     push_name(files.dir, text)?;
     text.extend_from_slice(b"/")?;
@@ -77,8 +73,8 @@ fn push_file(files: Files, entity: u32, text: &mut Vec<u8>) -> Result<(), AllocE
 }
 
 /// Appends the line of a file where it is known, and else the number of the record.
-fn push_line(line: Option<u32>, record: u64, text: &mut Vec<u8>) -> Result<(), AllocError>
-    ensures { OnOk result (text.new.items ≡ text.old.items ++ line_text line record) }
+fn push_line(line: Option<u32>, number: u64, text: &mut Vec<u8>) -> Result<(), AllocError>
+    ensures { OnOk result (text.new.items ≡ text.old.items ++ line_text line number) }
 {
     match line {
         Some(line) => {
@@ -87,7 +83,7 @@ fn push_line(line: Option<u32>, record: u64, text: &mut Vec<u8>) -> Result<(), A
         }
         None => {
             text.extend_from_slice(b"record ")?;
-            push_number(record, text)
+            push_number(number, text)
         }
     }
 }
@@ -100,7 +96,7 @@ pub fn push_cell(
     text: &mut Vec<u8>,
 ) -> Result<(), AllocError>
     ensures { OnOk result (text.new.items ≡ text.old.items
-        ++ cell_text files.dir.now files.schema.now place line) }
+        ++ cell_text files.entry.dir.now files.entry.schema.now place line) }
 {
     push_file(files, place.entity, text)?;
     text.extend_from_slice(b", ")?;

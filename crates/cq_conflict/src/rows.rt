@@ -7,7 +7,7 @@ use cq_base::Name;
 use cq_io::Folder;
 use cq_origin::{FoundRecord, find_records, first_generator};
 use cq_theory::value_text::push_con;
-use cq_theory::{Con, Typeside};
+use cq_theory::{Con, Schema, Typeside};
 use cq_values::name_of;
 use std::alloc::{AllocError, Global};
 
@@ -61,8 +61,9 @@ pub fn find_rows<F: Folder>(
 ) -> Result<Rows, AllocError>
     ensures files { (F.state folder.new).files ≡ (F.state folder.old).files }
 {
+    let schema: &Schema = files.schema;
     let mut rows = Rows::new(alloc);
-    for entity in 0..files.schema.entities.len() as u32 {
+    for entity in 0..schema.entities.len() as u32 {
         add_entity_rows(alloc, files, entity, cited, folder, &mut rows)?;
     }
     Ok(rows)
@@ -79,20 +80,21 @@ fn add_entity_rows<F: Folder>(
 ) -> Result<(), AllocError>
     ensures files { (F.state folder.new).files ≡ (F.state folder.old).files }
 {
+    let schema: &Schema = files.schema;
     let first = first_generator(files.presentation.generators.as_slice(), entity);
     let behind = first_behind(files, entity);
     let numbers = numbers_between(alloc, cited, first, behind)?;
     if numbers.is_empty() {
         return Ok(());
     }
-    let Some(name) = files.schema.entities.as_slice().get(entity as usize) else {
+    let Some(name) = schema.entities.as_slice().get(entity as usize) else {
         return Ok(());
     };
     let Some(text) = read(alloc, files.dir, name, folder)? else {
         return Ok(());
     };
     let found = find_records(alloc, text.as_slice(), numbers.as_slice())?;
-    add_found(alloc, &files.schema.typeside, name, first, found.as_slice(), rows)
+    add_found(alloc, schema, name, first, found.as_slice(), rows)
 }
 
 /// How many generators stand before those that are behind the generators of an entity.
@@ -139,7 +141,7 @@ fn read<F: Folder>(
     folder: &mut F,
 ) -> Result<Option<Vec<u8>>, AllocError>
     ensures files { (F.state folder.new).files ≡ (F.state folder.old).files }
-    ensures short { IfOk result (λ found. IfSome found (λ text. length text.items < 2 ^ 32)) }
+    ensures short { IfOk result (λ found. IfSome found (λ text. length text.items < 2 ^ 31)) }
 {
     let name = file_name(alloc, dir, entity)?;
     match folder.read(name.as_str(), LONGEST_FILE) {
@@ -162,12 +164,13 @@ fn file_name(alloc: Global, dir: &Name, entity: &Name) -> Result<String, AllocEr
 /// Adds the lines of records, and the names by which they are told.
 fn add_found(
     alloc: Global,
-    typeside: &Typeside,
+    schema: &Schema,
     entity: &Name,
     first: usize,
     found: &[FoundRecord],
     rows: &mut Rows,
 ) -> Result<(), AllocError> {
+    let typeside: &Typeside = &schema.typeside;
     for record in found {
         let generator = generator_of(record.number, first);
         rows.lines.push(Line {

@@ -4,12 +4,13 @@ use cq_syntax::{InstanceLit, SchemaLit};
 use cq_theory::{Presentation, Schema};
 
 /// Where the equations of one presentation are written: in a literal of the text, in the cells of the files of a folder,
-/// or nowhere that is known, as those of tables.
+/// in the rows of tables that an operation made, or nowhere that is known.
 #[derive(Clone, Copy)]
 pub enum Source<'a> {
     Literal(&'a InstanceLit),
     Folder(&'a Name),
     Tables,
+    Unknown,
 }
 
 /// A presentation whose equations are among those of another one, with where they are written. The name is that of its
@@ -49,7 +50,7 @@ pub struct Rules<'a> {
 /// What is explained: steps of a derivation over a presentation, whose equations are those of the parts, or their images,
 /// one part behind the other, and then the rest.
 #[derive(Clone, Copy)]
-pub struct Conflict<'a> {
+pub struct Explained<'a> {
     pub schema: &'a Schema,
     pub presentation: &'a Presentation,
     pub rules: Rules<'a>,

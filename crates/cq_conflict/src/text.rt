@@ -1,7 +1,8 @@
 //! The lines of a derivation that is told.
-ghost use Rattle.std.specs.Prelude.{◌≡◌, ◌++◌, ◌∷◌, [], codes, OnOk, slice_get};
-ghost use Rattle.cq_conflict.specs.Text.{from_text, note_at, step_text, told_line, told_lines};
+ghost use Rattle.std.specs.Prelude.{◌≡◌, ◌++◌, OnOk, slice_get};
+ghost use Rattle.cq_conflict.specs.Text.{line_of, note_at, step_text, told_lines};
 
+use crate::chains::step_at;
 use crate::told::Told;
 use cq_base::Seq;
 use cq_explain::{push_equation, push_ordinal};
@@ -9,18 +10,23 @@ use cq_steps::Step;
 use cq_theory::{Presentation, Schema};
 use std::alloc::AllocError;
 
-/// Appends the equation of a step.
-fn push_step(
-    schema: &Schema,
-    presentation: &Presentation,
-    step: Option<&Step>,
-    text: &mut Vec<u8>,
-) -> Result<(), AllocError>
+/// What lines are made of besides the told steps: the schema and the presentation by whose names terms are shown, the
+/// steps of the derivation, and what is noted of each line.
+#[derive(Clone, Copy)]
+pub struct Shown<'a> {
+    pub schema: &'a Schema,
+    pub presentation: &'a Presentation,
+    pub steps: &'a [Step],
+    pub notes: &'a [Seq<u8>],
+}
+
+/// Appends the equation of the step of a number.
+fn push_step(shown: &Shown, number: u64, text: &mut Vec<u8>) -> Result<(), AllocError>
     ensures { OnOk result (text.new.items ≡ text.old.items
-        ++ step_text schema.now presentation.now (option_copied step)) }
+        ++ step_text shown.now.schema.now shown.now.presentation.now (slice_get shown.now.steps.now number)) }
 {
-    match step {
-        Some(step) => push_equation(schema, presentation, &step.equation, text),
+    match step_at(shown.steps, number) {
+        Some(step) => push_equation(shown.schema, shown.presentation, &step.equation, text),
         None => Ok(()),
     }
 }
@@ -37,42 +43,29 @@ fn push_note(notes: &[Seq<u8>], line: usize, text: &mut Vec<u8>) -> Result<(), A
 
 /// Appends the line of a told step, which has this number, from 0: its number from 1, its equation, and what is noted
 /// of it.
-fn push_line(
-    schema: &Schema,
-    presentation: &Presentation,
-    line: usize,
-    step: Option<&Step>,
-    notes: &[Seq<u8>],
-    text: &mut Vec<u8>,
-) -> Result<(), AllocError>
+fn push_line(shown: &Shown, line: usize, one: &Told, text: &mut Vec<u8>) -> Result<(), AllocError>
     ensures { OnOk result (text.new.items ≡ text.old.items
-        ++ told_line schema.now presentation.now (option_copied step) (note_at notes.now line) line) }
+        ++ line_of shown.now.schema.now shown.now.presentation.now shown.now.steps.now shown.now.notes.now
+        (line, one.now)) }
 {
     text.extend_from_slice(b"  ")?;
     push_ordinal(line as u64, text)?;
     text.extend_from_slice(b". ")?;
-    push_step(schema, presentation, step, text)?;
+    push_step(shown, one.step, text)?;
     text.extend_from_slice(b"    ")?;
-    push_note(notes, line, text)?;
+    push_note(shown.notes, line, text)?;
     text.extend_from_slice(b"\n")?;
     Ok(())
 }
 
 /// Appends a line for each told step, with what is noted of it.
-pub fn push_told(
-    schema: &Schema,
-    presentation: &Presentation,
-    steps: &[Step],
-    told: &[Told],
-    notes: &[Seq<u8>],
-    text: &mut Vec<u8>,
-) -> Result<(), AllocError>
+pub fn push_told(shown: &Shown, told: &[Told], text: &mut Vec<u8>) -> Result<(), AllocError>
     ensures { OnOk result (text.new.items ≡ text.old.items
-        ++ told_lines schema.now presentation.now steps.now notes.now told.now) }
+        ++ told_lines shown.now.schema.now shown.now.presentation.now shown.now.steps.now shown.now.notes.now
+        told.now) }
 {
     for (line, one) in told.iter().enumerate() {
-        let step = steps.get(one.step as usize);
-        push_line(schema, presentation, line, step, notes, text)?;
+        push_line(shown, line, one, text)?;
     }
     Ok(())
 }

@@ -71,6 +71,7 @@ pub fn push_written(
         Source::Literal(literal) => push_literal(literal, number, text),
         Source::Folder(dir) => push_in_files(files_of(part, dir), lines, equation, text),
         Source::Tables => push_in_tables(part, equation, text),
+        Source::Unknown => Ok(()),
     }
 }
 

@@ -1,4 +1,4 @@
-mod Texts
+pub mod Texts
 mod Sided
 mod Meant
 mod Asked

@@ -1,12 +1,11 @@
 -- Lines that are counted byte by byte, and the places of records.
-use Rattle.std.proofs.Common.{◌≡◌, ◌∷◌, ◌∙◌, [], ℕ, List, Bool, true, false, refl, sym, ap, subst, get_or, drop, length, ◌+◌, ◌<◌, ◌≤◌, ◌^◌, arith}
+use Rattle.std.proofs.Common.{◌≡◌, ◌∙◌, [], ℕ, List, sym, ap, subst, get_or, drop, length, ◌+◌, ◌<◌, ◌≤◌, arith}
 use Rattle.std.proofs.lemmas.List.{drop_all}
 use Rattle.csv.specs.Machine.{next_record}
 use Rattle.csv.specs.Reading.{default_config}
 use Rattle.cq_lines.specs.declared.stand.Stand.{Stand}
-use Rattle.cq_lines.specs.declared.stand.Stand.TheVariants as stand
 use Rattle.cq_lines.specs.declared.walk.Walk.{Walk}
-use Rattle.cq_lines.specs.Lines.{behind, behind_read, ends_line, from_record, line_ends, line_of, one_if, skip_ends}
+use Rattle.cq_lines.specs.Lines.{behind, behind_read, ends_line, from_record, line_ends, one_if, skip_ends}
 use Rattle.cq_lines.specs.Stands.{state_of}
 use Rattle.cq_lines.specs.Walks.{Counts, IsPlace, IsWalk}
 use Rattle.cq_lines.proofs.Walking.{Goes, goes_finished, lines_cut, one_at_most, one_behind}

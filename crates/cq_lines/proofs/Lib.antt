@@ -1,3 +1,4 @@
 pub mod Walking
 pub mod Marks
 pub mod Counting
+pub mod Opening

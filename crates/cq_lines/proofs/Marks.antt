@@ -1,9 +1,6 @@
 -- The mark of byte order at the head of a text.
-use Rattle.std.specs.Prelude.{◌==◌, ◌&&◌, ◌||◌, not, if◌then◌else◌}
-use Rattle.std.proofs.Common.{◌≡◌, ◌∷◌, ◌∙◌, [], ℕ, List, Bool, true, false, refl, sym, ap, subst, get_or, drop, length, ◌+◌, ◌<◌, ◌≤◌, arith}
-use Rattle.std.proofs.lemmas.Bool.{and_parts}
+use Rattle.std.proofs.Common.{◌≡◌, ◌∷◌, [], ℕ, List, true, false, refl, get_or, drop, length, ◌<◌, ◌≤◌, arith}
 use Rattle.csv.specs.Reading.{is_bom, strip_bom}
-use Rattle.cq_lines.specs.Lines.{begins_with_feed, ends_line, line_ends, one_if}
 
 pub short_text : (text : List ℕ) → length text < 3 → text ≡ strip_bom text
 unfolding strip_bom

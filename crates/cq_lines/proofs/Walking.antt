@@ -1,11 +1,11 @@
 -- A walk byte by byte.
-use Rattle.std.specs.Prelude.{Option, None, ◌==◌, ◌||◌, if◌then◌else◌}
-use Rattle.std.proofs.Common.{◌≡◌, ◌∷◌, ◌++◌, ◌∙◌, [], ℕ, suc, zero, List, Bool, true, false, Some, refl, sym, ap, subst, get_or, drop, length, ◌+◌, ◌<◌, ◌≤◌, arith, add-one, drop-cons}
-use Rattle.csv.specs.Machine.{Read, fields_after, field_after, is_end, next_record, step}
-use Rattle.csv.specs.Reading.{default_config, is_bom, strip_bom}
+use Rattle.std.specs.Prelude.{◌==◌, ◌||◌, if◌then◌else◌}
+use Rattle.std.proofs.Common.{◌≡◌, ◌∷◌, ◌∙◌, [], ℕ, List, Bool, true, false, refl, sym, ap, get_or, drop, length, ◌+◌, ◌<◌, ◌≤◌, arith, add-one, drop-cons}
+use Rattle.csv.specs.Machine.{fields_after, field_after, is_end, next_record, step}
+use Rattle.csv.specs.Reading.{default_config}
 use Rattle.csv.specs.declared.parser.State.{State}
 use Rattle.csv.specs.declared.parser.State.TheVariants as st
-use Rattle.cq_lines.specs.Lines.{behind, behind_one, behind_read, ends_line, line_ends, line_of, from_record, one_if, skip_ends}
+use Rattle.cq_lines.specs.Lines.{behind, behind_one, behind_read, ends_line, line_ends, one_if, skip_ends}
 
 -- the record that is read from here on is the one that was begun there
 pub record Goes (s0 : State) (from : List ℕ) (s : State) (left : List ℕ) : Type 0 where
@@ -39,7 +39,7 @@ finished st.InComment fields field = refl
 finished st.AfterCr fields field = refl
 
 -- the bytes from a place on
-cut : (text : List ℕ) (at : ℕ) → at < length text → drop at text ≡ get_or text at 0 ∷ drop (at + 1) text
+pub cut : (text : List ℕ) (at : ℕ) → at < length text → drop at text ≡ get_or text at 0 ∷ drop (at + 1) text
 cut text at within = rw add-one (drop-cons text at 0 within)
 
 module _ (text : List ℕ) (at : ℕ) (within : at < length text) (s0 s t : State) (from : List ℕ) (goes : Goes s0 from s (drop at text)) (to : t ≡ (step default_config s (get_or text at 0)).0) where

@@ -1,3 +1,4 @@
 pub mod Lines
 pub mod Stands
 pub mod Walks
+pub mod Quotes

@@ -1,7 +1,9 @@
 //! Where the records of a text of CSV stand: at which byte, and in which line as an editor counts lines.
 #![tactic(auto)]
 
+mod quotes;
 mod stand;
 mod walk;
 
-pub use walk::{Place, Walk, find_place, go_on, start};
+pub use quotes::is_left_open;
+pub use walk::{Place, Walk, find_place, start, walk_to};

@@ -124,8 +124,8 @@ fn behind_record(text: &[u8], walk: Walk) -> Walk
     }
 }
 
-/// The walk behind so many records.
-pub fn go_on(text: &[u8], walk: Walk, number: u32) -> Walk
+/// The walk behind so many records, of which it isn't behind more yet.
+fn go_on(text: &[u8], walk: Walk, number: u32) -> Walk
     requires walk { IsWalk text.now walk }
     requires before { walk.number ≤ number }
     ensures walk { IsWalk text.now result }
@@ -136,6 +136,19 @@ pub fn go_on(text: &[u8], walk: Walk, number: u32) -> Walk
         walk = behind_record(text, walk);
     }
     walk
+}
+
+/// The walk behind so many records, from this one on if it stands behind fewer, and else from the start of the text.
+pub fn walk_to(text: &[u8], walk: Walk, number: u32) -> Walk
+    requires { IsWalk text.now walk }
+    ensures walk { IsWalk text.now result }
+    ensures number { result.number ≡ number }
+{
+    if number < walk.number {
+        go_on(text, start(text), number)
+    } else {
+        go_on(text, walk, number)
+    }
 }
 
 /// Where the record behind a walk begins.

@@ -2,3 +2,5 @@ mod Splits
 mod Starting
 mod Saying
 mod Telling
+mod Placing
+mod Ids

@@ -15,9 +15,9 @@ use Rattle.cq_import.specs.declared.columns.Column.{Column}
 use Rattle.cq_import.specs.declared.columns.Column.TheVariants.{Attribute, Key}
 use Rattle.cq_import.specs.declared.content.Content.{Content}
 use Rattle.cq_import.specs.declared.content.Content.TheVariants.{Blank, Wrong, Means}
-use Rattle.cq_import.specs.Cells.{Cell, Sheet, all_cells, cell_equations, cell_in, cell_uses, column_equations, content_equations, content_of, entity_cells, equations_from, file_in, key_equations, key_field_equations, row_cells, row_with_id, rows_at, rows_cells, start_of, value_term}
+use Rattle.cq_import.specs.Cells.{Cell, Sheet, all_cells, cell_equations, cell_in, cell_uses, column_equations, content_equations, content_of, entity_cells, equations_from, file_in, key_equations, key_field_equations, row_cells, row_with_id, rows_at, rows_cells, start_of}
 use Rattle.cq_import.specs.Columns.{attribute_columns, attribute_of, columns, key_of}
-use Rattle.cq_import.specs.Labels.{Labels, with_uses}
+use Rattle.cq_import.specs.Labels.{Labels, value_term, with_uses}
 use Rattle.cq_import.specs.Records.{Record}
 use Rattle.cq_origin.specs.declared.cells.Said.{Said}
 use Rattle.cq_origin.specs.Cells.{attribute_said, key_said, said_of}
@@ -37,10 +37,10 @@ pub from_cells : (sheets : List Sheet) (T : Typeside) (first : ℕ) (labels : La
 from_cells sheets T first labels [] n e h = cc
 from_cells sheets T first labels (cell ∷ cells) n e h =
     let next = with_uses labels (cell_uses T cell) in
-    elim in_either (cell_equations sheets T first next cell) (equations_from sheets T first next cells) n e h [
-      inl i ↦ record { cell = cell; number = 0; at = refl; labels = next; place = i.place; says = i.at }
-    | inr i ↦ let rest = from_cells sheets T first next cells i.place e i.at in
-        record { cell = rest.cell; number = suc rest.number; at = rest.at; labels = rest.labels; place = rest.place; says = rest.says }
+    elim (in_either (cell_equations sheets T first next cell) (equations_from sheets T first next cells) n e h) [
+      | inl i ↦ record { cell = cell; number = 0; at = refl; labels = next; place = i.place; says = i.at }
+      | inr i ↦ let rest = from_cells sheets T first next cells i.place e i.at in
+          record { cell = rest.cell; number = suc rest.number; at = rest.at; labels = rest.labels; place = rest.place; says = rest.says }
     ]
 
 -- a column of an entity

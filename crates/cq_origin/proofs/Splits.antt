@@ -3,6 +3,7 @@ use Rattle.std.proofs.Common.{ℕ, zero, suc, Bool, true, false, List, [], ◌�
 use Rattle.std.specs.Prelude.{slice_get}
 use Rattle.std.specs.List.{flat_map, range_with_len}
 use Rattle.std.specs.List.Sorted.{IsPartitionedBy, IsPartitionPoint}
+use Rattle.std.proofs.lemmas.Bool.{cases_lt, false≢true}
 use Rattle.std.proofs.lemmas.List.{length-append}
 use Rattle.cq_theory.proofs.Every.{Every}
 
@@ -14,7 +15,7 @@ pub record IsIn {X : Type 0} (xs : List X) (x : X) : Type 0 where
 pub in_either : {X : Type 0} (xs ys : List X) (n : ℕ) (x : X) → slice_get (xs ++ ys) n ≡ Some x → IsIn xs x ⊎ IsIn ys x
 in_either [] ys n x h = inr (record { place = n; at = h })
 in_either (y ∷ xs) ys zero x h = inl (record { place = 0; at = h })
-in_either (y ∷ xs) ys (suc n) x h = elim in_either xs ys n x h [ inl i ↦ inl (record { place = suc i.place; at = i.at }) | inr i ↦ inr i ]
+in_either (y ∷ xs) ys (suc n) x h = elim (in_either xs ys n x h) [ inl i ↦ inl (record { place = suc i.place; at = i.at }) | inr i ↦ inr i ]
 
 -- ranges of numbers one behind the other
 pub range_split : {X : Type 0} (f : ℕ → List X) (s a b : ℕ) → flat_map f (range_with_len s (a + b)) ≡ flat_map f (range_with_len s a) ++ flat_map f (range_with_len (s + a) b)
@@ -58,18 +59,18 @@ module _ {X : Type 0} (p : X → Bool) where
   module _ (xs ys : List X) (passes : Every Passes xs) (fails : Every Fails ys) where
     pub is_partitioned : IsPartitionedBy p (xs ++ ys)
     is_partitioned i j d low within passed =
-        elim cases_lt i (length xs) [
-          inl lt ↦ before_passes xs ys i d passes lt
-        | inr ge ↦ absurd (false≢true (sym (after_fails xs ys j d fails (omega (arith, ge, low)) within) ∙ passed))
+        elim (cases_lt i (length xs)) [
+          | inl lt ↦ before_passes xs ys i d passes lt
+          | inr ge ↦ absurd (false≢true (sym (after_fails xs ys j d fails (omega (arith, ge, low)) within) ∙ passed))
         ]
 
     -- the point between the two lists is the only one
     pub point_is : (i : ℕ) → i ≤ length (xs ++ ys) → X → IsPartitionPoint Passes Fails (xs ++ ys) i → i ≡ length xs
     point_is i bound d point =
-        elim cases_lt i (length xs) [
-          inl lt ↦ absurd (false≢true (sym (point.1 i d (omega arith) (omega (arith, length-append xs ys, lt))) ∙ before_passes xs ys i d passes lt))
-        | inr ge ↦ elim cases_lt (length xs) i [
-            inl lt ↦ absurd (false≢true (sym (after_fails xs ys (length xs) d fails (omega arith) (omega (arith, bound, lt))) ∙ point.0 (length xs) d (omega arith) lt))
-          | inr same ↦ omega (arith, ge, same)
+        elim (cases_lt i (length xs)) [
+          | inl lt ↦ absurd (false≢true (sym (point.1 i d (omega arith) (omega (arith, length-append xs ys, lt))) ∙ before_passes xs ys i d passes lt))
+          | inr ge ↦ elim (cases_lt (length xs) i) [
+            | inl lt ↦ absurd (false≢true (sym (after_fails xs ys (length xs) d fails (omega arith) (omega (arith, bound, lt))) ∙ point.0 (length xs) d (omega arith) lt))
+            | inr same ↦ omega (arith, ge, same)
           ]
         ]

@@ -78,7 +78,7 @@ module _ (S : Schema) (sheets : List Sheet) (plain : List Sort) (are_plain : Are
   other_sorts = flat_map (entity_sorts sheets) (range_with_len entity (length S.entities - entity)) ++ plain
 
   split : row_sorts S sheets ++ plain ≡ first_sorts ++ other_sorts
-  unfolding first_sorts, other_sorts
+  unfolding first_sorts other_sorts
   split =
       let whole : length S.entities ≡ entity + (length S.entities - entity) = omega (arith, within) in
       let from : 0 + entity ≡ entity = omega arith in

@@ -20,13 +20,13 @@ use Rattle.cq_origin.proofs.Starting.{partitioned, start_is}
 
 -- Which equation: its cell, and what it names.
 module _ (S : Schema) (sheets : List Sheet) (P : Presentation) (e : Equation) (presents : PresentsCells S sheets P e) where
-  from : IsFrom sheets S.typeside presents.first (all_cells S sheets) e
+  pub from : IsFrom sheets S.typeside presents.first (all_cells S sheets) e
   from = from_cells sheets S.typeside presents.first presents.labels (all_cells S sheets) presents.place e presents.said
 
-  of : IsOfEntity S sheets from.cell
+  pub of : IsOfEntity S sheets from.cell
   of = Every-at (IsOfEntity S sheets) (all_cells S sheets) from.number from.cell (cells_of S sheets) from.at
 
-  abbrev names : Said
+  abbrev pub names : Said
   names = record { generator = from.cell.generator; entity = of.entity; column = from.cell.column }
 
   pub says : said_of S e ≡ Some names
@@ -56,7 +56,7 @@ module _ (S : Schema) (sheets : List Sheet) (P : Presentation) (e : Equation) (p
   }
 
   -- how many generators stand before the first of an entity, where the clause of the search for it says so
-  abbrev Found : Said → ℕ → Type 0
+  abbrev pub Found : Said → ℕ → Type 0
   Found said first =
       IsPartitionedBy (is_before said.entity) P.generators
       → IsPartitionPoint (λ g. is_before said.entity g ≡ true) (λ g. is_before said.entity g ≡ false) P.generators first

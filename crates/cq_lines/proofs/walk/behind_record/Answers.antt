@@ -1,6 +1,6 @@
 use Rattle.std.proofs.Common.{sym, ◌∙◌}
-use Rattle.cq_lines.proofs.Walking.{begun, goes_behind, goes_finished, goes_on}
-use Rattle.cq_lines.proofs.Counting.{at_end, counts_end, counts_more, finished_there, walk_more}
+use Rattle.cq_lines.proofs.Walking.{begun, goes_behind, goes_on}
+use Rattle.cq_lines.proofs.Counting.{counts_end, counts_more, finished_there, walk_more}
 use Rattle.cq_lines.specs.declared.stand.Stand.TheVariants as stand
 use Rattle.cq_lines.proofs.walk.behind_record.Goals as goal
 
