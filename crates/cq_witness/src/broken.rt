@@ -1,5 +1,5 @@
 //! Images of a transform that don't keep an equation.
-ghost use Rattle.std.specs.Prelude.{◌≡◌, ◌-◌, ◌++◌, OnOk, option_copied, slice_get};
+ghost use Rattle.std.specs.Prelude.{◌≡◌, ◌++◌, OnOk, option_copied, slice_get};
 ghost use Rattle.cq_witness.specs.Broken.{kept_text, named_text, TellsBroken};
 
 use crate::images::{images_of, put_equation};
@@ -65,31 +65,7 @@ fn equation_at(instance: &Instance, place: u64) -> Option<&Equation>
     instance.presentation().equations.as_slice().get(place as usize)
 }
 
-/// Appends the equation at a place, its image, and what the sides of the image lead to.
-fn append_at(
-    alloc: Global,
-    out: &mut Vec<u8>,
-    ends: &Ends,
-    parts: &[(Name, Raw)],
-    place: u64,
-) -> Result<(), AllocError>
-    ensures { OnOk result (TellsBroken ends.now.source.now ends.now.target.now ends.now.start.now ends.now.finish.now
-        parts.now place out.old.items out.new.items) }
-{
-    let Some(equation) = equation_at(ends.start, place) else {
-        return Ok(());
-    };
-    let Some(images) = images_of(alloc, ends.start, ends.finish, parts)? else {
-        return Ok(());
-    };
-    let image = put_equation(alloc, &images, equation)?;
-    append_kept(out, ends, place, equation, &image)?;
-    append_sides(alloc, out, ends.finish, &image)?;
-    append_phrase(out, Phrase::OtherImages)?;
-    Ok(())
-}
-
-/// Appends the equation with a number, from 1, of the instance from which images go; its image in the one to which they
+/// Appends the equation with a number, from 0, of the instance from which images go; its image in the one to which they
 /// go; and the two rows, by their least names, or the two values to which the sides of the image lead there. The images
 /// are those that the parts give. Nothing is appended where there is no such equation.
 pub fn append_broken(
@@ -100,8 +76,17 @@ pub fn append_broken(
     number: u64,
 ) -> Result<(), AllocError>
     ensures { OnOk result (TellsBroken ends.now.source.now ends.now.target.now ends.now.start.now ends.now.finish.now
-        parts.now (number - 1) out.old.items out.new.items) }
+        parts.now number out.old.items out.new.items) }
 {
-    let place = number.saturating_sub(1);
-    append_at(alloc, out, ends, parts, place)
+    let Some(equation) = equation_at(ends.start, number) else {
+        return Ok(());
+    };
+    let Some(images) = images_of(alloc, ends.start, ends.finish, parts)? else {
+        return Ok(());
+    };
+    let image = put_equation(alloc, &images, equation)?;
+    append_kept(out, ends, number, equation, &image)?;
+    append_sides(alloc, out, ends.finish, &image)?;
+    append_phrase(out, Phrase::OtherImages)?;
+    Ok(())
 }

@@ -9,8 +9,9 @@ ghost use Rattle.cq_witness.specs.Depth.{TellsDepth};
 
 use crate::paths::{over, path_equation, path_term};
 use crate::phrases::{Phrase, append_phrase};
+use crate::terms::append_entity_term;
 use cq_base::Seq;
-use cq_explain::{push_entity_term, push_equation};
+use cq_explain::push_equation;
 use cq_growth::{first_new, repeated_keys};
 use cq_rows::{Outline, Partial, RowsRefusal, saturate_over};
 use cq_text::push_number;
@@ -70,7 +71,7 @@ fn append_new(
     append_phrase(out, Phrase::StillNew)?;
     push_number(term.path.len() as u64, out)?;
     append_phrase(out, Phrase::Keys)?;
-    push_entity_term(schema, presentation, term, out)?;
+    append_entity_term(out, schema, presentation, term)?;
     append_phrase(out, Phrase::LineEnd)?;
     Ok(())
 }
@@ -87,7 +88,7 @@ fn append_repeat(
     let over = over(alloc, schema, path_source(schema.keys.as_slice(), block))?;
     let term = path_term(alloc, block)?;
     append_phrase(out, Phrase::GoesOn)?;
-    push_entity_term(schema, &over, &term, out)?;
+    append_entity_term(out, schema, &over, &term)?;
     append_phrase(out, Phrase::Again)?;
     Ok(())
 }
@@ -131,7 +132,7 @@ fn append_end(
 {
     let first = first_step(alloc, term)?;
     append_phrase(out, Phrase::SayWhich)?;
-    push_entity_term(schema, presentation, &first, out)?;
+    append_entity_term(out, schema, presentation, &first)?;
     append_phrase(out, Phrase::OrEnd)?;
     Ok(())
 }
@@ -148,7 +149,7 @@ fn append_other(
 {
     let first = first_step(alloc, term)?;
     append_phrase(out, Phrase::SayWhich)?;
-    push_entity_term(schema, presentation, &first, out)?;
+    append_entity_term(out, schema, presentation, &first)?;
     append_phrase(out, Phrase::OrDeeper)?;
     Ok(())
 }

@@ -10,8 +10,8 @@ ghost use Rattle.cq_theory.specs.declared.term.Term.TheVariants.{Ent, Typ};
 ghost use Rattle.cq_witness.specs.Sides.{names_text, row_name as name_of_row, two_values_text, TellsSides};
 
 use crate::phrases::{Phrase, append_phrase};
+use crate::terms::append_entity_term;
 use cq_base::Name;
-use cq_explain::push_entity_term;
 use cq_instance::Instance;
 use cq_steps::side::Side;
 use cq_steps::sorts::is_ground;
@@ -83,7 +83,7 @@ fn append_name(out: &mut Vec<u8>, instance: &Instance, name: &EntTerm) -> Result
 {
     let schema = instance.schema();
     let presentation = instance.presentation();
-    push_entity_term(schema, presentation, name, out)?;
+    append_entity_term(out, schema, presentation, name)?;
     Ok(())
 }
 
