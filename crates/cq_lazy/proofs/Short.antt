@@ -1,5 +1,5 @@
 -- Where the lengths of a query are small and its widths too, it keeps the limits on queries.
-use Rattle.std.proofs.Common.{ℕ, suc, Bool, false, List, [], ◌∷◌, Some, ◌≡◌, ◌≤◌, ◌+◌, ◌*◌, ◌||◌, map, sum, length, refl, sym, ap, ◌∙◌, arith}
+use Rattle.std.proofs.Common.{ℕ, suc, Bool, true, false, List, [], ◌∷◌, Some, ◌≡◌, ◌≤◌, ◌+◌, ◌*◌, ◌||◌, map, sum, length, refl, sym, ap, ◌∙◌, arith}
 use Rattle.std.specs.Prelude.{slice_get, nat_lt, All}
 use Rattle.std.specs.List.{list_any}
 use Rattle.std.proofs.lemmas.Bool.Decides.{nat_tests}
@@ -11,7 +11,7 @@ use Rattle.cq_theory.specs.EntTerm as ent
 use Rattle.cq_theory.specs.TypeTerm as typ
 use Rattle.cq_theory.specs.TypeTerm.{symbols_step}
 use Rattle.cq_theory.specs.Presentation.{has_long_side}
-use Rattle.cq_theory.proofs.Every.{Every, Every-from_All}
+use Rattle.cq_theory.proofs.Every.{Every, Every-from_All, Every-at}
 use Rattle.cq_theory.proofs.TypeTerms.{fold-Gen, fold-Const, fold-Att, fold-Fun, Each, on_terms}
 use Rattle.cq_blocks.specs.declared.block.Block.{Block}
 use Rattle.cq_query.specs.QueryData.{QueryData as Query}

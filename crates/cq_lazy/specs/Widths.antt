@@ -1,6 +1,7 @@
 -- How many variables blocks have, as numbers that stop above the limit.
 use Rattle.std.specs.Prelude.{ℕ, List, map, sum, length, min, slice_index}
 use Rattle.cq_base.specs.declared.name.Name.{Name}
+use Rattle.cq_blocks.specs.declared.block.Block.{Block}
 use Rattle.cq_query.specs.QueryData.{QueryData as Query}
 
 -- a number, or that there are more than 16,000,000

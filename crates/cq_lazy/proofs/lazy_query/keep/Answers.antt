@@ -1,8 +1,9 @@
-use Rattle.std.proofs.Common.{◌≡◌, sym, ap, subst, ◌∙◌}
+use Rattle.std.proofs.Common.{false, ◌≡◌, sym, ap, subst, ◌∙◌}
 use Rattle.cq_query.specs.QueryData.{QueryData as Query}
 use Rattle.cq_query.specs.IsQuery.{IsQuery}
 use Rattle.cq_compose.specs.Composite.{composite, is_large}
 use Rattle.cq_compose.proofs.Composed.{composite_is_query}
+use Rattle.cq_lazy.specs.declared.plan.Plan.{Plan}
 use Rattle.cq_lazy.specs.Plan.{IsPlan, query_of}
 use Rattle.cq_lazy.specs.Lengths.{AreLengths, plain}
 use Rattle.cq_lazy.specs.Widths.{widths_of}

@@ -1,9 +1,9 @@
-use Rattle.std.proofs.Common.{nat_lt, ◌≡◌, sym, ap, subst, ◌∙◌}
+use Rattle.std.proofs.Common.{true, false, nat_lt, ◌≡◌, sym, ap, subst, ◌∙◌}
 use Rattle.std.specs.List.{list_any}
 use Rattle.cq_query.specs.QueryData.{QueryData as Query}
 use Rattle.cq_query.specs.IsQuery.{IsQuery}
 use Rattle.cq_query.specs.Duties.{Sound}
-use Rattle.cq_compose.specs.Composite.{composite}
+use Rattle.cq_compose.specs.Composite.{composite, is_large}
 use Rattle.cq_compose.proofs.MadeBlocks.{if_ok}
 use Rattle.cq_compose.proofs.SoundComposites.{composite_sound}
 use Rattle.cq_lazy.specs.Plan.{query_of}
