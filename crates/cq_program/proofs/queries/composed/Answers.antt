@@ -1,7 +1,7 @@
 use Rattle.std.proofs.Common.{refl, inl}
 use Rattle.cq_program.proofs.queries.composed.Goals as goal
 
-pub shared_lazy-requires : goal.shared_query-requires
+pub shared_lazy-requires : goal.shared_lazy-requires
 shared_lazy-requires c = c.in-Ok.ensures.sound c.requires.first c.requires.second
 
 pub returns-in-Err-TooLarge-clause-withholds : goal.returns-in-Err-TooLarge-clause-withholds
