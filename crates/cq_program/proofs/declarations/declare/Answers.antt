@@ -1,4 +1,4 @@
-use Rattle.std.proofs.Common.{IfErr, OnOk, sym, subst}
+use Rattle.std.proofs.Common.{IfErr, OnOk, sym, subst, ◌∙◌}
 use Rattle.cq_stating.specs.Meanings.{Environment}
 use Rattle.cq_stating.specs.Environment.{AreSettled, environment_of}
 use Rattle.cq_program.specs.Judging.{AddsDecl, RefusesDecl}

@@ -1,4 +1,4 @@
-use Rattle.std.proofs.Common.{IfOk, IfErr, sym, ap, subst, ◌∙◌}
+use Rattle.std.proofs.Common.{ℕ, IfOk, IfErr, sym, ap, subst, ◌≡◌, ◌∙◌}
 use Rattle.cq_query.specs.QueryData.{QueryData}
 use Rattle.cq_query.specs.Duties.{Sound}
 use Rattle.cq_stating.specs.Checks.{an_eval}
