@@ -8,7 +8,8 @@ of the instance that is moved (for counit half of that). Along a mapping the row
 its row in B, and sigma makes one of each two. Along a query they are a ring: a foreign key leads each row to the next one, and the
 query's answers are the rows with the rows that follow them. The transform that is moved is the identity.
 
-For each form it prints the seconds that the transform adds to a run that makes the same instances (the best of five of each), the
+For each form it prints the seconds that the transform adds to a run that makes the same instances (the best of five of each, and
+of fifteen up to 20,000 rows, where the difference is of a few milliseconds), the
 ratio of that to the seconds at a tenth, its ratio to what the move of the instances adds to a run without it, and the bytes of peak
 memory that the transform adds for each row.
 """
@@ -87,10 +88,10 @@ FORMS = (
 )
 
 
-def measure(program, text):
+def measure(program, text, runs):
     with tempfile.TemporaryDirectory() as folder:
         pathlib.Path(folder, "p.cql").write_text(text)
-        return min(run(program, folder) for _ in range(5))
+        return min(run(program, folder) for _ in range(runs))
 
 
 def main():
@@ -100,10 +101,10 @@ def main():
     for name, source, made, identity, transform in FORMS:
         before = None
         for rows in (2_000, 20_000, 200_000):
-            start = source(rows)
-            without, _ = measure(program, start)
-            still, idle = measure(program, start + made + identity)
-            seconds, peak = measure(program, start + made + identity + transform)
+            start, runs = source(rows), 15 if rows <= 20_000 else 5
+            without, _ = measure(program, start, runs)
+            still, idle = measure(program, start + made + identity, runs)
+            seconds, peak = measure(program, start + made + identity + transform, runs)
             added, move = seconds - still, still - without
             ratio = f"{added / before:.1f}" if before else ""
             before = added

@@ -10,7 +10,8 @@ the run that answers nothing, the ratio of the composite's to that at a tenth an
 sqlite3, its ratio to the view that is spelled out, over the same rows in memory with indexes.
 
 Then it prints the seconds of programs that only compose: ten queries of two variables each in a chain, whose composite has 1,024
-variables, and forty, whose composite is refused.
+variables, and forty, whose composite is refused; each from the first query on and from the last on, and also with a where equation,
+an attribute and a foreign key in each query.
 """
 import pathlib
 import subprocess
@@ -69,16 +70,22 @@ def measure(program, text):
         return min(run(program, folder) for _ in range(3))[0]
 
 
-def composed(count):
-    """So many queries of two variables each, one composed with the next."""
-    text = T + "schema S0 = literal : T { entities E0 }\n"
+def composed(count, rich=False, turned=False):
+    """So many queries of two variables each, one composed with the next, from the first on or, turned, from the last on.
+
+    Rich ones have a where equation too, an attribute and a foreign key.
+    """
+    schema = "foreign_keys k{0} : E{0} -> E{0} attributes x{0} : E{0} -> s " if rich else ""
+    asked = "where k{0}(a) = k{0}(b) attributes x{1} -> x{0}(a) foreign_keys k{1} -> {{ a -> k{0}(b) b -> k{0}(a) }} " if rich else ""
+    text = T + "schema S0 = literal : T { entities E0 " + schema.format(0) + "}\n"
     for n in range(1, count + 1):
-        text += f"schema S{n} = literal : T {{ entities E{n} }}\n"
-        text += f"query Q{n} = literal : S{n - 1} -> S{n} {{ entity E{n} -> {{ from a b : E{n - 1} }} }}\n"
+        text += f"schema S{n} = literal : T {{ entities E{n} {schema.format(n)}}}\n"
+        text += f"query Q{n} = literal : S{n - 1} -> S{n} {{ entity E{n} -> {{ from a b : E{n - 1} {asked.format(n - 1, n)}}} }}\n"
+    if turned:
+        text += f"query C{count - 1} = compose Q{count - 1} Q{count}\n"
+        return text + "".join(f"query C{n} = compose Q{n} C{n + 1}\n" for n in range(count - 2, 0, -1))
     text += "query C2 = compose Q1 Q2\n"
-    for n in range(3, count + 1):
-        text += f"query C{n} = compose C{n - 1} Q{n}\n"
-    return text
+    return text + "".join(f"query C{n} = compose C{n - 1} Q{n}\n" for n in range(3, count + 1))
 
 
 def seconds_of(program, text):
@@ -111,8 +118,10 @@ def main():
         print(f"| {rows:,} | {once:.3f} | {ratio} | {once / turns:.1f} | {other} |", flush=True)
     print()
     for count in (10, 40):
-        took, line = seconds_of(program, composed(count))
-        print(f"{count} queries of two variables: {took:.3f} seconds {line}", flush=True)
+        for rich, turned in ((False, False), (False, True), (True, False), (True, True)):
+            took, line = seconds_of(program, composed(count, rich, turned))
+            kind = f"{'rich ' if rich else ''}queries{', from the last on' if turned else ''}"
+            print(f"{count} {kind}: {took:.3f} seconds {line}", flush=True)
 
 
 main()

@@ -11,6 +11,7 @@ Its status is 1 where a run of a full size takes over 30 seconds or 4 GiB, where
 for each entity, are the system's work more than the program's. For the same reason the files stand in memory, in /dev/shm,
 where there is that: with 100,000 of them in one folder of a disk, the run takes up to thrice as long.
 """
+import math
 import os
 import pathlib
 import re
@@ -235,6 +236,22 @@ def clique(n):
     pairs = " ".join(f"p(a{k}.v, a{m}.v) = c" for k in range(5) for m in range(k))
     near = " ".join(f"p(x{k}.v, x{m}.v) = c" for k in range(n) for m in range(max(0, k - 2), k))
     return queried(5, pairs, names("x", n), " ".join(f"x{k}.f = x{k}" for k in range(n)) + " " + near)
+
+
+@file("pairs of variables, of which the last has no answer", 1_000, "instance I")
+def last_pair(n):
+    n = max(n, 2)
+    pairs = " ".join(f"p(a{2 * k}.v, a{2 * k + 1}.v) = p(a{2 * k}.v, a{2 * k + 1}.v)" for k in range(n - 1))
+    return queried(2 * n, f"{pairs} p(a{2 * n - 2}.v, a{2 * n - 1}.v) = c", "x y", "x.f = x y.f = y")
+
+
+@file("two pairs of variables, of which the last has one answer", 1_000_000, "instance I")
+def one_last(n):
+    """As many answers as n, all pairs of rows, and as many pairs to be tried for the last two variables."""
+    rows = math.isqrt(n)
+    fixed = " ".join(f"x{k}.f = x{k}" for k in range(rows))
+    tests = "p(a0.v, a1.v) = p(a0.v, a1.v) p(a2.v, a3.v) = c"
+    return queried(4, tests, names("x", rows), f"{fixed} p(x{rows - 1}.v, x{rows - 1}.v) = c")
 
 
 @file("variables in no where equation", 1_000, "refused")

@@ -20,7 +20,8 @@ pub mod DeltaIdentities
 pub mod Copied
 pub mod CopiesMean
 pub mod AnswerPlaces
-pub mod Inserted
+pub mod Rising
+pub mod Searched
 pub mod AnsweredRows
 pub mod SpelledValues
 pub mod SpelledTerms

@@ -1,7 +1,9 @@
 -- Copies of rows in coeval, and answers in eval.
 use Rattle.std.specs.Prelude.{ℕ, List, [], ◌≡◌, ◌<◌, ◌+◌, ◌*◌, Some, length, slice_get, slice_index_or, position, nat_eq}
 use Rattle.std.specs.Option.{unwrap_or}
-use Rattle.std.specs.Cmp.Lexicographic.{pointwise}
+use Rattle.std.specs.Cmp.Lexicographic.{pointwise, slice_cmp}
+use Rattle.std.specs.List.Sorted.{IsNonDecreasingBy}
+use Rattle.std.specs.Ordering.{nat_cmp, ordering_index}
 use Rattle.cq_theory.specs.declared.term.EntTerm.{EntTerm}
 use Rattle.cq_theory.specs.declared.term.TypeTerm.{TypeTerm}
 use Rattle.cq_theory.specs.declared.value.Value.{Value}
@@ -33,6 +35,18 @@ place_of answers rows = unwrap_or (position (pointwise nat_eq rows) answers) 0
 -- no list stands twice
 abbrev pub StandOnce : List (List ℕ) → Type 0
 StandOnce lists = (p q : ℕ) (rows : List ℕ) → slice_get lists p ≡ Some rows → slice_get lists q ≡ Some rows → p ≡ q
+
+-- 0 where a list comes before the rows in lexicographic order, 1 where it is these rows, and 2 where it comes after them
+abbrev pub order_to : List ℕ → List ℕ → ℕ
+order_to rows list = ordering_index (slice_cmp nat_cmp list rows)
+
+-- the lists stand in lexicographic order: to whatever rows they are compared, none that comes before them stands behind one that doesn't
+abbrev pub DoRise : List (List ℕ) → Type 0
+DoRise lists = (rows : List ℕ) → IsNonDecreasingBy (order_to rows) lists
+
+-- the lists stand in lexicographic order, each once
+abbrev pub AreInOrder : List (List ℕ) → Type 0
+AreInOrder lists = DoRise lists × StandOnce lists
 
 -- the answers of a query for each entity of its target, in order
 pub record AreAllAnswers (Q : Query) (M : Tables) (answers : List (List (List ℕ))) : Type 0 where

@@ -21,7 +21,6 @@ ghost use Rattle.cq_adjoint.specs.Crossing.{IsCrossing};
 
 use crate::layout::copy_at;
 use crate::places::{Places, places_at};
-use crate::rows::Rows;
 use cq_base::{Name, Seq, number_at};
 use cq_instance::{Image, Instance, Transform};
 use cq_query::Query;
@@ -41,7 +40,7 @@ pub(crate) struct Crossing<'a> {
     pub copies: &'a Instance,
     pub target: &'a Instance,
     pub evaluated: &'a Instance,
-    pub places: &'a [Places],
+    pub places: &'a [Places<'a>],
     pub starts: &'a [u32],
     pub first_null: u32,
 }
@@ -123,7 +122,7 @@ fn first_copy(crossing: &Crossing, entity: u32, row: u32) -> u32
 pub(crate) fn answer_term(
     alloc: Global,
     evaluated: &Instance,
-    places: &[Places],
+    places: &[Places<'_>],
     entity: u32,
     rows: Vec<u32>,
 ) -> Result<EntTerm, AllocError>
@@ -136,7 +135,7 @@ pub(crate) fn answer_term(
 {
     evaluated.is_instance();
     let answers = places_at(places, entity);
-    let place = answers.place_of(&Rows::from_vec(rows));
+    let place = answers.place_of(&rows);
     copy_entity_term(alloc, evaluated.name_of(entity, place))
 }
 

@@ -33,8 +33,8 @@ pub(crate) struct Evaluating<'a> {
     pub target: &'a Instance,
     pub evaluated: &'a Instance,
     pub there: &'a Instance,
-    pub from: &'a [Places],
-    pub places: &'a [Places],
+    pub from: &'a [Places<'a>],
+    pub places: &'a [Places<'a>],
 }
 
 /// The transform from `evaluated`, eval of `source`, to `there`, eval of `target`, along `moved` from `source` to

@@ -6,8 +6,8 @@
 //! names it (`named`, `pushed`). Each makes the transform by its images, which are known to be right, so that no
 //! equation is tested again.
 //!
-//! Along a query, answers have places in tables (`rows`, `places`), and the generators of coeval stand in order
-//! (`layout`). `to_eval` sends rows to the answers that their copies name (`crossing`, `into_eval`), and `eval_map`
+//! Along a query, answers stand in order, so that the place of each is found by halves (`places`), and so do the
+//! generators of coeval (`layout`). `to_eval` sends rows to the answers that their copies name (`crossing`, `into_eval`), and `eval_map`
 //! applies a transform to each row of an answer (`eval_maps`). `coeval_map` sends the copies of a row to those of the
 //! row to which the row goes (`coeval_maps`), and `from_eval` sends them to the names of the rows in the row's answer
 //! (`answering`, `out_of_coeval`).
@@ -31,7 +31,6 @@ mod places;
 mod pulled;
 mod pushed;
 pub mod query_laws;
-mod rows;
 mod sending;
 mod spelled;
 mod spelling;

@@ -1,4 +1,6 @@
 //! Pieces of lines.
+ghost use Rattle.std.specs.Prelude.{◌<◌, ◌≤◌, length};
+
 use itoa::Buffer;
 use std::alloc::AllocError;
 
@@ -64,7 +66,9 @@ fn append_byte(byte: u8, out: &mut Vec<u8>) -> Result<(), AllocError> {
 }
 
 /// How many bytes of a text are shown: at most 100, and whole letters.
-fn shown_length(text: &[u8]) -> usize {
+fn shown_length(text: &[u8]) -> usize
+    ensures { result ≤ length text.now }
+{
     if text.len() <= LONGEST {
         return text.len();
     }

@@ -112,7 +112,7 @@ fn append_width(
 ) -> Result<(), AllocError> {
     append(&[b"it has "], out)?;
     append_number(fields.len() as u64, out)?;
-    append(&[b" fields, and the header "], out)?;
+    append(&[b" fields, and the header has "], out)?;
     append_number(sheet.wanted.len() as u64, out)?;
     append(&[b".\n  "], out)?;
     append_record(fields, out)?;
@@ -261,6 +261,10 @@ pub fn append_file_faults(
     faults: &[Fault],
     out: &mut Vec<u8>,
 ) -> Result<(), AllocError> {
+    if !has_fault(faults, file) {
+        return Ok(());
+    }
+    // No file is so long.
     if sheet.text.len() >= 1 << 31 {
         return Err(AllocError);
     }
@@ -270,6 +274,24 @@ pub fn append_file_faults(
         earlier: earlier.as_slice(),
     };
     append_faults(&told, file, faults, out)
+}
+
+/// Whether a fault is one of files, each read by itself.
+pub fn is_of_file(fault: &Fault) -> bool {
+    match fault.kind {
+        Kind::NoSuchId => false,
+        Kind::TooLarge => false,
+        Kind::BadCell => fault.column == 1,
+        _ => true,
+    }
+}
+
+/// The bytes that were read of a file; none, where none were.
+fn text_of(report: &Report, file: usize) -> &[u8] {
+    match report.readings.as_slice().get(file) {
+        Some(reading) => bytes_of(reading),
+        None => &[],
+    }
 }
 
 /// Whether one of the faults is that of this file.
@@ -286,37 +308,38 @@ pub fn append_report(
     out: &mut Vec<u8>,
 ) -> Result<(), AllocError> {
     let columns = columns(alloc, schema)?;
-    let faults = report.faults.as_slice();
-    let readings = report.readings.as_slice();
     let lists = columns.as_slice();
-    let entities = schema.entities.as_slice();
-    for (file, entity) in entities.iter().enumerate() {
-        if file >= readings.len() || file >= lists.len() || file >= 1 << 31 {
+    for (file, entity) in schema.entities.as_slice().iter().enumerate() {
+        let Ok(number) = u32::try_from(file) else {
             return Ok(());
-        }
-        if has_fault(faults, file as u32) {
-            let list = lists[file].as_slice();
-            let wanted = header(alloc, schema, list)?;
-            let sheet = Sheet {
-                alloc,
-                schema,
-                dir,
-                entity,
-                columns: list,
-                wanted: wanted.as_slice(),
-                text: bytes_of(&readings[file]),
-                is_entries: false,
-            };
-            append_file_faults(&sheet, file as u32, faults, out)?;
-        }
+        };
+        let Some(list) = lists.get(file) else {
+            return Ok(());
+        };
+        let list = list.as_slice();
+        let wanted = header(alloc, schema, list)?;
+        let sheet = Sheet {
+            alloc,
+            schema,
+            dir,
+            entity,
+            columns: list,
+            wanted: wanted.as_slice(),
+            text: text_of(report, file),
+            is_entries: false,
+        };
+        append_file_faults(&sheet, number, report.faults.as_slice(), out)?;
     }
-    append_count(faults.len(), out)
+    append_rest(report.faults.as_slice(), out)
 }
 
-/// Appends that there may be more.
-fn append_count(count: usize, out: &mut Vec<u8>) -> Result<(), AllocError> {
-    if count >= 100 {
+/// Appends what isn't told: faults behind the first 100, and those of cells, where files have faults.
+fn append_rest(faults: &[Fault], out: &mut Vec<u8>) -> Result<(), AllocError> {
+    if faults.len() >= 100 {
         append(&[b"There may be more: the first 100 are told.\n"], out)?;
+    }
+    if faults.iter().any(is_of_file) {
+        append(&[b"The cells are tested once this is mended.\n"], out)?;
     }
     Ok(())
 }

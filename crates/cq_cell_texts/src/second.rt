@@ -1,7 +1,5 @@
 //! The first fault of a folder of the second format, with its file of nulls and entries.
-ghost use Rattle.std.specs.Prelude.{◌≡◌};
-
-use crate::folder::{append_file_faults, append_report};
+use crate::folder::{append_file_faults, append_report, is_of_file};
 use crate::sheet::Sheet;
 use cq_base::Name;
 use cq_cells::{Fault, Kind, Reading, Report, Unread, bytes_of, examine, read_file};
@@ -54,16 +52,6 @@ fn refused_of(refusal: CsvRefusal) -> Option<Refused> {
     }
 }
 
-/// Whether a fault is one of files, each read by itself.
-fn is_of_file(fault: &Fault) -> bool {
-    match fault.kind {
-        Kind::NoSuchId => false,
-        Kind::TooLarge => false,
-        Kind::BadCell => fault.column == 1,
-        _ => true,
-    }
-}
-
 fn name_of(alloc: Global, text: &str) -> Result<Name, AllocError> {
     match Name::new(alloc, text) {
         Ok(name) => Ok(name),
@@ -92,12 +80,13 @@ fn is_file_of(file: &str, entity: &Name) -> bool {
 }
 
 /// The number of the entity whose file this is.
-fn entity_of(schema: &Schema, file: &str) -> Option<usize> {
-    schema
+fn entity_of(schema: &Schema, file: &str) -> Option<u32> {
+    let place = schema
         .entities
         .as_slice()
         .iter()
-        .position(|entity| is_file_of(file, entity))
+        .position(|entity| is_file_of(file, entity))?;
+    u32::try_from(place).ok()
 }
 
 fn fault_of(refused: &Refused, file: u32) -> Fault {
@@ -133,9 +122,7 @@ fn append_entries<F: Folder>(
     dir: &Name,
     refused: &Refused,
     out: &mut Vec<u8>,
-) -> Result<(), Unread>
-    ensures { (F.state folder.new).files ≡ (F.state folder.old).files }
-{
+) -> Result<(), Unread> {
     let entity = name_of(alloc, "entries-2")?;
     let reading = read_file(alloc, folder, dir, &entity)?;
     let names = wanted(alloc)?;
@@ -161,9 +148,7 @@ pub fn append_folder2<F: Folder>(
     dir: &Name,
     schema: &Schema,
     out: &mut Vec<u8>,
-) -> Result<(), Unread>
-    ensures { (F.state folder.new).files ≡ (F.state folder.old).files }
-{
+) -> Result<(), Unread> {
     let found = examine(alloc, folder, dir, schema)?;
     if found.faults.as_slice().iter().any(is_of_file) {
         append_report(alloc, schema, dir, &found, out)?;
@@ -176,11 +161,11 @@ pub fn append_folder2<F: Folder>(
         return Ok(());
     };
     match entity_of(schema, refused.file.as_str()) {
-        Some(entity) if entity < 1 << 31 => {
-            let fault = fault_of(&refused, entity as u32);
+        Some(entity) => {
+            let fault = fault_of(&refused, entity);
             append_entity(alloc, schema, dir, found.readings, fault, out)?;
         }
-        _ => append_entries(alloc, folder, schema, dir, &refused, out)?,
+        None => append_entries(alloc, folder, schema, dir, &refused, out)?,
     }
     Ok(())
 }

@@ -1,11 +1,9 @@
 -- One cell that is tested.
-use Rattle.std.proofs.Common.{ℕ, List, [], ◌∷◌, ◌++◌, ◌≡◌, ◌==◌, Option, Some, None, Result, Ok, Err, Bool, true, false, length, refl, sym, ap, subst, ◌∙◌, arith}
+use Rattle.std.proofs.Common.{ℕ, List, [], ◌∷◌, ◌≡◌, ◌==◌, Option, Some, None, Result, Ok, Err, true, false, length, refl, sym, ap, subst, ◌∙◌, arith}
 use Rattle.std.specs.Prelude.{OnOk, is_some}
 use Rattle.std.specs.declared.alloc.AllocError.{AllocError}
 use Rattle.std.proofs.lemmas.Bool.Decides.{nat_tests}
 use Rattle.cq_theory.specs.declared.value.Value.{Value}
-use Rattle.cq_theory.specs.TypesideData.{TypesideData as Typeside}
-use Rattle.cq_import.specs.declared.columns.Column.{Column}
 use Rattle.cq_import.specs.declared.columns.Column.TheVariants.{Attribute, Key}
 use Rattle.cq_import.specs.declared.content.Content.{Content}
 use Rattle.cq_import.specs.declared.content.Content.TheVariants.{Blank, Wrong, Means}
@@ -13,11 +11,11 @@ use Rattle.cq_import.specs.declared.labels.Trouble.{Trouble}
 use Rattle.cq_import.specs.declared.labels.Trouble.TheVariants as trouble
 use Rattle.cq_import.specs.Cells.{Cell, Sheet, cell_fault, cell_uses, column_fault, column_uses, content_fault, content_of, key_fault, missing_id, row_with_id, trouble_fault, uses_of}
 use Rattle.cq_import.specs.Faults.{Fault, BadCell, NoSuchId}
-use Rattle.cq_import.specs.Labels.{Labels, Room, Use, uses_in, uses_trouble, with_uses}
+use Rattle.cq_import.specs.Labels.{uses_in, uses_trouble, with_uses}
 use Rattle.cq_cells.specs.declared.cells.Cell.{Cell as RustCell}
 use Rattle.cq_cells.specs.declared.cells.Over.{Over}
 use Rattle.cq_cells.specs.declared.cells.Pass.{Pass}
-use Rattle.cq_cells.specs.Found.{Found, found_in}
+use Rattle.cq_cells.specs.Found.{found_in}
 use Rattle.cq_cells.specs.Passes.{Passes, cell_shown, sheets_over, typeside_over}
 use Rattle.cq_cells.specs.Shown.{Lists, told, trouble_kind}
 use Rattle.cq_cells.proofs.Listing.{lists_none, lists_same}

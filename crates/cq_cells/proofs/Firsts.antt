@@ -1,15 +1,13 @@
 -- The first of all faults is the one that import tells.
-use Rattle.std.proofs.Common.{ℕ, zero, suc, Bool, true, false, List, [], ◌∷◌, ◌++◌, ◌+◌, ◌-◌, ◌<◌, ◌≤◌, ◌≡◌, ◌⊎◌, inl, inr, Option, Some, None, length, map, take, refl, sym, ap, subst, ◌∙◌, arith}
+use Rattle.std.proofs.Common.{ℕ, zero, suc, Bool, true, false, List, [], ◌∷◌, ◌++◌, ◌+◌, ◌-◌, ◌<◌, ◌≤◌, ◌≡◌, ◌⊎◌, inl, inr, Option, Some, None, length, map, take, refl, sym, ap, ◌∙◌, arith}
 use Rattle.std.specs.Prelude.{nat_lt, unwrap_or, if◌then◌else◌}
 use Rattle.std.specs.List.{flat_map, range_with_len}
-use Rattle.std.proofs.lemmas.Bool.{cases_Bool}
 use Rattle.std.proofs.lemmas.Bool.Decides.{nat_tests}
 use Rattle.cq_base.specs.declared.name.Name.{Name}
 use Rattle.cq_base.specs.Names.{number_of}
 use Rattle.cq_io.specs.Content.{File, find_file}
 use Rattle.cq_theory.specs.TypesideData.{TypesideData as Typeside}
 use Rattle.cq_theory.specs.SchemaData.{SchemaData as Schema}
-use Rattle.cq_theory.specs.Canonical.{below}
 use Rattle.cq_import.specs.declared.columns.Column.{Column}
 use Rattle.cq_import.specs.declared.columns.Column.TheVariants.{Attribute, Key}
 use Rattle.cq_import.specs.declared.content.Content.{Content}
@@ -20,7 +18,7 @@ use Rattle.cq_import.specs.Cells.{Cell, Sheet, all_cells, cell_fault, cell_uses,
 use Rattle.cq_import.specs.Columns.{header}
 use Rattle.cq_import.specs.Faults.{Fault, BadHeader, TooLarge, TooLong as LongFault, first_fault, or_else}
 use Rattle.cq_import.specs.Folders.{name_of}
-use Rattle.cq_import.specs.Imports.{fault_of, file_fault, files_fault, most_bytes, most_generators, reading_fault, sheet_of, sheets_fault, sheets_of, size_fault, text_of, total}
+use Rattle.cq_import.specs.Imports.{fault_of, file_fault, files_fault, most_bytes, most_generators, reading_fault, sheet_of, sheets_fault, sheets_of, total}
 use Rattle.cq_import.specs.Labels.{Labels, Room, uses_trouble, with_uses}
 use Rattle.cq_import.specs.Records.{Record, records_of}
 use Rattle.cq_import.specs.Rows.{id_of, row_fault, rows_fault, rows_of, same_record, sheet_fault}

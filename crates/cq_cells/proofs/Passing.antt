@@ -1,14 +1,12 @@
 -- Cells that are tested one after the other.
-use Rattle.std.proofs.Common.{ℕ, List, [], ◌∷◌, ◌++◌, ◌+◌, ◌≡◌, ◌≢◌, Option, Some, None, Bool, true, false, length, map, take, refl, sym, ap, subst, ◌∙◌, append_assoc, arith}
+use Rattle.std.proofs.Common.{ℕ, List, [], ◌∷◌, ◌++◌, ◌≡◌, Some, None, Bool, true, false, map, take, refl, sym, ap, ◌∙◌, append_assoc}
 use Rattle.std.specs.Prelude.{if◌then◌else◌}
 use Rattle.std.proofs.lemmas.List.{append-nil}
-use Rattle.cq_theory.specs.TypesideData.{TypesideData as Typeside}
 use Rattle.cq_import.specs.declared.labels.Trouble.{Trouble}
-use Rattle.cq_import.specs.Cells.{Cell, Sheet, cell_fault, cell_uses}
-use Rattle.cq_import.specs.Labels.{Labels, Room, Use, uses_trouble, with_uses}
+use Rattle.cq_import.specs.Cells.{Cell, cell_fault, cell_uses}
+use Rattle.cq_import.specs.Labels.{uses_trouble, with_uses}
 use Rattle.cq_cells.specs.declared.cells.Over.{Over}
 use Rattle.cq_cells.specs.declared.cells.Pass.{Pass}
-use Rattle.cq_cells.specs.declared.faults.Fault.{Fault}
 use Rattle.cq_cells.specs.Found.{Found, behind_trouble, cells_found, found_in}
 use Rattle.cq_cells.specs.Passes.{Passes, sheets_over, told_with, typeside_over}
 use Rattle.cq_cells.specs.Shown.{Lists, most_faults, shown}

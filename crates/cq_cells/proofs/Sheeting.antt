@@ -1,16 +1,14 @@
 -- The sheets of the files that were read, and their tables of ids.
-use Rattle.std.proofs.Common.{ℕ, zero, suc, List, [], ◌∷◌, ◌++◌, ◌+◌, ◌<◌, ◌≤◌, ◌≡◌, Option, Some, None, length, map, get_or, refl, sym, ap, subst, ◌∙◌, arith}
-use Rattle.std.specs.Prelude.{is_some, slice_get, sum, unwrap_or}
-use Rattle.std.specs.List.{range_with_len}
+use Rattle.std.proofs.Common.{ℕ, List, [], ◌∷◌, ◌<◌, ◌≡◌, Some, length, map, get_or, sym, ap, ◌∙◌, arith}
+use Rattle.std.specs.Prelude.{slice_get, unwrap_or}
 use Rattle.std.specs.Map.{lookup}
 use Rattle.std.proofs.lemmas.List.{ext_get_or, get_or-map, length-map}
 use Rattle.std.proofs.lemmas.List.FromFn.{get_or-map-range_with_len, length-map-range_with_len}
 use Rattle.std.proofs.lemmas.Option.{slice_get-get_or}
 use Rattle.cq_base.specs.Names.{number_of, same_name}
 use Rattle.cq_theory.specs.SchemaData.{SchemaData as Schema}
-use Rattle.cq_theory.specs.Canonical.{below}
 use Rattle.cq_import.specs.declared.columns.Column.{Column}
-use Rattle.cq_import.specs.Cells.{Cell, Sheet, counts, entity_cells, file_in, row_with_id, rows_at, rows_cells, rows_in, start_of}
+use Rattle.cq_import.specs.Cells.{Sheet, counts, entity_cells, file_in, row_with_id, rows_at, rows_cells, rows_in, start_of}
 use Rattle.cq_import.specs.Columns.{columns}
 use Rattle.cq_import.specs.Records.{Record}
 use Rattle.cq_import.specs.Rows.{ids_of, rows_of}

@@ -1,12 +1,12 @@
 -- Records whose cells are tested one after the other.
-use Rattle.std.proofs.Common.{ℕ, List, [], ◌∷◌, ◌++◌, ◌+◌, ◌-◌, ◌<◌, ◌≤◌, ◌≡◌, Result, Ok, Err, length, refl, sym, ap, subst, ◌∙◌, arith}
+use Rattle.std.proofs.Common.{ℕ, List, [], ◌++◌, ◌+◌, ◌-◌, ◌<◌, ◌≡◌, Result, Ok, Err, length, sym, ap, subst, ◌∙◌, arith}
 use Rattle.std.specs.Borrow.{Bor}
 use Rattle.csv.specs.declared.reader.Reader.{Reader}
 use Rattle.cq_import.specs.declared.columns.Column.{Column}
 use Rattle.std.specs.Prelude.{OnOk}
 use Rattle.std.specs.declared.alloc.AllocError.{AllocError}
 use Rattle.cq_theory.specs.SchemaData.{SchemaData as Schema}
-use Rattle.cq_import.specs.Cells.{Cell, cell_in, entity_cells, row_cells, rows_cells, start_of}
+use Rattle.cq_import.specs.Cells.{cell_in, entity_cells, row_cells, rows_cells, start_of}
 use Rattle.cq_import.specs.Columns.{columns as columns_of}
 use Rattle.cq_import.specs.Rows.{rows_of}
 use Rattle.cq_import.specs.Records.{Record, Remains, Takes, field_in}

@@ -1,5 +1,5 @@
 -- What is told as cells are read one after the other.
-use Rattle.std.specs.Prelude.{ℕ, Bool, List, [], ◌∷◌, ◌++◌, ◌≡◌, Some, map, take, length, if◌then◌else◌}
+use Rattle.std.specs.Prelude.{ℕ, List, ◌++◌, ◌≡◌, Some, map, take, length, if◌then◌else◌}
 use Rattle.cq_theory.specs.TypesideData.{TypesideData as Typeside}
 use Rattle.cq_import.specs.Cells.{Cell, Sheet}
 use Rattle.cq_import.specs.Columns.{AreColumns}

@@ -1,3 +1,2 @@
 mod Seen
-mod InOrder
-mod Reading
+mod Appended

@@ -1,9 +1,9 @@
 -- What is seen in cited steps.
-use Rattle.std.proofs.Common.{ℕ, List, [], ◌∷◌, ◌++◌, ◌+◌, ◌≡◌, Option, Some, None, IfSome, length, reverse, refl, sym, ap, subst, ◌∙◌, arith}
+use Rattle.std.proofs.Common.{ℕ, List, [], ◌∷◌, ◌++◌, ◌+◌, ◌≡◌, Some, length, reverse, refl, sym, ap, subst, ◌∙◌, arith}
 use Rattle.std.specs.Prelude.{slice_get}
 use Rattle.std.proofs.lemmas.List.{reverse-append}
 use Rattle.cq_import.proofs.Places.{get-append, get-append_front}
-use Rattle.cq_steps.specs.declared.step.Rule.TheVariants.{Reflexivity, Symmetry, Transitivity}
+use Rattle.cq_steps.specs.declared.step.Rule.TheVariants.{Transitivity}
 use Rattle.cq_steps.specs.declared.step.Step.{Step}
 use Rattle.cq_conflict.specs.Told.{AreSeen, Extends, IsBy, IsSeen, Leads, itself, joined, one_of, turned}
 
@@ -46,14 +46,11 @@ module _ (steps : List Step) where
 
   -- Two premises of which the second waits first.
   pub pair_leads : (waiting : List ℕ) (first second : ℕ) → Leads steps waiting ((second ∷ []) ++ first ∷ []) → Leads steps waiting (first ∷ second ∷ [])
-  pair_leads waiting first second leads cited seen = let both = leads cited seen in (both.1.0, both.0, tt)
+  pair_leads waiting first second leads cited seen = let both = leads cited seen in (both.1.0, (both.0, tt))
 
   -- What is cited so far, and what waits: where all that waits is seen in what is cited at the end, so is the whole.
   abbrev pub AreWaiting : List ℕ → List ℕ → List ℕ → Type 0
   AreWaiting cited waiting whole = (later : List ℕ) → Extends steps cited later → AreSeen steps later waiting → AreSeen steps later whole
-
-  pub waiting_start : (cited waiting whole : List ℕ) → Leads steps waiting whole → AreWaiting cited waiting whole
-  waiting_start cited waiting whole leads later extends seen = leads later seen
 
   pub waiting_more : (old new waiting rest whole : List ℕ) (n : ℕ) → waiting ≡ rest ++ n ∷ [] → IsSeen steps new n → Extends steps old new → AreWaiting old waiting whole → AreWaiting new rest whole
   waiting_more old new waiting rest whole n are one extends before later further seen =
@@ -61,17 +58,3 @@ module _ (steps : List Step) where
 
   pub waiting_end : (cited waiting whole : List ℕ) → waiting ≡ [] → AreWaiting cited waiting whole → AreSeen steps cited whole
   waiting_end cited waiting whole none before = before cited (λ m s. s) (subst (AreSeen steps cited) (sym none) tt)
-
--- What is known of a step that was looked up, and of its premises.
-module _ (steps : List Step) (n : ℕ) (step : Step) (at : Some step ≡ slice_get steps n) where
-  pub joins : (o : Option (ℕ × ℕ)) (from : List ℕ) → step.rule ≡ Transitivity → step.from ≡ from → IfSome o (λ p. from ≡ p.0 ∷ p.1 ∷ [])
-      → IfSome o (λ p. IsBy steps n Transitivity (p.0 ∷ p.1 ∷ []))
-  joins None from rule same h = tt
-  joins (Some p) from rule same h = record { step = step; at = sym at; rule_is = rule; from_is = same ∙ h }
-
-  pub turns : (o : Option ℕ) (from : List ℕ) → step.rule ≡ Symmetry → step.from ≡ from → IfSome o (λ p. from ≡ p ∷ []) → IfSome o (λ p. IsBy steps n Symmetry (p ∷ []))
-  turns None from rule same h = tt
-  turns (Some p) from rule same h = record { step = step; at = sym at; rule_is = rule; from_is = same ∙ h }
-
-  pub reflects : step.rule ≡ Reflexivity → step.from ≡ [] → IsBy steps n Reflexivity []
-  reflects rule none = record { step = step; at = sym at; rule_is = rule; from_is = none }

@@ -50,7 +50,7 @@ fn push_shown(
     notes: &[Seq<u8>],
     text: &mut Vec<u8>,
 ) -> Result<(), AllocError>
-    ensures told { OnOk result (TellsLines telling.now.explained.now.schema.now telling.now.steps.now telling.now.told.now
+    ensures { OnOk result (TellsLines telling.now.explained.now.schema.now telling.now.steps.now telling.now.told.now
         text.old.items text.new.items) }
 {
     let shown = Shown {

@@ -67,9 +67,10 @@ fn tell_earlier(
     ensures { OnOk result (AreTelling steps.now told.new.items) }
 {
     'earlier: for number in (0..last).rev() {
-        if is_needed(needed, number) {
-            tell(alloc, steps, marks, number, needed, told)?;
+        if !is_needed(needed, number) {
+            continue;
         }
+        tell(alloc, steps, marks, number, needed, told)?;
     }
     Ok(())
 }

@@ -16,3 +16,7 @@ pub mod Tested
 pub mod Told
 pub mod Typed
 pub mod Untested
+pub mod Firsts
+pub mod Noted
+pub mod Bordered
+pub mod Repeated

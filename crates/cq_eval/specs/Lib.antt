@@ -5,3 +5,5 @@ pub mod Index
 pub mod Made
 pub mod Order
 pub mod Refused
+pub mod Border
+pub mod Known

@@ -12,6 +12,7 @@ ghost use Rattle.cq_eval.specs.Order.{IsOrder};
 ghost use Rattle.cq_eval.specs.Refused.{TellsMany, TellsOver};
 ghost use Rattle.cq_eval.specs.Testing.{IsTestAt};
 
+use crate::borders::borders;
 use crate::index::indexes;
 use crate::joining::Join;
 use crate::kept::Kept;
@@ -152,7 +153,9 @@ fn searched(
     let groups = by_stage(alloc, tests, counts.as_slice())?;
     let last = last_stage(tests, counts.as_slice());
     let indexes = indexes(alloc, instance, kept, counts.as_slice(), tests)?;
+    let borders = borders(alloc, tests, counts.as_slice())?;
     let join = Join {
+        alloc,
         entity,
         instance,
         tests,
@@ -161,7 +164,7 @@ fn searched(
         counts,
         indexes,
     };
-    join.answers(alloc)
+    join.answers(borders)
 }
 
 /// The answers for the entity of a block, whose variables are bound in this order.

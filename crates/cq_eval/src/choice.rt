@@ -1,5 +1,5 @@
 //! Choices of a row for each variable.
-ghost use Rattle.std.specs.Prelude.{◌≡◌, ◌<◌, IfOk, length, map, slice_set};
+ghost use Rattle.std.specs.Prelude.{◌≡◌, ◌<◌, ◌++◌, IfOk, drop, length, map, slice_set, take};
 ghost use Rattle.cq_theory.specs.Tables.{AtRow, row_in};
 ghost use Rattle.cq_instance.specs.Standing.{meaning};
 
@@ -35,6 +35,28 @@ fn row_of(standing: &Standing) -> u32
     match standing {
         Standing::Row(row) => *row,
         Standing::Value(_) => 0,
+    }
+}
+
+/// So many of the first standings, and all where there are fewer.
+fn first_of(standings: &[Standing], bound: usize) -> &[Standing]
+    ensures { result.now ≡ take bound standings.now }
+{
+    if bound <= standings.len() {
+        &standings[..bound]
+    } else {
+        standings
+    }
+}
+
+/// The numbers behind so many.
+fn rest_of(numbers: &[u32], bound: usize) -> &[u32]
+    ensures { result.now ≡ drop bound numbers.now }
+{
+    if bound <= numbers.len() {
+        &numbers[bound..]
+    } else {
+        &[]
     }
 }
 
@@ -74,6 +96,23 @@ impl Choice {
         ensures { map meaning result.now ≡ map AtRow self.now }
     {
         self.standings.as_slice()
+    }
+
+    /// The first rows of these, and the rows of others for the other variables.
+    pub(crate) fn behind(
+        &self,
+        alloc: Global,
+        bound: usize,
+        others: &[u32],
+    ) -> Result<Rows, AllocError>
+        ensures { IfOk result (λ rows. rows ≡ take bound self.now ++ drop bound others.now) }
+    {
+        let mut rows = Vec::with_capacity(alloc, self.standings.len())?;
+        for standing in first_of(self.standings.as_slice(), bound) {
+            rows.push(row_of(standing))?;
+        }
+        rows.extend_from_slice(rest_of(others, bound))?;
+        Ok(Rows::from_vec(rows))
     }
 
     /// The rows.

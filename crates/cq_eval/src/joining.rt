@@ -9,6 +9,8 @@ ghost use Rattle.cq_instance.specs.Terms.{IsTypeTermOf};
 ghost use Rattle.cq_query.specs.Answers.{IsTuple};
 ghost use Rattle.cq_eval.specs.Join.{IsJoin, IsLast, combinations, test_passes_at, found_from, found_by};
 ghost use Rattle.cq_eval.specs.Index.{AreIndexes, IsCover, rows_of_value, listed_rows};
+ghost use Rattle.cq_eval.specs.Border.{IsBorder};
+ghost use Rattle.cq_eval.specs.Known.{between, AreKnown};
 ghost use Rattle.cq_eval.specs.Made.{answers_with};
 ghost use Rattle.cq_eval.specs.Testing.{IsTestAt, holds_at};
 ghost use Rattle.cq_eval.specs.Refused.{TellsOver};
@@ -16,6 +18,7 @@ ghost use Rattle.cq_eval.specs.Refused.{TellsOver};
 use crate::choice::Choice;
 use crate::free::{MOST_ANSWERS, is_over};
 use crate::index::TestIndex;
+use crate::known::{Known, Stretch};
 use crate::refusal::EvalRefusal;
 use crate::rows::Rows;
 use crate::testing::holds;
@@ -24,9 +27,13 @@ use cq_instance::Instance;
 use cq_theory::{Equation, TypeTerm};
 use std::alloc::{AllocError, Global};
 
+/// How many variables can be bound before the system's stack of 8 MiB would be too small.
+const MOST_BOUND: usize = 8_000;
+
 /// What the answers for an entity are searched by: the where equations of its block, which of them are tested when so
 /// many variables are bound, and how many rows there are for each variable.
 pub(crate) struct Join<'a> {
+    pub(crate) alloc: Global,
     pub(crate) entity: u32,
     pub(crate) instance: &'a Instance,
     pub(crate) tests: &'a [Equation],
@@ -40,6 +47,7 @@ pub(crate) struct Join<'a> {
 impl Drop for Join<'_> {
     fn drop(self) {
         let Self {
+            alloc: _,
             entity: _,
             instance: _,
             tests: _,
@@ -139,19 +147,71 @@ impl Join<'_> {
     }
 
     /// Puts an answer behind others, of which there may be 1,000,000.
-    fn keep(&self, alloc: Global, choice: &Choice, found: &mut Vec<Rows>) -> Result<(), EvalRefusal>
-        ensures found { OnOk result (found.new.items ≡ found.old.items ++ choice.now ∷ []) }
+    fn push(&self, rows: Rows, found: &mut Vec<Rows>) -> Result<(), EvalRefusal>
+        ensures found { OnOk result (found.new.items ≡ found.old.items ++ rows ∷ []) }
         ensures few { OnOk result (length found.new.items ≤ 1000000) }
         ensures refused { IfErr result (TellsOver self.now.entity (length found.old.items + 1)) }
     {
         if found.len() >= MOST_ANSWERS {
             return Err(EvalRefusal::TooManyAnswers(self.entity));
         }
-        let rows = choice.rows(alloc)?;
         match found.push(rows) {
             Ok(()) => Ok(()),
             Err(_) => Err(EvalRefusal::Memory),
         }
+    }
+
+    /// Puts the rows that are chosen behind other answers.
+    fn keep(&self, choice: &Choice, found: &mut Vec<Rows>) -> Result<(), EvalRefusal>
+        ensures found { OnOk result (found.new.items ≡ found.old.items ++ choice.now ∷ []) }
+        ensures few { OnOk result (length found.new.items ≤ 1000000) }
+        ensures refused { IfErr result (TellsOver self.now.entity (length found.old.items + 1)) }
+    {
+        let rows = choice.rows(self.alloc)?;
+        self.push(rows, found)
+    }
+
+    /// Puts one of the answers behind the others, with other rows for the first `bound` variables.
+    fn repeat_one(
+        &self,
+        choice: &Choice,
+        bound: usize,
+        place: usize,
+        found: &mut Vec<Rows>,
+    ) -> Result<(), EvalRefusal>
+        requires place { place < length found.old.items }
+        ensures found { OnOk result (found.new.items ≡ found.old.items
+            ++ (take bound choice.now ++ drop bound (slice_index_or found.old.items place [])) ∷ []) }
+        ensures few { OnOk result (length found.new.items ≤ 1000000) }
+        ensures refused { IfErr result (TellsOver self.now.entity (length found.old.items + 1)) }
+    {
+        let rows = choice.behind(self.alloc, bound, found[place].as_slice())?;
+        self.push(rows, found)
+    }
+
+    /// Puts answers that stand among the others behind them, with other rows for the first `bound` variables.
+    fn repeat(
+        &self,
+        choice: &Choice,
+        bound: usize,
+        stretch: Stretch,
+        found: &mut Vec<Rows>,
+    ) -> Result<(), EvalRefusal>
+        requires rises { stretch.start ≤ stretch.end }
+        requires within { stretch.end ≤ length found.old.items }
+        requires few { length found.old.items ≤ 1000000 }
+        ensures found { OnOk result (found.new.items ≡ found.old.items
+            ++ map (λ list. take bound choice.now ++ drop bound list) (between stretch found.old.items)) }
+        ensures few { OnOk result (length found.new.items ≤ 1000000) }
+        ensures refused { IfErr result (TellsOver self.now.entity
+            (length found.old.items + length (between stretch found.old.items))) }
+    {
+        for place in stretch.start..stretch.end {
+            if let Err(refusal) = self.repeat_one(choice, bound, place, found) {
+                return Err(refusal);
+            }
+        }
+        Ok(())
     }
 
     /// The index of a where equation, if it has one.
@@ -244,10 +304,10 @@ impl Join<'_> {
     #[cycle(join)]
     fn extend(
         &self,
-        alloc: Global,
         choice: &mut Choice,
         bound: usize,
         found: &mut Vec<Rows>,
+        known: &mut Known,
     ) -> Result<(), EvalRefusal>
         requires join { IsJoin self.now.instance.now.schema self.now.instance.now.tables self.now.tests.now
             self.now.groups self.now.counts }
@@ -256,27 +316,31 @@ impl Join<'_> {
         requires choice { IsTuple choice.old self.now.counts }
         requires bound { bound ≤ length self.now.counts }
         requires few { length found.old.items ≤ 1000000 }
+        requires known { AreKnown self.now.instance.now.tables self.now.tests.now self.now.counts found.old.items
+            known.old }
         ensures found { OnOk result (found.new.items ≡ found.old.items
             ++ found_from self.now.instance.now.tables self.now.tests.now self.now.counts (drop bound self.now.counts)
             (take bound choice.old)) }
         ensures few { OnOk result (length found.new.items ≤ 1000000) }
         ensures choice { IsTuple choice.new self.now.counts }
         ensures kept { take bound choice.new ≡ take bound choice.old }
+        ensures known { OnOk result (AreKnown self.now.instance.now.tables self.now.tests.now self.now.counts
+            found.new.items known.new) }
         ensures refused { IfErr result (TellsOver self.now.entity
             (length found.old.items + length (found_from self.now.instance.now.tables self.now.tests.now self.now.counts
             (drop bound self.now.counts) (take bound choice.old)))) }
     {
         if bound >= self.counts.len() {
-            return self.keep(alloc, choice, found);
+            return self.keep(choice, found);
         }
         if self.has_many(bound, found.len()) {
             return Err(EvalRefusal::TooManyAnswers(self.entity));
         }
-        if let Some(rows) = self.candidates(alloc, choice, bound)? {
-            return self.extend_among(alloc, choice, bound, rows, found);
+        if let Some(rows) = self.candidates(self.alloc, choice, bound)? {
+            return self.extend_among(choice, bound, rows, found, known);
         }
         for row in 0..self.counts.as_slice()[bound] {
-            if let Err(refusal) = self.extend_by(alloc, choice, bound, row, found) {
+            if let Err(refusal) = self.extend_by(choice, bound, row, found, known) {
                 return Err(refusal);
             }
         }
@@ -287,11 +351,11 @@ impl Join<'_> {
     #[cycle(join)]
     fn extend_among(
         &self,
-        alloc: Global,
         choice: &mut Choice,
         bound: usize,
         rows: &[u32],
         found: &mut Vec<Rows>,
+        known: &mut Known,
     ) -> Result<(), EvalRefusal>
         requires join { IsJoin self.now.instance.now.schema self.now.instance.now.tables self.now.tests.now
             self.now.groups self.now.counts }
@@ -302,18 +366,22 @@ impl Join<'_> {
         requires cover { IsCover self.now.instance.now.tables self.now.tests.now self.now.counts (take bound choice.old)
             (slice_index self.now.counts bound) rows.now }
         requires few { length found.old.items ≤ 1000000 }
+        requires known { AreKnown self.now.instance.now.tables self.now.tests.now self.now.counts found.old.items
+            known.old }
         ensures found { OnOk result (found.new.items ≡ found.old.items
             ++ found_from self.now.instance.now.tables self.now.tests.now self.now.counts (drop bound self.now.counts)
             (take bound choice.old)) }
         ensures few { OnOk result (length found.new.items ≤ 1000000) }
         ensures choice { IsTuple choice.new self.now.counts }
         ensures kept { take bound choice.new ≡ take bound choice.old }
+        ensures known { OnOk result (AreKnown self.now.instance.now.tables self.now.tests.now self.now.counts
+            found.new.items known.new) }
         ensures refused { IfErr result (TellsOver self.now.entity
             (length found.old.items + length (found_from self.now.instance.now.tables self.now.tests.now self.now.counts
             (drop bound self.now.counts) (take bound choice.old)))) }
     {
         for row in rows {
-            if let Err(refusal) = self.extend_by(alloc, choice, bound, *row, found) {
+            if let Err(refusal) = self.extend_by(choice, bound, *row, found, known) {
                 return Err(refusal);
             }
         }
@@ -324,11 +392,11 @@ impl Join<'_> {
     #[cycle(join)]
     fn extend_by(
         &self,
-        alloc: Global,
         choice: &mut Choice,
         bound: usize,
         row: u32,
         found: &mut Vec<Rows>,
+        known: &mut Known,
     ) -> Result<(), EvalRefusal>
         requires join { IsJoin self.now.instance.now.schema self.now.instance.now.tables self.now.tests.now
             self.now.groups self.now.counts }
@@ -338,44 +406,105 @@ impl Join<'_> {
         requires bound { bound < length self.now.counts }
         requires row { row < slice_index self.now.counts bound }
         requires few { length found.old.items ≤ 1000000 }
+        requires known { AreKnown self.now.instance.now.tables self.now.tests.now self.now.counts found.old.items
+            known.old }
         ensures found { OnOk result (found.new.items ≡ found.old.items
             ++ found_by self.now.instance.now.tables self.now.tests.now self.now.counts
             (drop (bound + 1) self.now.counts) (take bound choice.old ++ row ∷ [])) }
         ensures few { OnOk result (length found.new.items ≤ 1000000) }
         ensures choice { IsTuple choice.new self.now.counts }
         ensures kept { take bound choice.new ≡ take bound choice.old }
+        ensures known { OnOk result (AreKnown self.now.instance.now.tables self.now.tests.now self.now.counts
+            found.new.items known.new) }
         ensures refused { IfErr result (TellsOver self.now.entity
             (length found.old.items + length (found_by self.now.instance.now.tables self.now.tests.now self.now.counts
             (drop (bound + 1) self.now.counts) (take bound choice.old ++ row ∷ [])))) }
     {
         // A length fits, and so does the number behind one that is less.
         let _width = self.counts.len();
-        choice.set(bound, row);
-        if !self.passes(alloc, choice, bound + 1)? {
+        if known.is_vain(bound + 1) {
             return Ok(());
         }
-        self.extend(alloc, choice, bound + 1, found)
+        choice.set(bound, row);
+        if !self.passes(self.alloc, choice, bound + 1)? {
+            return Ok(());
+        }
+        self.extend_once(choice, bound + 1, found, known)
+    }
+
+    /// Finds all answers that begin with the rows of the first `bound` variables, and puts them behind others. Behind a
+    /// border they are searched once, and then known. Each variable more takes some of the system's stack, whose end is
+    /// want of memory too.
+    #[cycle(join)]
+    fn extend_once(
+        &self,
+        choice: &mut Choice,
+        bound: usize,
+        found: &mut Vec<Rows>,
+        known: &mut Known,
+    ) -> Result<(), EvalRefusal>
+        requires join { IsJoin self.now.instance.now.schema self.now.instance.now.tables self.now.tests.now
+            self.now.groups self.now.counts }
+        requires indexed { AreIndexes self.now.instance.now.tables self.now.counts self.now.tests.now self.now.indexes }
+        requires last { IsLast self.now.tests.now self.now.counts self.now.last }
+        requires choice { IsTuple choice.old self.now.counts }
+        requires bound { bound ≤ length self.now.counts }
+        requires few { length found.old.items ≤ 1000000 }
+        requires known { AreKnown self.now.instance.now.tables self.now.tests.now self.now.counts found.old.items
+            known.old }
+        ensures found { OnOk result (found.new.items ≡ found.old.items
+            ++ found_from self.now.instance.now.tables self.now.tests.now self.now.counts (drop bound self.now.counts)
+            (take bound choice.old)) }
+        ensures few { OnOk result (length found.new.items ≤ 1000000) }
+        ensures choice { IsTuple choice.new self.now.counts }
+        ensures kept { take bound choice.new ≡ take bound choice.old }
+        ensures known { OnOk result (AreKnown self.now.instance.now.tables self.now.tests.now self.now.counts
+            found.new.items known.new) }
+        ensures refused { IfErr result (TellsOver self.now.entity
+            (length found.old.items + length (found_from self.now.instance.now.tables self.now.tests.now self.now.counts
+            (drop bound self.now.counts) (take bound choice.old)))) }
+    {
+        if bound > MOST_BOUND {
+            return Err(EvalRefusal::Memory);
+        }
+        if let Some(stretch) = known.at(bound) {
+            return self.repeat(choice, bound, stretch, found);
+        }
+        let start = found.len();
+        if let Err(refusal) = self.extend(choice, bound, found, known) {
+            return Err(refusal);
+        }
+        if !known.is_border(bound) {
+            return Ok(());
+        }
+        let end = found.len();
+        known.note(bound, Stretch { start, end });
+        Ok(())
     }
 
     /// All answers, in lexicographic order.
-    pub(crate) fn answers(&self, alloc: Global) -> Result<Vec<Rows>, EvalRefusal>
+    pub(crate) fn answers(&self, borders: Seq<bool>) -> Result<Vec<Rows>, EvalRefusal>
         requires join { IsJoin self.now.instance.now.schema self.now.instance.now.tables self.now.tests.now
             self.now.groups self.now.counts }
         requires indexed { AreIndexes self.now.instance.now.tables self.now.counts self.now.tests.now self.now.indexes }
         requires last { IsLast self.now.tests.now self.now.counts self.now.last }
         requires rows { list_any (λ count. count == 0) self.now.counts ≡ false }
+        requires long { length borders ≡ length self.now.counts }
+        requires borders { (bound : ℕ) → slice_get borders bound ≡ Some true
+            → IsBorder (length self.now.counts) self.now.tests.now bound }
         ensures answers { IfOk result (λ found. found.items ≡ answers_with self.now.instance.now.tables
             self.now.tests.now self.now.counts) }
         ensures few { IfOk result (λ found. length found.items ≤ 1000000) }
         ensures refused { IfErr result (TellsOver self.now.entity
             (length (answers_with self.now.instance.now.tables self.now.tests.now self.now.counts))) }
     {
-        let mut choice = Choice::first(alloc, self.counts.as_slice())?;
-        let mut found = Vec::new(alloc);
-        if !self.passes(alloc, &choice, 0)? {
+        let mut choice = Choice::first(self.alloc, self.counts.as_slice())?;
+        let mut found = Vec::new(self.alloc);
+        if !self.passes(self.alloc, &choice, 0)? {
             return Ok(found);
         }
-        match self.extend(alloc, &mut choice, 0, &mut found) {
+        let mut known = Known::new(self.alloc, borders)?;
+        match self.extend(&mut choice, 0, &mut found, &mut known) {
             Ok(()) => Ok(found),
             Err(refusal) => Err(refusal),
         }

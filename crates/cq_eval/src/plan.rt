@@ -1,6 +1,7 @@
 //! The order in which the variables of a block are bound: next is one that an index finds, then one that completes a
-//! where equation, then one that a where equation joins to bound ones, then one that stands in some, and of these the
-//! first. Nothing is claimed of it: `Order::of` tests what it is given.
+//! where equation, then one that a where equation joins to bound ones. So variables that where equations join, however
+//! far, stand together. Where none is joined to bound ones, next is one that some equation reads alone, then one that
+//! stands in some, and of these the first. Nothing is claimed of it: `Order::of` tests what it is given.
 ghost use Rattle.std.specs.Prelude.{IfOk, IfSome};
 ghost use Rattle.cq_eval.specs.Order.{IsOrder};
 
@@ -33,6 +34,7 @@ struct Ready {
     indexed: BinaryHeap<Reverse<u32>>,
     tested: BinaryHeap<Reverse<u32>>,
     joined: BinaryHeap<Reverse<u32>>,
+    alone: BinaryHeap<Reverse<u32>>,
     apart: BinaryHeap<Reverse<u32>>,
     free: BinaryHeap<Reverse<u32>>,
 }
@@ -43,6 +45,7 @@ impl Drop for Ready {
             indexed: _,
             tested: _,
             joined: _,
+            alone: _,
             apart: _,
             free: _,
         } = self;
@@ -144,6 +147,7 @@ impl Ready {
             indexed: BinaryHeap::new(alloc),
             tested: BinaryHeap::new(alloc),
             joined: BinaryHeap::new(alloc),
+            alone: BinaryHeap::new(alloc),
             apart: BinaryHeap::new(alloc),
             free: BinaryHeap::new(alloc),
         }
@@ -160,10 +164,21 @@ impl Ready {
         if let Some(variable) = popped(&mut self.joined) {
             return Some(variable);
         }
+        if let Some(variable) = popped(&mut self.alone) {
+            return Some(variable);
+        }
         if let Some(variable) = popped(&mut self.apart) {
             return Some(variable);
         }
         popped(&mut self.free)
+    }
+
+    /// Puts in variables that a where equation reads alone.
+    fn begin(&mut self, variables: &[u32]) -> Result<(), AllocError> {
+        for variable in variables {
+            self.alone.push(Reverse(*variable))?;
+        }
+        Ok(())
     }
 
     /// Puts in the variables of a where equation that are joined, or the last one that isn't bound.
@@ -229,7 +244,7 @@ impl Plan {
             }
         }
         if tied.left == 1 {
-            self.ready.offer(&tied, self.bound.as_slice())?;
+            self.ready.begin(tied.variables.as_slice())?;
         }
         self.ties.push(tied)?;
         Ok(())

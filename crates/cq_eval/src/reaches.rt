@@ -37,7 +37,7 @@ pub(crate) fn reach_of(term: &TypeTerm) -> usize
 }
 
 /// How many of the first variables a where equation needs.
-fn reach(test: &Equation) -> usize
+pub(crate) fn reach(test: &Equation) -> usize
     ensures { result ≡ equation_reach test.now }
 {
     match test {

@@ -40,8 +40,7 @@ pub struct Made {
     pub source: Source,
 }
 
-/// A field with its place and the generator of its record, and how many bytes the file has from the field on, if no
-/// field before it in the record is quoted.
+/// A field with its place and the generator of its record, and how many bytes the file has from its content on.
 #[derive(Clone, Copy)]
 pub struct Cell<'a> {
     pub file: &'a str,

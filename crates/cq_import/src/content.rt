@@ -65,8 +65,8 @@ fn named_content(typeside: &Typeside, sort: u32, name: Name) -> Content
     }
 }
 
-/// What a field means in the column of an attribute of this type. A text stands in the memory of its file, if the field
-/// is written as it is where the file's last `rest` bytes begin.
+/// What a field means in the column of an attribute of this type. A text stands in the memory of its file, if it is
+/// written as it is where the file's last `rest` bytes begin.
 pub fn read_content(
     alloc: Global,
     source: &mut Source,

@@ -107,13 +107,8 @@ impl Ids {
         ensures known { IfOk result (λ is_new. is_new ≡ not (is_some (number_of self.old id))) }
         ensures added { IfOk result (λ is_new. is_new ≡ true → self.new ≡ self.old ++ id ∷ []) }
     {
-        if self.ids.get_index_of(&id).is_some() {
-            return Ok(false);
-        }
-        match self.ids.insert(id) {
-            Ok(_) => Ok(true),
-            Err(_) => Err(AllocError),
-        }
+        let is_new = self.ids.insert(id)?;
+        Ok(is_new)
     }
 
     /// The number of an id.

@@ -1,9 +1,11 @@
 //! Folders of CSV files as presentations.
 //!
 //! File by file the bytes are read and their records tested (`folder`, `entity_file`, `rows`, `ids`); when all files
-//! stand, the cells are read in order (`cells`, `labels`), and the presentation is made (`presenting`, `generators`).
+//! stand, the cells are read in order (`cells`, `labels`), each text where it stands in its file (`field_places`), and
+//! the presentation is made (`presenting`, `generators`), in room that is asked for once (`capacities`).
 #![tactic(auto)]
 
+mod capacities;
 mod cells;
 pub mod columns;
 pub mod content;
@@ -11,6 +13,7 @@ mod entity_file;
 mod entries;
 mod entries_file;
 mod entries_text;
+mod field_places;
 mod folder;
 mod generators;
 mod ids;

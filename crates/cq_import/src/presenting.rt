@@ -12,6 +12,7 @@ ghost use Rattle.cq_import.specs.Faults.{Refuses};
 ghost use Rattle.cq_import.specs.Imports.{entity_sorts, presented, sheets_fault};
 ghost use Rattle.cq_import.specs.Labels.{with_uses};
 
+use crate::capacities::{count_generators, empty_equations};
 use crate::cells::{Context, Made};
 use crate::columns::Column;
 use crate::entity_file::EntityFile;
@@ -56,7 +57,7 @@ fn generators_of(context: &Context, labels: &Labels) -> Result<Vec<(Name, Sort)>
         (flat_map (entity_sorts (sheets_in context.now)) (below (length context.now.files.now))
         ++ map (λ u. Plain u.1) labels.now)) }
 {
-    let mut sorts = Vec::new(context.alloc);
+    let mut sorts = Vec::with_capacity(context.alloc, count_generators(context, labels))?;
     push_row_sorts(context.files, &mut sorts)?;
     labels.push_sorts(&mut sorts)?;
     // There are at most 16,000,000.
@@ -76,9 +77,11 @@ pub fn finish(context: &Context, made: Made) -> Result<Presentation, AllocError>
 {
     let Made {
         labels,
-        equations,
+        mut equations,
         ..
     } = made;
+    // Cells that are empty have no equation.
+    equations.shrink_to_fit();
     let generators = generators_of(context, &labels)?;
     Ok(Presentation {
         generators: Seq::from_vec(generators),
@@ -103,7 +106,7 @@ fn present_cells(context: &Context) -> Result<Presentation, CsvRefusal>
 {
     let mut made = Made {
         labels: Labels::new(context.alloc),
-        equations: Vec::new(context.alloc),
+        equations: empty_equations(context),
         source: Source::new(context.alloc, &[])?,
     };
     if let Err(refusal) = read_cells(context, &mut made) {

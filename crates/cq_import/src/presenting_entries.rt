@@ -13,6 +13,7 @@ ghost use Rattle.cq_import.specs.Faults.{Refuses};
 ghost use Rattle.cq_import.specs.Imports.{entity_sorts};
 ghost use Rattle.cq_import.specs.Rows.{rows_of};
 
+use crate::capacities::empty_equations;
 use crate::cells::{Context, Made};
 use crate::columns::Column;
 use crate::entity_file::EntityFile;
@@ -94,7 +95,7 @@ fn present_all(context: &Context, over: &Over, text: &[u8]) -> Result<Presentati
 {
     let mut made = Made {
         labels: Labels::new(context.alloc),
-        equations: Vec::new(context.alloc),
+        equations: empty_equations(context),
         source: Source::new(context.alloc, &[])?,
     };
     if let Err(refusal) = read_all(context, over, text, &mut made) {

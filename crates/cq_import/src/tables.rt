@@ -9,38 +9,30 @@ ghost use Rattle.cq_import.specs.Rows.{rows_of};
 
 use crate::cells::{Cell, Context, Made, read_cell};
 use crate::columns::Column;
+use crate::field_places::{place_of, rest_behind_id};
 use crate::records::{field, next, start};
 use crate::refusal::CsvRefusal;
 use cq_base::Source;
 use cq_theory::Schema;
 use csv::{ByteRecord, Reader};
 
-/// A record with its number and its generator, and how many bytes the file has behind its id, if that isn't quoted.
+/// A record with its number and its generator, and the text of its file.
 #[derive(Clone, Copy)]
 struct Row<'a> {
     file: &'a str,
     number: u32,
     generator: u32,
     fields: &'a ByteRecord,
-    rest: usize,
+    text: &'a [u8],
 }
 
-/// The columns of a file, the generator of its first record, and how many bytes it has.
+/// The columns of a file, the generator of its first record, and its text.
 #[derive(Clone, Copy)]
 struct Table<'a> {
     file: &'a str,
     columns: &'a [Column],
     start: u32,
-    length: usize,
-}
-
-/// How many bytes a file has behind the id of a record and the comma there, if the id isn't quoted.
-fn rest_behind_id(length: usize, fields: &ByteRecord) -> usize {
-    let Some(position) = fields.position() else {
-        return 0;
-    };
-    let rest = length.saturating_sub(position.byte() as usize);
-    rest.saturating_sub(field(fields, 0).len() + 1)
+    text: &'a [u8],
 }
 
 /// Reads the cells of a record.
@@ -60,21 +52,23 @@ fn read_row(
     ensures refused { IfErr result (λ r. Refuses r (faults_in context.now made.old
         (row_cells row.now.file.now columns.now row.now.generator row.now.number (fields_of row.now.fields.now)))) }
 {
-    let mut rest = row.rest;
+    let mut rest = rest_behind_id(row.text, row.fields);
     for (place, column) in columns.iter().enumerate() {
+        let field = field(row.fields, place + 1);
+        let stands = place_of(row.text, rest, field);
         let cell = Cell {
             file: row.file,
             row_number: row.number,
             column_number: place as u32 + 2,
             generator: row.generator,
             column: *column,
-            field: field(row.fields, place + 1),
-            rest,
+            field,
+            rest: stands.content,
         };
         if let Err(refusal) = read_cell(context, &cell, made) {
             return Err(refusal);
         }
-        rest = rest.saturating_sub(cell.field.len() + 1);
+        rest = stands.behind;
     }
     Ok(())
 }
@@ -109,7 +103,7 @@ fn read_rows(
             // at most 16,000,000
             generator: table.start.saturating_add(number - 1),
             fields,
-            rest: rest_behind_id(table.length, fields),
+            text: table.text,
         };
         if let Err(refusal) = read_row(context, table.columns, &row, made) {
             return Err(refusal);
@@ -145,25 +139,20 @@ fn read_records(
 }
 
 /// Reads the cells of a file.
-fn read_table(
-    context: &Context,
-    table: &Table,
-    text: &[u8],
-    made: &mut Made,
-) -> Result<(), CsvRefusal>
+fn read_table(context: &Context, table: &Table, made: &mut Made) -> Result<(), CsvRefusal>
     requires context { IsContext context.now }
     requires columns { All (IsColumn context.now.schema.now) table.now.columns.now }
     requires narrow { length table.now.columns.now ≤ 2 ^ 31 }
     requires room { context.now.first + length made.old.labels ≤ 16000000 }
-    requires few { table.now.start + length (rows_of text.now) ≤ 16000000 }
+    requires few { table.now.start + length (rows_of table.now.text.now) ≤ 16000000 }
     ensures passed { OnOk result (Reads context.now made.old made.new
-        (rows_cells table.now.file.now table.now.columns.now table.now.start 1 (rows_of text.now))) }
+        (rows_cells table.now.file.now table.now.columns.now table.now.start 1 (rows_of table.now.text.now))) }
     ensures room { OnOk result (context.now.first + length made.new.labels ≤ 16000000) }
     ensures refused { IfErr result (λ r. Refuses r (faults_in context.now made.old
-        (rows_cells table.now.file.now table.now.columns.now table.now.start 1 (rows_of text.now)))) }
+        (rows_cells table.now.file.now table.now.columns.now table.now.start 1 (rows_of table.now.text.now)))) }
 {
-    made.source = Source::new(context.alloc, text)?;
-    let mut reader = start(context.alloc, text);
+    made.source = Source::new(context.alloc, table.text)?;
+    let mut reader = start(context.alloc, table.text);
     let mut fields = ByteRecord::new(context.alloc);
     match read_records(context, table, &mut reader, &mut fields, made) {
         Ok(()) => Ok(()),
@@ -194,9 +183,9 @@ fn read_entity(context: &Context, entity: u32, made: &mut Made) -> Result<(), Cs
         file: file.name.as_str(),
         columns,
         start: context.starts[entity as usize],
-        length: file.text.len(),
+        text: file.text.as_slice(),
     };
-    read_table(context, &table, file.text.as_slice(), made)
+    read_table(context, &table, made)
 }
 
 /// Reads the cells of all files.

@@ -31,8 +31,8 @@ AreMoved (by_eval Q) k images =
     × (images ≡ eval_images Q k.moved k.source k.target k.start k.finish from to)
 AreMoved (by_coeval Q) k images = images ≡ coeval_images Q k.moved k.source k.target
 
--- The images of a unit or a counit between two instances, by the instance there. Along a query they are those of the transform into eval, or
--- out of coeval, of the identity of the instance there.
+-- The images of a unit or a counit between two instances, by the instance there. Along a query they are those of the transform into eval,
+-- or out of coeval, of the identity of the instance there.
 abbrev pub AreAround : Route → (start finish there : InstanceData) → List Image → Type 0
 AreAround (by_sigma F) start finish there images = images ≡ unit_images start there finish
 AreAround (by_delta F) start finish there images = images ≡ counit_images F (null_term_of finish) finish there

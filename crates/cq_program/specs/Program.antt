@@ -39,7 +39,8 @@ use Rattle.cq_transform.specs.Composing.{has_long}
 use Rattle.cq_transform.specs.Refusals.{IsBrokenAt}
 use Rattle.cq_check.specs.Answers.{IsDerivedWithin, IsNotPreserved, IsTooDeepDuty, IsTooWideDuty, IsUnsoundAt, IsTooDeepAt, IsTooWideAt}
 use Rattle.cq_program.specs.Movements.{AreImages, AreLong}
-use Rattle.cq_stating.specs.Meanings.{Binding, binding, Meant, typeside, schema, colimit, mapping, query, instance, transform, Ends, Environment}
+use Rattle.cq_stating.specs.Meanings.{Binding, binding, Meant, typeside, schema, colimit, mapping, query, instance, transform, Ends}
+use Rattle.cq_stating.specs.Meanings.{Environment}
 use Rattle.cq_stating.specs.Checks.{Posed, a_typeside}
 use Rattle.cq_stating.specs.Checks.{a_schema, a_mapping, an_identity, a_colimit, an_inclusion, a_query, a_presentation}
 use Rattle.cq_stating.specs.Checks.{a_composite, a_mapping_query, a_made, a_delta, an_eval, a_transform, a_move}
@@ -65,8 +66,8 @@ pub record IsEvalWithin (Q : QueryData) (M N : Tables) : Type 0 where
   pub fits : is_oversized N ≡ false
 
 -- What is posed is this: a theory itself, a mapping or a query where each of its duties is derivable, a presentation by its listed model.
--- The duties of an identity and of an inclusion are equations of the target, and so derivable; those of a composite and of a mapping's query
--- follow from the duties of what they are made of. A composite keeps the limits on queries. Tables that are pulled back or that are
+-- The duties of an identity and of an inclusion are equations of the target, and so derivable; those of a composite and of a mapping's
+-- query follow from the duties of what they are made of. A composite keeps the limits on queries. Tables that are pulled back or that are
 -- answers stand with their canonical presentation, within the limits on tables; a presentation that is made of others stands by its listed
 -- model, within the limit on presentations. Images stand by the one homomorphism that agrees with them, and a transform that an operation
 -- moves, a unit and a counit by that of their images, within the limit on images.

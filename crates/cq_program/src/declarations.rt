@@ -104,8 +104,8 @@ fn declare_all<F: Folder>(
     Ok(env)
 }
 
-/// Adds the name of a declaration, with what it stands for, or tells the first rule that it breaks; then the names are
-/// those that there were.
+/// Adds the name of a declaration, with what it stands for, or tells the first rule that it breaks; then each name stands
+/// for what it stood for.
 pub fn declare<F: Folder>(
     alloc: Global,
     env: &mut Environment,
@@ -119,7 +119,30 @@ pub fn declare<F: Folder>(
     ensures declares { OnOk result (AddsDecl (F.state folder.old).files
         (environment_of env.old.names.entries) decl.now (environment_of env.new.names.entries)) }
     ensures settled { OnOk result (AreSettled (environment_of env.new.names.entries)) }
-    ensures unchanged { OnErr result (env.new.names.entries ≡ env.old.names.entries) }
+    ensures unchanged { OnErr result (environment_of env.new.names.entries ≡ environment_of env.old.names.entries) }
+    ensures keeps { Keeps (F.state folder.old) (F.state folder.new) }
+    ensures refuses { IfErr result (RefusesDecl depth (F.state folder.old) (F.state folder.new)
+        (environment_of env.old.names.entries) decl.now) }
+{
+    env.make_used(alloc, &decl.body)?;
+    declare_next(alloc, env, decl, folder, depth)
+}
+
+/// The same, where the query that the declaration uses is made.
+fn declare_next<F: Folder>(
+    alloc: Global,
+    env: &mut Environment,
+    decl: &Decl,
+    folder: &mut F,
+    depth: u32,
+) -> Result<(), ProgramRefusal>
+    requires few { part_count decl.now.body < 2 ^ 32 }
+    requires settled { AreSettled (environment_of env.old.names.entries) }
+    requires depth { depth ≤ 64 }
+    ensures declares { OnOk result (AddsDecl (F.state folder.old).files
+        (environment_of env.old.names.entries) decl.now (environment_of env.new.names.entries)) }
+    ensures settled { OnOk result (AreSettled (environment_of env.new.names.entries)) }
+    ensures unchanged { OnErr result (environment_of env.new.names.entries ≡ environment_of env.old.names.entries) }
     ensures keeps { Keeps (F.state folder.old) (F.state folder.new) }
     ensures refuses { IfErr result (RefusesDecl depth (F.state folder.old) (F.state folder.new)
         (environment_of env.old.names.entries) decl.now) }

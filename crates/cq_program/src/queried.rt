@@ -11,6 +11,7 @@ use crate::mapped::own;
 use cq_adjoint::{coeval_map, eval_map, from_eval, to_eval};
 use cq_eval::answers;
 use cq_instance::laws::null_terms_spell;
+use cq_lazy::LazyQuery;
 use cq_model::{Instance, Transform};
 use cq_query::Query;
 use cq_stating::is_over_schema;
@@ -40,6 +41,23 @@ fn all_answers(
 
 /// A transform along eval.
 pub fn eval_moved(
+    alloc: Global,
+    query: &LazyQuery,
+    carrying: &Carrying,
+) -> Result<Transform, SizeRefusal>
+    requires { IsMovingAlong (by_eval query.now) (carried_as carrying.now) }
+    ensures made { IfOk result (HasImages (AreMoved (by_eval query.now) (carried_as carrying.now))
+        carrying.now.start.now carrying.now.finish.now) }
+    ensures refused { IfErr result (TellsLong (AreMoved (by_eval query.now) (carried_as carrying.now))) }
+{
+    let Ok(made) = query.query(alloc) else {
+        return Err(SizeRefusal::Memory);
+    };
+    eval_moved_made(alloc, &made, carrying)
+}
+
+/// The same of a query that is made.
+fn eval_moved_made(
     alloc: Global,
     query: &Query,
     carrying: &Carrying,
@@ -73,6 +91,23 @@ pub fn eval_moved(
 /// A transform along coeval.
 pub fn coeval_moved(
     alloc: Global,
+    query: &LazyQuery,
+    carrying: &Carrying,
+) -> Result<Transform, SizeRefusal>
+    requires { IsMovingAlong (by_coeval query.now) (carried_as carrying.now) }
+    ensures made { IfOk result (HasImages (AreMoved (by_coeval query.now) (carried_as carrying.now))
+        carrying.now.start.now carrying.now.finish.now) }
+    ensures refused { IfErr result (TellsLong (AreMoved (by_coeval query.now) (carried_as carrying.now))) }
+{
+    let Ok(made) = query.query(alloc) else {
+        return Err(SizeRefusal::Memory);
+    };
+    coeval_moved_made(alloc, &made, carrying)
+}
+
+/// The same of a query that is made.
+fn coeval_moved_made(
+    alloc: Global,
     query: &Query,
     carrying: &Carrying,
 ) -> Result<Transform, SizeRefusal>
@@ -96,6 +131,25 @@ pub fn coeval_moved(
 
 /// The unit from an instance to eval of its coeval, which is there.
 pub fn query_unit(
+    alloc: Global,
+    query: &LazyQuery,
+    start: &Instance,
+    finish: &Instance,
+    there: &Instance,
+) -> Result<Transform, SizeRefusal>
+    requires { IsMovingAround (by_coeval query.now) start.now finish.now there.now }
+    ensures made { IfOk result (HasImages (AreAround (by_coeval query.now) start.now finish.now there.now)
+        start.now finish.now) }
+    ensures refused { IfErr result (TellsLong (AreAround (by_coeval query.now) start.now finish.now there.now)) }
+{
+    let Ok(made) = query.query(alloc) else {
+        return Err(SizeRefusal::Memory);
+    };
+    query_unit_made(alloc, &made, start, finish, there)
+}
+
+/// The same of a query that is made.
+fn query_unit_made(
     alloc: Global,
     query: &Query,
     start: &Instance,
@@ -127,6 +181,25 @@ pub fn query_unit(
 
 /// The counit to an instance from coeval of its eval, which is there.
 pub fn query_counit(
+    alloc: Global,
+    query: &LazyQuery,
+    start: &Instance,
+    finish: &Instance,
+    there: &Instance,
+) -> Result<Transform, SizeRefusal>
+    requires { IsMovingAround (by_eval query.now) start.now finish.now there.now }
+    ensures made { IfOk result (HasImages (AreAround (by_eval query.now) start.now finish.now there.now)
+        start.now finish.now) }
+    ensures refused { IfErr result (TellsLong (AreAround (by_eval query.now) start.now finish.now there.now)) }
+{
+    let Ok(made) = query.query(alloc) else {
+        return Err(SizeRefusal::Memory);
+    };
+    query_counit_made(alloc, &made, start, finish, there)
+}
+
+/// The same of a query that is made.
+fn query_counit_made(
     alloc: Global,
     query: &Query,
     start: &Instance,

@@ -18,8 +18,9 @@ use crate::models::shared_instance;
 use cq_base::{Name, Place};
 use cq_check::check_query;
 use cq_coeval::coeval;
-use cq_compose::{compose_query, mapping_query};
+use cq_compose::mapping_query;
 use cq_eval::{EvalRefusal, eval};
+use cq_lazy::LazyQuery;
 use cq_mapping::Mapping;
 use cq_model::Instance;
 use cq_query::Query;
@@ -59,18 +60,34 @@ fn shared_query(
     ensures stands { IfOk result (λ meaning. meant meaning ≡ meant_query source target query) }
     ensures modelled { IfOk result (λ meaning. IsModelled (meant meaning)) }
 {
+    let query = Rc::new(alloc, query)?;
+    let lazy = LazyQuery::new(alloc, query)?;
+    shared_lazy(alloc, source, target, lazy)
+}
+
+/// The same of a query that may be made later.
+fn shared_lazy(
+    alloc: Global,
+    source: Name,
+    target: Name,
+    query: LazyQuery,
+) -> Result<Meaning, AllocError>
+    requires { Sound query }
+    ensures stands { IfOk result (λ meaning. meant meaning ≡ meant_query source target query) }
+    ensures modelled { IfOk result (λ meaning. IsModelled (meant meaning)) }
+{
     let shared = Rc::new(alloc, query)?;
     Ok(Meaning::Query(source, target, shared))
 }
 
-/// The composite of two queries.
+/// The composite of two queries, which is made when it is used.
 pub fn composed(
     alloc: Global,
     place: Place,
     source: Name,
     target: Name,
-    first: &Query,
-    second: &Query,
+    first: &LazyQuery,
+    second: &LazyQuery,
 ) -> Result<Meaning, ProgramRefusal>
     requires first { Sound first.now }
     requires second { Sound second.now }
@@ -81,8 +98,8 @@ pub fn composed(
     ensures withholds { (depth : ℕ) → IfErr result (Withholds depth place
         (a_composite source target first.now second.now)) }
 {
-    match compose_query(alloc, first, second) {
-        Ok(query) => Ok(shared_query(alloc, source, target, query)?),
+    match LazyQuery::compose(alloc, first, second) {
+        Ok(query) => Ok(shared_lazy(alloc, source, target, query)?),
         Err(SizeRefusal::TooLarge) => Err(ProgramRefusal::Broken(place, Reason::Oversized)),
         Err(SizeRefusal::Memory) => Err(ProgramRefusal::Memory),
     }
@@ -107,6 +124,25 @@ pub fn of_mapping(
 
 /// The answers of a query to an instance.
 pub fn answered(
+    alloc: Global,
+    place: Place,
+    name: Name,
+    query: &LazyQuery,
+    instance: &Instance,
+) -> Result<Meaning, ProgramRefusal>
+    requires sound { Sound query.now }
+    requires over { instance.now.schema ≡ query.now.source }
+    ensures stands { IfOk result (λ meaning. Stands (an_eval name query.now instance.now.tables) (meant meaning)) }
+    ensures modelled { IfOk result (λ meaning. IsModelled (meant meaning)) }
+    ensures withholds { (depth : ℕ) → IfErr result (Withholds depth place
+        (an_eval name query.now instance.now.tables)) }
+{
+    let made = query.query(alloc)?;
+    answered_made(alloc, place, name, &made, instance)
+}
+
+/// The same of a query that is made.
+fn answered_made(
     alloc: Global,
     place: Place,
     name: Name,
@@ -157,6 +193,27 @@ fn too_many(place: Place, query: &Query, entity: u32) -> ProgramRefusal
 /// The freest instance of the source of a query that has the rows of an instance among its answers, made of rows up to
 /// a depth.
 pub fn read_backwards(
+    alloc: Global,
+    place: Place,
+    name: Name,
+    query: &LazyQuery,
+    instance: &Instance,
+    depth: u32,
+) -> Result<Meaning, ProgramRefusal>
+    requires over { instance.now.schema ≡ query.now.target }
+    requires depth { depth ≤ 64 }
+    ensures stands { IfOk result (λ meaning. Stands
+        (a_made name query.now.source (coeval_of query.now instance.now.tables)) (meant meaning)) }
+    ensures modelled { IfOk result (λ meaning. IsModelled (meant meaning)) }
+    ensures withholds { IfErr result (Withholds depth place
+        (a_made name query.now.source (coeval_of query.now instance.now.tables))) }
+{
+    let made = query.query(alloc)?;
+    read_made(alloc, place, name, &made, instance, depth)
+}
+
+/// The same of a query that is made.
+fn read_made(
     alloc: Global,
     place: Place,
     name: Name,

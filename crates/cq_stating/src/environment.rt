@@ -9,8 +9,8 @@ use crate::moved::Moved;
 use crate::reason::{ProgramRefusal, Reason};
 use cq_base::{Hashing, Name, Seq};
 use cq_instance::{Instance, Transform};
+use cq_lazy::LazyQuery;
 use cq_mapping::Mapping;
-use cq_query::Query;
 use cq_syntax::Spot;
 use cq_theory::{Schema, Typeside};
 use indexmap::IndexMap;
@@ -99,7 +99,7 @@ pub enum Meaning {
     Schema(NamedSchema),
     Colimit(NamedColimit),
     Mapping(Name, Name, Rc<Mapping>),
-    Query(Name, Name, Rc<Query>),
+    Query(Name, Name, Rc<LazyQuery>),
     Instance(Name, Rc<Instance>),
     Transform(NamedTransform),
 }

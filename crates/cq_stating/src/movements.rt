@@ -16,8 +16,8 @@ use crate::transforms::named_ends;
 use crate::used::{instance_of, mapping_of, query_of, transform_of};
 use cq_base::Name;
 use cq_instance::Instance;
+use cq_lazy::LazyQuery;
 use cq_mapping::Mapping;
-use cq_query::Query;
 use cq_syntax::{MoveForm, Spot};
 use std::rc::Rc;
 
@@ -26,8 +26,8 @@ use std::rc::Rc;
 pub enum Route {
     Sigma(Rc<Mapping>),
     Delta(Rc<Mapping>),
-    Eval(Rc<Query>),
-    Coeval(Rc<Query>),
+    Eval(Rc<LazyQuery>),
+    Coeval(Rc<LazyQuery>),
 }
 
 /// A route, with the name under which the schema is printed whose instances it moves.

@@ -21,6 +21,7 @@ use crate::reason::{ProgramRefusal, Reason};
 use crate::transforms::{BrokenImages, pose_identical, pose_transform};
 use cq_base::{Name, Place, Seq};
 use cq_instance::{Instance, Transform};
+use cq_lazy::LazyQuery;
 use cq_mapping::Mapping;
 use cq_parts::{
     instance_parts, instance_places, mapping_parts, mapping_places, schema_parts, schema_places,
@@ -51,13 +52,13 @@ pub enum Statement {
     Colimit(NamedColimit),
     Inclusion(Name, Name, Rc<Mapping>),
     Query(Name, Name, Query),
-    Composite(Name, Name, Rc<Query>, Rc<Query>),
+    Composite(Name, Name, Rc<LazyQuery>, Rc<LazyQuery>),
     MappingQuery(Name, Name, Rc<Mapping>),
     Presentation(Name, Rc<Schema>, Presentation),
     Delta(Name, Rc<Mapping>, Rc<Instance>),
     Sigma(Name, Rc<Mapping>, Rc<Instance>),
-    Eval(Name, Rc<Query>, Rc<Instance>),
-    Coeval(Name, Rc<Query>, Rc<Instance>),
+    Eval(Name, Rc<LazyQuery>, Rc<Instance>),
+    Coeval(Name, Rc<LazyQuery>, Rc<Instance>),
     Coproduct(Name, Rc<Schema>, Seq<Rc<Instance>>),
     Pushout(NamedTransform, NamedTransform),
     Transform(NamedEnds, Transform),

@@ -11,8 +11,8 @@ use crate::environment::{
 use crate::reason::ProgramRefusal;
 use cq_base::Name;
 use cq_instance::Instance;
+use cq_lazy::LazyQuery;
 use cq_mapping::Mapping;
-use cq_query::Query;
 use cq_syntax::Spot;
 use std::alloc::AllocError;
 use std::rc::Rc;
@@ -30,7 +30,7 @@ pub(crate) struct NamedMapping {
 pub(crate) struct NamedQuery {
     pub source: Name,
     pub target: Name,
-    pub query: Rc<Query>,
+    pub query: Rc<LazyQuery>,
 }
 
 /// The mapping for which a used name stands.
@@ -131,7 +131,11 @@ fn named_mapping(
     })
 }
 
-fn named_query(source: &Name, target: &Name, query: &Rc<Query>) -> Result<NamedQuery, AllocError>
+fn named_query(
+    source: &Name,
+    target: &Name,
+    query: &Rc<LazyQuery>,
+) -> Result<NamedQuery, AllocError>
     ensures { IfOk result (λ named. query_meant named
         ≡ record { source = source.now; target = target.now; query = query.now.value }) }
 {

@@ -11,7 +11,7 @@ use Rattle.cq_syntax.specs.declared.program.Program.{Program}
 use Rattle.cq_stating.specs.declared.environment.Environment.{Environment as TheEnvironment}
 use Rattle.cq_stating.specs.declared.reason.ProgramRefusal.{ProgramRefusal}
 use Rattle.cq_stating.specs.declared.reason.ProgramRefusal.TheVariants as program_refusal
-use Rattle.cq_stating.specs.Environment.{AreSettled, Entry, environment_of}
+use Rattle.cq_stating.specs.Environment.{AreSettled, environment_of}
 use Rattle.cq_stating.specs.Folders.{LacksFile, Told}
 use Rattle.cq_stating.specs.Meanings.{Environment}
 use Rattle.cq_program.specs.Judging.{RefusesDecl}
@@ -25,12 +25,12 @@ use Rattle.cq_stopped.specs.Stop.{IsFaultOf, IsStopped, LacksSome, MeetRules, St
 abbrev pub Walked : ℕ → Told → Program → Result (Option Stop) AllocError → Type 0
 Walked depth told program result = IfOk result (λ stop. MatchOption stop (MeetRules told program) (StopsAt depth told program))
 
--- what is known when a declaration is refused: those before it are walked over, and the names are as they were
+-- what is known when a declaration is refused: those before it are walked over, and the names stand for what they stood for
 pub record IsRefusedAt (told : Told) (program : Program) (n : ℕ) (d : Decl) (before after : TheEnvironment) : Type 0 where
   pub there : slice_get program.decls n ≡ Some d
   pub follow : Follow told [] (take n program.decls) (environment_of before.names.entries)
   pub settled : AreSettled (environment_of before.names.entries)
-  pub same : after.names.entries ≡ before.names.entries
+  pub same : environment_of after.names.entries ≡ environment_of before.names.entries
 
 stops : (depth : ℕ) (told : Told) (program : Program) (n : ℕ) (d : Decl) (before after : TheEnvironment) (fault : Fault)
     → IsRefusedAt told program n d before after → IsFaultOf depth told (environment_of before.names.entries) d fault
@@ -39,16 +39,16 @@ stops depth told program n d before after fault at is =
     record {
       declared = d;
       is_at = at.there;
-      follow = subst (λ (es : List Entry). Follow told [] (take n program.decls) (environment_of es)) (sym at.same) at.follow;
-      settled = subst (λ (es : List Entry). AreSettled (environment_of es)) (sym at.same) at.settled;
-      fault = subst (λ (es : List Entry). IsFaultOf depth told (environment_of es) d fault) (sym at.same) is;
+      follow = subst (λ (env : Environment). Follow told [] (take n program.decls) env) (sym at.same) at.follow;
+      settled = subst (λ (env : Environment). AreSettled env) (sym at.same) at.settled;
+      fault = subst (λ (env : Environment). IsFaultOf depth told env d fault) (sym at.same) is;
     }
 
 -- the declaration in turn is refused
 pub refused_at : (told : Told) (program : Program) (slice : List Decl) (i n : ℕ) (d : Decl) (before after : TheEnvironment)
     → slice ≡ program.decls → i < length slice → d ≡ get_or slice i d → n ≡ i
     → Follow told [] (take i slice) (environment_of before.names.entries) → AreSettled (environment_of before.names.entries)
-    → after.names.entries ≡ before.names.entries → IsRefusedAt told program n d before after
+    → environment_of after.names.entries ≡ environment_of before.names.entries → IsRefusedAt told program n d before after
 refused_at told program slice i n d before after are inside is at follow settled same =
     let found : slice_get slice i ≡ Some d = slice_get-get_or slice i d inside ∙ ap (λ (x : Decl). Some x) (sym is) in
     let walked : take i slice ≡ take n program.decls = ap (take i) are ∙ ap (λ (k : ℕ). take k program.decls) (sym at) in

@@ -325,3 +325,16 @@ fn a_null_is_the_value_of_a_function_at_itself(rt: HostRuntime) {
     let found = closed_given(&rt, rt.alloc(), &AT_ITSELF, &[(0, 1)]);
     assert!(rt; is_at_itself(&found), "{found:?}");
 }
+
+/// A function at a node that stands behind it, and an equation with a node that isn't there.
+#[test]
+fn only_earlier_nodes_are_closed(rt: HostRuntime) {
+    let alloc = rt.alloc();
+    let at_itself = nodes_of(&rt, alloc, &[Given::Fun(0, &[0])]);
+    let one_leaf = nodes_of(&rt, alloc, &[Given::Leaf]);
+    assert!(rt;
+        !Flat::can_close(at_itself.as_slice(), &[])
+            && !Flat::can_close(one_leaf.as_slice(), &[(0, 1)])
+            && Flat::can_close(one_leaf.as_slice(), &[(0, 0)])
+    );
+}

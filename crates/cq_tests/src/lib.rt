@@ -1,6 +1,6 @@
 //! Tests of calls that no text of the language shows alone: names, tokens, tables and words; folders, sinks and
-//! exporters; closures, which are compared with a slow one (`slow`); and rows, steps, instances and transforms over
-//! theories that are read from texts (`given`).
+//! exporters; closures, which are compared with a slow one (`slow`); and terms, rows, steps, instances and transforms
+//! over theories that are read from texts (`given`).
 #![tactic(auto)]
 
 #[cfg(test)]
@@ -25,6 +25,8 @@ mod rows;
 mod slow;
 #[cfg(test)]
 mod steps;
+#[cfg(test)]
+mod symbols;
 #[cfg(test)]
 mod tables;
 #[cfg(test)]

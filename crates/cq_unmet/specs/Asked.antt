@@ -1,11 +1,10 @@
 -- A duty by its number.
-use Rattle.std.specs.Prelude.{ℕ, Some, ◌≡◌, length, slice_get, ◌≤◌}
+use Rattle.std.specs.Prelude.{ℕ, Some, ◌≡◌, slice_get}
 use Rattle.cq_mapping.specs.Duties.{duties_of}
 use Rattle.cq_mapping.specs.MappingData.{MappingData as Mapping}
 use Rattle.cq_mapping.specs.declared.duties.Duty.{Duty}
 use Rattle.cq_query.specs.Duties.{all_duties, frozen}
 use Rattle.cq_query.specs.QueryData.{QueryData as Query}
-use Rattle.cq_theory.specs.declared.presentation.Equation.{Equation}
 use Rattle.cq_theory.specs.Presentation.{IsPresentation}
 use Rattle.cq_witness.specs.Paths.{over}
 use Rattle.cq_unmet.specs.declared.duties.Asked.{Asked}

@@ -1,5 +1,5 @@
 //! A duty by its number.
-ghost use Rattle.std.specs.Prelude.{ℕ, ◌≡◌, ◌≤◌, ◌<◌, ◌+◌, ◌-◌, IfOk, MatchOption, Some, length, slice_get};
+ghost use Rattle.std.specs.Prelude.{ℕ, ◌≡◌, ◌≤◌, ◌<◌, ◌+◌, IfOk, MatchOption, Some, length, slice_get};
 ghost use Rattle.cq_mapping.specs.Duties.{duties_of};
 ghost use Rattle.cq_query.specs.Duties.{all_duties, duties as duties_at, duties_below};
 ghost use Rattle.cq_unmet.specs.Asked.{IsMappingDuty, IsQueryDuty};
@@ -55,20 +55,20 @@ fn asked_of(alloc: Global, mapping: &Mapping, duty: Duty) -> Result<Asked, Alloc
     Ok(Asked { over, equation })
 }
 
-/// The duty of a mapping at this place.
-fn mapping_duty_at(
+/// The duty of a mapping with this number, from 0. None exactly where there are no more duties.
+pub fn mapping_duty(
     alloc: Global,
     mapping: &Mapping,
-    place: u64,
+    number: u64,
 ) -> Result<Option<Asked>, AllocError>
-    ensures { IfOk result (λ found. MatchOption found (length (duties_of mapping.now) ≤ place)
-        (IsMappingDuty mapping.now place)) }
+    ensures { IfOk result (λ found. MatchOption found (length (duties_of mapping.now) ≤ number)
+        (IsMappingDuty mapping.now number)) }
 {
     let mut duties = mapping.duties(alloc)?;
-    if place >= duties.len() as u64 {
+    if number >= duties.len() as u64 {
         return Ok(None);
     }
-    let duty = duties.remove(place as usize);
+    let duty = duties.remove(number as usize);
     let asked = asked_of(alloc, mapping, duty)?;
     Ok(Some(asked))
 }
@@ -91,8 +91,8 @@ fn asked_at(
     Ok(Asked { over, equation })
 }
 
-/// The duty of a query at this place among those of all entities.
-fn query_duty_at(alloc: Global, query: &Query, number: u64) -> Result<Option<Asked>, AllocError>
+/// The duty of a query with this number, from 0, through all entities. None exactly where there are no more duties.
+pub fn query_duty(alloc: Global, query: &Query, number: u64) -> Result<Option<Asked>, AllocError>
     ensures { IfOk result (λ found. MatchOption found (length (all_duties query.now) ≤ number)
         (IsQueryDuty query.now number)) }
 {
@@ -109,26 +109,4 @@ fn query_duty_at(alloc: Global, query: &Query, number: u64) -> Result<Option<Ask
         before += count;
     }
     Ok(None)
-}
-
-/// The duty of a mapping with this number, from 1. None exactly where there are no more duties.
-pub fn mapping_duty(
-    alloc: Global,
-    mapping: &Mapping,
-    number: u64,
-) -> Result<Option<Asked>, AllocError>
-    ensures { IfOk result (λ found. MatchOption found (length (duties_of mapping.now) ≤ number - 1)
-        (IsMappingDuty mapping.now (number - 1))) }
-{
-    let place = number.saturating_sub(1);
-    mapping_duty_at(alloc, mapping, place)
-}
-
-/// The duty of a query with this number, from 1, through all entities. None exactly where there are no more duties.
-pub fn query_duty(alloc: Global, query: &Query, number: u64) -> Result<Option<Asked>, AllocError>
-    ensures { IfOk result (λ found. MatchOption found (length (all_duties query.now) ≤ number - 1)
-        (IsQueryDuty query.now (number - 1))) }
-{
-    let place = number.saturating_sub(1);
-    query_duty_at(alloc, query, place)
 }

@@ -7,7 +7,7 @@ use crate::duties::Asked;
 use cq_explain::push_equation;
 use cq_model::{BuildRefusal, build};
 use cq_theory::Schema;
-use cq_witness::append_sides;
+use cq_witness::{Phrase, append_phrase, append_sides};
 use std::alloc::{AllocError, Global};
 use std::rc::Rc;
 
@@ -16,9 +16,9 @@ pub fn append_duty(out: &mut Vec<u8>, schema: &Schema, asked: &Asked) -> Result<
     ensures { OnOk result (out.new.items ≡ out.old.items
         ++ duty_text schema.now asked.now.over asked.now.equation) }
 {
-    out.extend_from_slice(b"It would have to follow that ")?;
+    append_phrase(out, Phrase::Follow)?;
     push_equation(schema, &asked.over, &asked.equation, out)?;
-    out.extend_from_slice(b"\n")?;
+    append_phrase(out, Phrase::LineEnd)?;
     Ok(())
 }
 

@@ -1,3 +1,4 @@
 pub mod Told
 pub mod Meant
 pub mod Naming
+pub mod Kept

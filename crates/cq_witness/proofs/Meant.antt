@@ -1,9 +1,9 @@
 -- What terms mean in an instance has a name or a text.
-use Rattle.std.proofs.Common.{ℕ, List, [], Option, Some, None, true, ◌≡◌, ◌<◌, ◌≤◌, length, refl, sym, ap, ◌∙◌, arith, inl, inr}
-use Rattle.std.specs.Prelude.{slice_index, slice_get}
+use Rattle.std.proofs.Common.{ℕ, [], Some, None, true, ◌≡◌, ◌<◌, length, ◌∙◌, arith, inl, inr}
+use Rattle.std.specs.Prelude.{slice_index}
 use Rattle.std.proofs.lemmas.Bool.{cases_lt}
 use Rattle.std.proofs.lemmas.List.{get_or_past}
-use Rattle.cq_instance.proofs.OnWay.{ground_entity, ground_type}
+use Rattle.cq_instance.proofs.OnWay.{ground_entity}
 use Rattle.cq_instance.specs.InstanceData.{InstanceData, IsInstance}
 use Rattle.cq_text.proofs.Typed.{named_if_typed}
 use Rattle.cq_theory.proofs.Typing.{value_typed}
@@ -14,7 +14,8 @@ use Rattle.cq_theory.specs.declared.term.EntTerm.{EntTerm}
 use Rattle.cq_theory.specs.declared.term.TypeTerm.{TypeTerm}
 use Rattle.cq_theory.specs.declared.term.Term.TheVariants.{Ent, Typ}
 use Rattle.cq_theory.specs.Sorts.{IsGround, entity_of, type_of}
-use Rattle.cq_theory.specs.Tables.{count_of, value_of, Holds}
+use Rattle.cq_theory.specs.Tables.{AtRow, AtValue, count_of, value_of, Holds}
+use Rattle.cq_theory.specs.declared.value.Value.{Value}
 use Rattle.cq_theory.specs.ValueText.{is_named}
 
 -- an entity that has a row is one of the schema
@@ -44,3 +45,9 @@ meant_named i t h ground =
     let type = map_some Plain (type_of i.schema i.presentation.generators t) ground.0 ground.1 in
     named_if_typed i.schema i.tables.algebra.nulls (value_of i.tables i.assignment t) type.0
     (value_typed i.schema P i.tables i.assignment holds t type.0 type.1)
+
+pub same_row : (r s : ℕ) → AtRow r ≡ AtRow s → r ≡ s
+same_row r s h = cc
+
+pub same_value : (v w : Value) → AtValue v ≡ AtValue w → v ≡ w
+same_value v w h = cc

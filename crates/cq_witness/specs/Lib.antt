@@ -1,3 +1,4 @@
+pub mod Phrases
 pub mod Paths
 pub mod Depth
 pub mod Rows

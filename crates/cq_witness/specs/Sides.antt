@@ -1,8 +1,7 @@
 -- What the two sides of an equation lead to in an instance.
-use Rattle.std.specs.Prelude.{ℕ, List, ◌++◌, ◌≡◌, codes, unwrap_or}
+use Rattle.std.specs.Prelude.{ℕ, List, ◌++◌, ◌≡◌, unwrap_or}
 use Rattle.cq_explain.specs.Explanation.{ent_text}
 use Rattle.cq_instance.specs.InstanceData.{InstanceData, name_at}
-use Rattle.cq_text.specs.Transcript.{line}
 use Rattle.cq_theory.specs.declared.term.EntTerm.{EntTerm}
 use Rattle.cq_theory.specs.declared.term.TypeTerm.{TypeTerm}
 use Rattle.cq_theory.specs.declared.term.Term.{Term}
@@ -11,6 +10,8 @@ use Rattle.cq_theory.specs.Sorts.{entity_of, IsGround}
 use Rattle.cq_theory.specs.Tables.{meaning_of, row_of, value_of}
 use Rattle.cq_theory.specs.ValueText.{value_text}
 use Rattle.cq_theory.specs.declared.value.Value.{Value}
+use Rattle.cq_witness.specs.Phrases.{words}
+use Rattle.cq_witness.specs.declared.phrases.Phrase.TheVariants as phrase
 
 module _ (i : InstanceData) where
   -- the least name of the row to which a term leads
@@ -20,12 +21,14 @@ module _ (i : InstanceData) where
   -- two rows by these names
   abbrev pub names_text : EntTerm → EntTerm → List ℕ
   names_text first second =
-      line (codes "  two rows: " ++ ent_text i.schema i.presentation first ++ codes " and " ++ ent_text i.schema i.presentation second)
+      words phrase.TwoRows ++ ent_text i.schema i.presentation first ++ words phrase.And ++ ent_text i.schema i.presentation second
+      ++ words phrase.LineEnd
 
   -- two values by their texts
   abbrev pub two_values_text : Value → Value → List ℕ
   two_values_text first second =
-      line (codes "  two values: " ++ value_text i.schema.typeside first ++ codes " and " ++ value_text i.schema.typeside second)
+      words phrase.TwoValues ++ value_text i.schema.typeside first ++ words phrase.And ++ value_text i.schema.typeside second
+      ++ words phrase.LineEnd
 
   -- the rows to which two terms lead, and the values
   abbrev pub rows_text : EntTerm → EntTerm → List ℕ

@@ -1,8 +1,9 @@
 //! Images of a transform that don't keep an equation.
-ghost use Rattle.std.specs.Prelude.{◌≡◌, ◌-◌, ◌++◌, OnOk, option_copied, slice_get};
+ghost use Rattle.std.specs.Prelude.{◌≡◌, ◌++◌, OnOk, option_copied, slice_get};
 ghost use Rattle.cq_witness.specs.Broken.{kept_text, named_text, TellsBroken};
 
 use crate::images::{images_of, put_equation};
+use crate::phrases::{Phrase, append_phrase};
 use crate::sides::append_sides;
 use cq_base::{Name, Raw};
 use cq_explain::{push_equation, push_ordinal};
@@ -31,9 +32,9 @@ fn append_equation(
     let schema = instance.schema();
     let presentation = instance.presentation();
     out.extend_from_slice(name.as_str().as_bytes())?;
-    out.extend_from_slice(b": ")?;
+    append_phrase(out, Phrase::Colon)?;
     push_equation(schema, presentation, equation, out)?;
-    out.extend_from_slice(b"\n")?;
+    append_phrase(out, Phrase::LineEnd)?;
     Ok(())
 }
 
@@ -48,11 +49,11 @@ fn append_kept(
     ensures { OnOk result (out.new.items ≡ out.old.items ++ kept_text ends.now.source.now ends.now.target.now
         ends.now.start.now ends.now.finish.now place equation.now image.now) }
 {
-    out.extend_from_slice(b"Equation ")?;
+    append_phrase(out, Phrase::Equation)?;
     push_ordinal(place, out)?;
-    out.extend_from_slice(b" of ")?;
+    append_phrase(out, Phrase::Of)?;
     append_equation(out, ends.source, ends.start, equation)?;
-    out.extend_from_slice(b"Its image in ")?;
+    append_phrase(out, Phrase::Image)?;
     append_equation(out, ends.target, ends.finish, image)?;
     Ok(())
 }
@@ -64,33 +65,7 @@ fn equation_at(instance: &Instance, place: u64) -> Option<&Equation>
     instance.presentation().equations.as_slice().get(place as usize)
 }
 
-/// Appends the equation at a place, its image, and what the sides of the image lead to.
-fn append_at(
-    alloc: Global,
-    out: &mut Vec<u8>,
-    ends: &Ends,
-    parts: &[(Name, Raw)],
-    place: u64,
-) -> Result<(), AllocError>
-    ensures { OnOk result (TellsBroken ends.now.source.now ends.now.target.now ends.now.start.now ends.now.finish.now
-        parts.now place out.old.items out.new.items) }
-{
-    let Some(equation) = equation_at(ends.start, place) else {
-        return Ok(());
-    };
-    let Some(images) = images_of(alloc, ends.start, ends.finish, parts)? else {
-        return Ok(());
-    };
-    let image = put_equation(alloc, &images, equation)?;
-    append_kept(out, ends, place, equation, &image)?;
-    append_sides(alloc, out, ends.finish, &image)?;
-    out.extend_from_slice(
-        b"To mend it: give its generators other images, or state the image in that instance.\n",
-    )?;
-    Ok(())
-}
-
-/// Appends the equation with a number, from 1, of the instance from which images go; its image in the one to which they
+/// Appends the equation with a number, from 0, of the instance from which images go; its image in the one to which they
 /// go; and the two rows, by their least names, or the two values to which the sides of the image lead there. The images
 /// are those that the parts give. Nothing is appended where there is no such equation.
 pub fn append_broken(
@@ -101,8 +76,17 @@ pub fn append_broken(
     number: u64,
 ) -> Result<(), AllocError>
     ensures { OnOk result (TellsBroken ends.now.source.now ends.now.target.now ends.now.start.now ends.now.finish.now
-        parts.now (number - 1) out.old.items out.new.items) }
+        parts.now number out.old.items out.new.items) }
 {
-    let place = number.saturating_sub(1);
-    append_at(alloc, out, ends, parts, place)
+    let Some(equation) = equation_at(ends.start, number) else {
+        return Ok(());
+    };
+    let Some(images) = images_of(alloc, ends.start, ends.finish, parts)? else {
+        return Ok(());
+    };
+    let image = put_equation(alloc, &images, equation)?;
+    append_kept(out, ends, number, equation, &image)?;
+    append_sides(alloc, out, ends.finish, &image)?;
+    append_phrase(out, Phrase::OtherImages)?;
+    Ok(())
 }

@@ -3,13 +3,15 @@ ghost use Rattle.std.specs.Prelude.{List, ℕ, ◌≡◌, ◌≤◌, ◌++◌, E
 ghost use Rattle.cq_rows.specs.Saturated.{IsSaturated, SomeWide};
 ghost use Rattle.cq_rows.specs.declared.grow.RowsRefusal.TheVariants.{TooManyRows};
 ghost use Rattle.cq_theory.specs.Presentation.{IsPresentation};
-ghost use Rattle.cq_witness.specs.Depth.{edge_source, end_text, first_step as step_of_term, new_text, other_text};
+ghost use Rattle.cq_witness.specs.Depth.{edge_source, end_text, first_key as first_key_of, first_step as step_of_term, new_text, other_text};
 ghost use Rattle.cq_witness.specs.Depth.{path_source as source_of_path, repeat_text, rule_text, IsTermTold};
 ghost use Rattle.cq_witness.specs.Depth.{TellsDepth};
 
 use crate::paths::{over, path_equation, path_term};
+use crate::phrases::{Phrase, append_phrase};
+use crate::terms::append_entity_term;
 use cq_base::Seq;
-use cq_explain::{push_entity_term, push_equation};
+use cq_explain::push_equation;
 use cq_growth::{first_new, repeated_keys};
 use cq_rows::{Outline, Partial, RowsRefusal, saturate_over};
 use cq_text::push_number;
@@ -36,11 +38,21 @@ fn path_source(keys: &[Edge], path: &[u32]) -> u32
     }
 }
 
+/// The first key of a path, if it has one.
+fn first_key(alloc: Global, path: &[u32]) -> Result<Vec<u32>, AllocError>
+    ensures { IfOk result (λ made. made.items ≡ first_key_of path.now) }
+{
+    match path {
+        [key, ..] => Ok(vec![in alloc; *key]?),
+        [] => Ok(Vec::new(alloc)),
+    }
+}
+
 /// A term's generator, and at most one key.
 fn first_step(alloc: Global, term: &EntTerm) -> Result<EntTerm, AllocError>
     ensures { IfOk result (λ made. made ≡ step_of_term term.now) }
 {
-    let path: Vec<u32> = term.path.as_slice().iter().copied().take(1).collect(alloc)?;
+    let path = first_key(alloc, term.path.as_slice())?;
     Ok(EntTerm {
         generator: term.generator,
         path: Seq::from_vec(path),
@@ -56,11 +68,11 @@ fn append_new(
 ) -> Result<(), AllocError>
     ensures { OnOk result (out.new.items ≡ out.old.items ++ new_text schema.now presentation.now term.now) }
 {
-    out.extend_from_slice(b"Still new with ")?;
+    append_phrase(out, Phrase::StillNew)?;
     push_number(term.path.len() as u64, out)?;
-    out.extend_from_slice(b" keys:\n  ")?;
-    push_entity_term(schema, presentation, term, out)?;
-    out.extend_from_slice(b"\n")?;
+    append_phrase(out, Phrase::Keys)?;
+    append_entity_term(out, schema, presentation, term)?;
+    append_phrase(out, Phrase::LineEnd)?;
     Ok(())
 }
 
@@ -75,9 +87,9 @@ fn append_repeat(
 {
     let over = over(alloc, schema, path_source(schema.keys.as_slice(), block))?;
     let term = path_term(alloc, block)?;
-    out.extend_from_slice(b"It goes on along ")?;
-    push_entity_term(schema, &over, &term, out)?;
-    out.extend_from_slice(b", again and again.\n")?;
+    append_phrase(out, Phrase::GoesOn)?;
+    append_entity_term(out, schema, &over, &term)?;
+    append_phrase(out, Phrase::Again)?;
     Ok(())
 }
 
@@ -102,9 +114,9 @@ fn append_rule(
     let over = over(alloc, schema, path_source(schema.keys.as_slice(), block))?;
     let longer = twice(alloc, block)?;
     let equation = path_equation(alloc, &longer, block)?;
-    out.extend_from_slice(b"  ")?;
+    append_phrase(out, Phrase::Indent)?;
     push_equation(schema, &over, &equation, out)?;
-    out.extend_from_slice(b"\n")?;
+    append_phrase(out, Phrase::LineEnd)?;
     Ok(())
 }
 
@@ -119,9 +131,9 @@ fn append_end(
     ensures { OnOk result (out.new.items ≡ out.old.items ++ end_text schema.now presentation.now term.now) }
 {
     let first = first_step(alloc, term)?;
-    out.extend_from_slice(b"To mend it: say by an equation which row ")?;
-    push_entity_term(schema, presentation, &first, out)?;
-    out.extend_from_slice(b" is, or end all such rows by a path equation of the schema:\n")?;
+    append_phrase(out, Phrase::SayWhich)?;
+    append_entity_term(out, schema, presentation, &first)?;
+    append_phrase(out, Phrase::OrEnd)?;
     Ok(())
 }
 
@@ -136,9 +148,9 @@ fn append_other(
     ensures { OnOk result (out.new.items ≡ out.old.items ++ other_text schema.now presentation.now term.now) }
 {
     let first = first_step(alloc, term)?;
-    out.extend_from_slice(b"To mend it: say by an equation which row ")?;
-    push_entity_term(schema, presentation, &first, out)?;
-    out.extend_from_slice(b" is, or ask for a greater depth.\n")?;
+    append_phrase(out, Phrase::SayWhich)?;
+    append_entity_term(out, schema, presentation, &first)?;
+    append_phrase(out, Phrase::OrDeeper)?;
     Ok(())
 }
 

@@ -5,8 +5,9 @@ ghost use Rattle.cq_growth.specs.Limits.{IsLastWithin};
 ghost use Rattle.cq_text.specs.Transcript.{name_or_empty};
 ghost use Rattle.cq_theory.specs.Presentation.{IsPresentation};
 ghost use Rattle.cq_theory.specs.declared.presentation.Presentation.{Presentation as Presented};
-ghost use Rattle.cq_witness.specs.Rows.{most_text, next_text, TellsRows};
+ghost use Rattle.cq_witness.specs.Rows.{count_text, most_text, next_text, TellsRows};
 
+use crate::phrases::{Phrase, append_phrase};
 use cq_explain::push_ordinal;
 use cq_growth::{Growth, Most, Within, last_within, most_rows};
 use cq_text::push_number;
@@ -27,6 +28,16 @@ fn append_entity(out: &mut Vec<u8>, schema: &Schema, entity: u32) -> Result<(), 
     }
 }
 
+/// Appends how many rows an entity has.
+fn append_count(out: &mut Vec<u8>, schema: &Schema, most: &Most) -> Result<(), AllocError>
+    ensures { OnOk result (out.new.items ≡ out.old.items ++ count_text schema.now most.now) }
+{
+    push_number(most.count, out)?;
+    append_phrase(out, Phrase::RowsOf)?;
+    append_entity(out, schema, most.entity)?;
+    Ok(())
+}
+
 /// Appends which entity has most rows at a depth, and how many.
 fn append_most(
     out: &mut Vec<u8>,
@@ -36,13 +47,11 @@ fn append_most(
 ) -> Result<(), AllocError>
     ensures { OnOk result (out.new.items ≡ out.old.items ++ most_text schema.now depth most.now) }
 {
-    out.extend_from_slice(b"With terms of depth ")?;
-    push_number(u64::from(depth), out)?;
-    out.extend_from_slice(b" there are ")?;
-    push_number(most.count, out)?;
-    out.extend_from_slice(b" rows of ")?;
-    append_entity(out, schema, most.entity)?;
-    out.extend_from_slice(b", and of no entity more.\n")?;
+    append_phrase(out, Phrase::OfDepth)?;
+    push_number(depth as u64, out)?;
+    append_phrase(out, Phrase::ThereAre)?;
+    append_count(out, schema, most)?;
+    append_phrase(out, Phrase::NoneMore)?;
     Ok(())
 }
 
@@ -55,11 +64,11 @@ fn append_next(
 ) -> Result<(), AllocError>
     ensures { OnOk result (out.new.items ≡ out.old.items ++ next_text schema.now depth most.now) }
 {
-    out.extend_from_slice(b"With depth ")?;
-    push_ordinal(u64::from(depth), out)?;
-    out.extend_from_slice(b" there are over 200000 rows in all.\nTo mend it: say by equations where the keys of ")?;
+    append_phrase(out, Phrase::WithDepth)?;
+    push_ordinal(depth as u64, out)?;
+    append_phrase(out, Phrase::TooMany)?;
     append_entity(out, schema, most.entity)?;
-    out.extend_from_slice(b" lead, so that fewer rows are new, or split the instance.\n")?;
+    append_phrase(out, Phrase::Split)?;
     Ok(())
 }
 
@@ -113,9 +122,7 @@ pub fn append_rows(
             Ok(())
         }
         Growth::AtOnce => {
-            out.extend_from_slice(
-                b"The generators alone are over 200000 rows.\nTo mend it: split the instance.\n",
-            )?;
+            append_phrase(out, Phrase::AtOnce)?;
             Ok(())
         }
     }

@@ -1,15 +1,17 @@
 //! What the two sides of an equation lead to in an instance.
 ghost use Rattle.std.specs.Prelude.{◌≡◌, ◌++◌, true, IfOk, MatchOption, OnOk, slice_get};
+ghost use Rattle.cq_explain.specs.Explanation.{ent_text};
 ghost use Rattle.cq_theory.specs.Derivation.{left_of, right_of};
 ghost use Rattle.cq_theory.specs.Sorts.{entity_at as entity_of_generator, entity_of as entity_of_term};
 ghost use Rattle.cq_theory.specs.Sorts.{followed as followed_by, target_of as target_by, IsGround};
 ghost use Rattle.cq_theory.specs.Tables.{value_of as value_meant};
-ghost use Rattle.cq_theory.specs.ValueText.{is_named};
+ghost use Rattle.cq_theory.specs.ValueText.{is_named, value_text};
 ghost use Rattle.cq_theory.specs.declared.term.Term.TheVariants.{Ent, Typ};
 ghost use Rattle.cq_witness.specs.Sides.{names_text, row_name as name_of_row, two_values_text, TellsSides};
 
+use crate::phrases::{Phrase, append_phrase};
+use crate::terms::append_entity_term;
 use cq_base::Name;
-use cq_explain::push_entity_term;
 use cq_instance::Instance;
 use cq_steps::side::Side;
 use cq_steps::sorts::is_ground;
@@ -74,6 +76,17 @@ fn row_name<'a>(instance: &'a Instance, term: &EntTerm) -> Option<&'a EntTerm>
     Some(instance.name_of(entity, row))
 }
 
+/// Appends the name of a row.
+fn append_name(out: &mut Vec<u8>, instance: &Instance, name: &EntTerm) -> Result<(), AllocError>
+    ensures { OnOk result (out.new.items ≡ out.old.items
+        ++ ent_text instance.now.schema instance.now.presentation name.now) }
+{
+    let schema = instance.schema();
+    let presentation = instance.presentation();
+    append_entity_term(out, schema, presentation, name)?;
+    Ok(())
+}
+
 /// Appends two rows by their names.
 fn append_names(
     out: &mut Vec<u8>,
@@ -83,13 +96,11 @@ fn append_names(
 ) -> Result<(), AllocError>
     ensures { OnOk result (out.new.items ≡ out.old.items ++ names_text instance.now first.now second.now) }
 {
-    let schema = instance.schema();
-    let presentation = instance.presentation();
-    out.extend_from_slice(b"  two rows: ")?;
-    push_entity_term(schema, presentation, first, out)?;
-    out.extend_from_slice(b" and ")?;
-    push_entity_term(schema, presentation, second, out)?;
-    out.extend_from_slice(b"\n")?;
+    append_phrase(out, Phrase::TwoRows)?;
+    append_name(out, instance, first)?;
+    append_phrase(out, Phrase::And)?;
+    append_name(out, instance, second)?;
+    append_phrase(out, Phrase::LineEnd)?;
     Ok(())
 }
 
@@ -133,6 +144,16 @@ fn value_in(
     Ok(Some(value))
 }
 
+/// Appends the text of a value.
+fn append_value(out: &mut Vec<u8>, instance: &Instance, value: &Value) -> Result<(), AllocError>
+    requires { is_named instance.now.schema.typeside value.now ≡ true }
+    ensures { OnOk result (out.new.items ≡ out.old.items ++ value_text instance.now.schema.typeside value.now) }
+{
+    let schema = instance.schema();
+    push_value(&schema.typeside, value, out)?;
+    Ok(())
+}
+
 /// Appends two values.
 fn append_texts(
     out: &mut Vec<u8>,
@@ -145,12 +166,11 @@ fn append_texts(
     ensures { OnOk result (out.new.items ≡ out.old.items
         ++ two_values_text instance.now first.now second.now) }
 {
-    let schema = instance.schema();
-    out.extend_from_slice(b"  two values: ")?;
-    push_value(&schema.typeside, first, out)?;
-    out.extend_from_slice(b" and ")?;
-    push_value(&schema.typeside, second, out)?;
-    out.extend_from_slice(b"\n")?;
+    append_phrase(out, Phrase::TwoValues)?;
+    append_value(out, instance, first)?;
+    append_phrase(out, Phrase::And)?;
+    append_value(out, instance, second)?;
+    append_phrase(out, Phrase::LineEnd)?;
     Ok(())
 }
 

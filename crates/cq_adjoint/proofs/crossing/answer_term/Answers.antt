@@ -14,7 +14,7 @@ pub name_of-requires : goal.name_of-requires
 name_of-requires c =
     let d : InstanceData = c.args.evaluated.now in
     let place : c.place_of-place.result ≡ place_of (answers_at c.args.places.now c.args.entity) c.args.rows.items =
-    c.place_of-place.ensures ∙ (λ j. place_of (c.places_at-answers.ensures j) (c.from_vec.ensures j)) in
+    c.place_of-place.ensures ∙ ap (λ (l : List (List ℕ)). place_of l c.args.rows.items) c.places_at-answers.ensures in
     let inside : c.place_of-place.result < count_of d.tables c.args.entity = subst (λ (m : ℕ). m < count_of d.tables c.args.entity) (sym place) c.requires.place in
     record { entity = entity_within d.schema d c.requires.given c.is_instance.ensures.well_formed c.args.entity c.place_of-place.result inside; row = inside }
 
@@ -22,7 +22,7 @@ pub returns : goal.returns
 returns c =
     let d : InstanceData = c.args.evaluated.now in
     let place : c.place_of-place.result ≡ place_of (answers_at c.args.places.now c.args.entity) c.args.rows.items =
-    c.place_of-place.ensures ∙ (λ j. place_of (c.places_at-answers.ensures j) (c.from_vec.ensures j)) in
+    c.place_of-place.ensures ∙ ap (λ (l : List (List ℕ)). place_of l c.args.rows.items) c.places_at-answers.ensures in
     let inside : c.place_of-place.result < count_of d.tables c.args.entity = subst (λ (m : ℕ). m < count_of d.tables c.args.entity) (sym place) c.requires.place in
     let name : c.name_of.result.now ≡ row_term d.schema d.tables c.args.entity (place_of (answers_at c.args.places.now c.args.entity) c.args.rows.items) =
     c.name_of.ensures ∙ name_is d.schema d c.requires.given c.is_instance.ensures.well_formed c.args.entity c.place_of-place.result inside ∙ ap (row_term d.schema d.tables c.args.entity) place in

@@ -6,17 +6,17 @@ use Rattle.cq_instance.specs.declared.transform.Transform.{Transform}
 use Rattle.cq_query.specs.QueryData.{QueryData as Query}
 use Rattle.cq_transform.specs.Composing.{has_long}
 use Rattle.cq_adjoint.specs.QueryMoves.{AreEvaluated, eval_images}
-use Rattle.cq_adjoint.proofs.AllAnswers.{stand_once}
+use Rattle.cq_adjoint.proofs.AllAnswers.{in_order}
 use Rattle.cq_adjoint.proofs.eval_maps.eval_map.Goals as goal
 
 pub all_places-requires : goal.all_places-requires
 all_places-requires c = λ n d within.
-    stand_once c.args.query.now c.args.source.now.tables (λ (list : Vec (Vec ℕ Global) Global). map (λ (rows : Vec ℕ Global). rows.items) list.items) c.args.from.now c.requires.evaluated.answered n _
+    in_order c.args.query.now c.args.source.now.tables (λ (list : Vec (Vec ℕ Global) Global). map (λ (rows : Vec ℕ Global). rows.items) list.items) c.args.from.now c.requires.evaluated.answered n _
     (slice_get-get_or c.args.from.now n d within)
 
 pub all_places-requires-2 : goal.all_places-requires-2
 all_places-requires-2 c = λ n d within.
-    stand_once c.args.query.now c.args.target.now.tables (λ (list : Vec (Vec ℕ Global) Global). map (λ (rows : Vec ℕ Global). rows.items) list.items) c.args.to.now c.requires.evaluated.answered_there n _
+    in_order c.args.query.now c.args.target.now.tables (λ (list : Vec (Vec ℕ Global) Global). map (λ (rows : Vec ℕ Global). rows.items) list.items) c.args.to.now c.requires.evaluated.answered_there n _
     (slice_get-get_or c.args.to.now n d within)
 
 pub mapped-requires : goal.mapped-requires

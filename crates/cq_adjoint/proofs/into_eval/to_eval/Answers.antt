@@ -8,7 +8,7 @@ use Rattle.cq_query.specs.QueryData.{QueryData as Query}
 use Rattle.cq_query.specs.Coeval.{starts, null_start}
 use Rattle.cq_transform.specs.Composing.{has_long}
 use Rattle.cq_adjoint.specs.QueryMoves.{AreAcross, to_eval_images}
-use Rattle.cq_adjoint.proofs.AllAnswers.{stand_once}
+use Rattle.cq_adjoint.proofs.AllAnswers.{in_order}
 use Rattle.cq_adjoint.proofs.CoevalTerms.{few_generators}
 use Rattle.cq_adjoint.proofs.ToEval.{all_transposed, all_one}
 use Rattle.cq_adjoint.proofs.into_eval.to_eval.Goals as goal
@@ -22,7 +22,7 @@ find_layout-requires c =
 
 pub all_places-requires : goal.all_places-requires
 all_places-requires c = λ n d within.
-    stand_once c.args.query.now c.args.target.now.tables (λ (list : Vec (Vec ℕ Global) Global). map (λ (rows : Vec ℕ Global). rows.items) list.items) c.args.answers.now c.requires.across.answered n _
+    in_order c.args.query.now c.args.target.now.tables (λ (list : Vec (Vec ℕ Global) Global). map (λ (rows : Vec ℕ Global). rows.items) list.items) c.args.answers.now c.requires.across.answered n _
     (slice_get-get_or c.args.answers.now n d within)
 
 pub crossed-requires : goal.crossed-requires

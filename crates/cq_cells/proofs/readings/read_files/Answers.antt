@@ -1,4 +1,4 @@
-use Rattle.std.proofs.Common.{◌≡◌, ◌∙◌, ap, length, arith}
+use Rattle.std.proofs.Common.{◌≡◌, ap, length, arith}
 use Rattle.cq_theory.specs.SchemaData.{SchemaData}
 use Rattle.cq_cells.proofs.Filing.{all_read}
 use Rattle.cq_cells.proofs.readings.read_files.Goals as goal

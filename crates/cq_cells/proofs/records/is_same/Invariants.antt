@@ -1,4 +1,4 @@
-use Rattle.std.proofs.Common.{◌≡◌, true, drop}
+use Rattle.std.proofs.Common.{◌≡◌, drop}
 use Rattle.csv.specs.Records.{fields_of}
 use Rattle.cq_import.specs.Rows.{same_record}
 use Rattle.cq_cells.proofs.records.is_same.Given as goal

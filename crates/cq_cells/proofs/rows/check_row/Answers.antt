@@ -1,4 +1,4 @@
-use Rattle.std.proofs.Common.{◌∷◌, ◌++◌, [], ◌≡◌, ◌∙◌, ap, subst, arith, length}
+use Rattle.std.proofs.Common.{◌∷◌, ◌++◌, [], ◌∙◌, ap, subst, arith}
 use Rattle.cq_base.specs.Names.{number_of}
 use Rattle.cq_cells.specs.Found.{found_in}
 use Rattle.cq_cells.specs.Index.{IsIndexOf}

@@ -1,4 +1,4 @@
-use Rattle.std.proofs.Common.{◌<◌, ◌≡◌, ◌∙◌, refl, sym, ap, subst, length, get_or, arith}
+use Rattle.std.proofs.Common.{◌<◌, ◌∙◌, refl, sym, ap, subst, length, arith}
 use Rattle.std.specs.Prelude.{All}
 use Rattle.cq_import.specs.Context.{IsColumn}
 use Rattle.cq_import.proofs.Entities.{columns_within}

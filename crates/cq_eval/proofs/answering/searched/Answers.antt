@@ -4,6 +4,7 @@ use Rattle.std.specs.List.{list_any}
 use Rattle.cq_theory.specs.Canonical.{below}
 use Rattle.cq_theory.specs.Groups.{positions}
 use Rattle.cq_query.specs.Answers.{IsTuple}
+use Rattle.cq_eval.specs.Border.{IsBorder}
 use Rattle.cq_eval.specs.Index.{AreIndexes}
 use Rattle.cq_eval.specs.Join.{IsLast}
 use Rattle.cq_eval.specs.Testing.{stage}
@@ -30,3 +31,10 @@ answers-requires-clause-indexed c = subst (λ (l : List ℕ). AreIndexes c.args.
 
 pub answers-requires-clause-last : goal.answers-requires-clause-last
 answers-requires-clause-last c = subst (λ (l : List ℕ). IsLast c.args.tests.now l c.last_stage-last.result) c.as_slice-3.ensures c.last_stage-last.ensures
+
+pub answers-requires-clause-long : goal.answers-requires-clause-long
+answers-requires-clause-long c = c.in_ok-borders.ensures.long ∙ ap length c.as_slice-5.ensures
+
+pub answers-requires-clause-borders : goal.answers-requires-clause-borders
+answers-requires-clause-borders c = λ bound at.
+    subst (λ (l : List ℕ). IsBorder (length l) c.args.tests.now bound) c.as_slice-5.ensures (c.in_ok-borders.ensures.borders bound at)

@@ -20,9 +20,9 @@ returns-in-Err-clause-refused c =
     let place = c.loop-place.place in
     let fields = fields_of row.fields.now in
     let column = get_or c.args.columns.now place (Attribute 0 0) in
-    let cell : RustCell = record { file = row.file; row_number = row.number; column_number = place + 2; generator = row.generator; column = column; field = c.field.result; rest = c.loop-place.rest } in
+    let cell : RustCell = record { file = row.file; row_number = row.number; column_number = place + 2; generator = row.generator; column = column; field = c.field-field.result; rest = c.loop-place.rest } in
     let here : Cell = cell_in row.file.now row.generator row.number fields (place + 2, column) in
-    let same = same_cell row.file.now c.args.columns.now row.generator row.number fields place cell column refl refl refl refl refl c.field.ensures in
+    let same = same_cell row.file.now c.args.columns.now row.generator row.number fields place cell column refl refl refl refl refl c.field-field.ensures in
     let more = row_rest-more row.file.now c.args.columns.now row.generator row.number fields place column c.loop-place-test.true (same_default c.args.columns.now place (Attribute 0 0) c.loop-place-test.true) in
     let refuses = refuses_same c.in-Err.refusal (fault_in c.args.context.now c.loop-place.made (shown_cell cell)) (fault_in c.args.context.now c.loop-place.made here)
     (ap (fault_in c.args.context.now c.loop-place.made) same) c.in-Err.ensures.refused in
@@ -35,9 +35,9 @@ loop-place-preserved c =
     let place = c.loop-place.place in
     let fields = fields_of row.fields.now in
     let column = get_or c.args.columns.now place (Attribute 0 0) in
-    let cell : RustCell = record { file = row.file; row_number = row.number; column_number = place + 2; generator = row.generator; column = column; field = c.field.result; rest = c.loop-place.rest } in
+    let cell : RustCell = record { file = row.file; row_number = row.number; column_number = place + 2; generator = row.generator; column = column; field = c.field-field.result; rest = c.loop-place.rest } in
     let here : Cell = cell_in row.file.now row.generator row.number fields (place + 2, column) in
-    let same = same_cell row.file.now c.args.columns.now row.generator row.number fields place cell column refl refl refl refl refl c.field.ensures in
+    let same = same_cell row.file.now c.args.columns.now row.generator row.number fields place cell column refl refl refl refl refl c.field-field.ensures in
     let more = row_rest-more row.file.now c.args.columns.now row.generator row.number fields place column c.loop-place-test.true (same_default c.args.columns.now place (Attribute 0 0) c.loop-place-test.true) in
     let one = reads_one c.args.context.now c.loop-place.made c.read_cell.new.made here (subst (ReadsCell c.args.context.now c.loop-place.made c.read_cell.new.made) same c.in_default.ensures.passed) in (
       reading_more c.args.context.now c.args.made.now c.loop-place.made _ _ c.loop-place.invariant.0 c.read_cell.new.made (here ∷ []) (row_rest row.file.now c.args.columns.now row.generator row.number fields (place + 1)) more one,

@@ -1,27 +1,23 @@
-use Rattle.std.proofs.Common.{◌≡◌, ◌∷◌, ◌++◌, [], subst, sym, ◌∙◌}
-use Rattle.cq_stating.specs.Meanings.{Environment, binding}
-use Rattle.cq_stating.specs.Environment.{AreSettled, environment_of, meant}
-use Rattle.cq_stating.proofs.Poses.{fresh}
-use Rattle.cq_stating.proofs.Settled.{AreSettled-more}
-use Rattle.cq_program.proofs.Known.{declared_known}
+use Rattle.std.proofs.Common.{◌≡◌, IfErr, OnErr, OnOk, sym, subst}
+use Rattle.cq_stating.specs.Meanings.{Environment}
+use Rattle.cq_stating.specs.Environment.{AreSettled, environment_of}
+use Rattle.cq_program.specs.Judging.{AddsDecl, RefusesDecl}
 use Rattle.cq_program.proofs.declarations.declare.Goals as goal
+
+pub declare_next-requires-clause-settled : goal.declare_next-requires-clause-settled
+declare_next-requires-clause-settled g c = subst AreSettled (sym c.in_ok-make_used.ensures) c.requires.settled
 
 pub returns-clause-declares : goal.returns-clause-declares
 returns-clause-declares g c =
-    let before : Environment = environment_of c.args.env.now.names.entries in
-    let m = meant c.in_ok-meaning.meaning in
-    let more : before ++ (c.in_ok-name.name, m, c.in_ok-moved.moved) ∷ [] ≡ before ++ binding c.args.decl.now m ∷ [] =
-    λ i. before ++ (c.in_ok-name.ensures.cases i, m, c.in_ok-moved.ensures i) ∷ [] in
-    (m, c.in_ok-meaning.ensures.declares, c.in_ok-add.ensures.added ∙ more)
+    subst (λ (env : Environment). OnOk c.declare_next.result (AddsDecl (g.F.Folder.state c.args.folder.now).files env c.args.decl.now (environment_of c.declare_next.new.env.names.entries))) c.in_ok-make_used.ensures
+    c.declare_next.ensures.declares
 
-pub returns-clause-settled : goal.returns-clause-settled
-returns-clause-settled g c =
-    let before : Environment = environment_of c.args.env.now.names.entries in
-    let d = c.args.decl.now in
-    let m = meant c.in_ok-meaning.meaning in
-    let more : before ++ (c.in_ok-name.name, m, c.in_ok-moved.moved) ∷ [] ≡ before ++ binding d m ∷ [] =
-    λ i. before ++ (c.in_ok-name.ensures.cases i, m, c.in_ok-moved.ensures i) ∷ [] in
-    let declares = c.in_ok-meaning.ensures.declares in
-    subst AreSettled (sym (c.in_ok-add.ensures.added ∙ more))
-    (AreSettled-more before d.name m (binding d m).2 c.requires.settled (fresh before d declares.stated declares.checked) c.in_ok-meaning.ensures.settled
-    (declared_known (g.F.Folder.state c.args.folder.now).files before d m c.requires.settled declares))
+pub returns-clause-refuses : goal.returns-clause-refuses
+returns-clause-refuses g c =
+    subst (λ (env : Environment). IfErr c.declare_next.result (RefusesDecl c.args.depth (g.F.Folder.state c.args.folder.now) (g.F.Folder.state c.declare_next.new.folder) env c.args.decl.now)) c.in_ok-make_used.ensures
+    c.declare_next.ensures.refuses
+
+pub returns-clause-unchanged : goal.returns-clause-unchanged
+returns-clause-unchanged g c =
+    subst (λ (env : Environment). OnErr c.declare_next.result (environment_of c.declare_next.new.env.names.entries ≡ env)) c.in_ok-make_used.ensures
+    c.declare_next.ensures.unchanged

@@ -1,27 +1,19 @@
-use Rattle.std.proofs.Common.{refl}
-use Rattle.cq_adjoint.specs.QueryMoves.{coeval_images}
+use Rattle.std.proofs.Common.{IfOk, IfErr, sym, subst, ◌∙◌}
+use Rattle.cq_query.specs.QueryData.{QueryData}
+use Rattle.cq_stating.specs.Posing.{IsMovingAlong}
 use Rattle.cq_stating.specs.Routes.{by_coeval}
 use Rattle.cq_program.specs.Carrying.{carried_as}
-use Rattle.cq_program.specs.Movements.{AreMoved}
-use Rattle.cq_program.proofs.Moving.{coeval_is, has_own_images, tells_own}
+use Rattle.cq_program.specs.Movements.{AreMoved, HasImages, TellsLong}
 use Rattle.cq_program.proofs.queried.coeval_moved.Goals as goal
 
-pub coeval_map-requires-clause-goes : goal.coeval_map-requires-clause-goes
-coeval_map-requires-clause-goes c = c.requires.goes
-
-pub coeval_map-requires-clause-copied : goal.coeval_map-requires-clause-copied
-coeval_map-requires-clause-copied c = coeval_is c.args.query.now c.args.carrying.now.source.now c.args.carrying.now.start.now c.requires.start_moved c.requires.start
-
-pub coeval_map-requires-clause-copied_there : goal.coeval_map-requires-clause-copied_there
-coeval_map-requires-clause-copied_there c = coeval_is c.args.query.now c.args.carrying.now.target.now c.args.carrying.now.finish.now c.requires.finish_moved c.requires.finish
+pub coeval_moved_made-requires : goal.coeval_moved_made-requires
+coeval_moved_made-requires c = subst (λ (Q : QueryData). IsMovingAlong (by_coeval Q) (carried_as c.args.carrying.now)) (sym (c.deref.ensures ∙ c.in-Ok.ensures)) c.requires
 
 pub returns-clause-made : goal.returns-clause-made
 returns-clause-made c =
-    let k = carried_as c.args.carrying.now in
-    has_own_images (AreMoved (by_coeval c.args.query.now) k) k.start k.finish (coeval_images c.args.query.now k.moved k.source k.target) refl c.coeval_map.result c.coeval_map.ensures.images
-    c.coeval_map.ensures.fits c.coeval_map.ensures.goes
+    subst (λ (Q : QueryData). IfOk c.coeval_moved_made.result (HasImages (AreMoved (by_coeval Q) (carried_as c.args.carrying.now)) c.args.carrying.now.start.now c.args.carrying.now.finish.now)) (c.deref.ensures ∙ c.in-Ok.ensures)
+    c.coeval_moved_made.ensures.made
 
 pub returns-clause-refused : goal.returns-clause-refused
 returns-clause-refused c =
-    let k = carried_as c.args.carrying.now in
-    tells_own (AreMoved (by_coeval c.args.query.now) k) k.start k.finish (coeval_images c.args.query.now k.moved k.source k.target) refl c.coeval_map.result c.coeval_map.ensures.refused
+    subst (λ (Q : QueryData). IfErr c.coeval_moved_made.result (TellsLong (AreMoved (by_coeval Q) (carried_as c.args.carrying.now)))) (c.deref.ensures ∙ c.in-Ok.ensures) c.coeval_moved_made.ensures.refused

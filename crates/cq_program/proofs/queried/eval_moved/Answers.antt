@@ -1,19 +1,19 @@
-use Rattle.std.proofs.Common.{map, refl}
-use Rattle.cq_adjoint.specs.Copies.{AreAllAnswers}
-use Rattle.cq_adjoint.specs.QueryMoves.{eval_images}
+use Rattle.std.proofs.Common.{IfOk, IfErr, sym, subst, ◌∙◌}
+use Rattle.cq_query.specs.QueryData.{QueryData}
+use Rattle.cq_stating.specs.Posing.{IsMovingAlong}
 use Rattle.cq_stating.specs.Routes.{by_eval}
 use Rattle.cq_program.specs.Carrying.{carried_as}
-use Rattle.cq_program.specs.Movements.{Answered, AreMoved}
-use Rattle.cq_program.proofs.Moving.{has_own_images}
+use Rattle.cq_program.specs.Movements.{AreMoved, HasImages, TellsLong}
 use Rattle.cq_program.proofs.queried.eval_moved.Goals as goal
+
+pub eval_moved_made-requires : goal.eval_moved_made-requires
+eval_moved_made-requires c = subst (λ (Q : QueryData). IsMovingAlong (by_eval Q) (carried_as c.args.carrying.now)) (sym (c.deref.ensures ∙ c.in-Ok.ensures)) c.requires
 
 pub returns-clause-made : goal.returns-clause-made
 returns-clause-made c =
-    let Q = c.args.query.now in
-    let k = carried_as c.args.carrying.now in
-    let from : Answered = map (λ list. map (λ rows. rows.items) list.items) c.as_slice.result.now in
-    let to : Answered = map (λ list. map (λ rows. rows.items) list.items) c.as_slice-2.result.now in
-    let are : AreAllAnswers Q k.source.tables from = rw c.as_slice.ensures.value c.in-Ok.ensures in
-    let are_there : AreAllAnswers Q k.target.tables to = rw c.as_slice-2.ensures.value c.in-Ok-all_answers.ensures in
-    has_own_images (AreMoved (by_eval Q) k) k.start k.finish (eval_images Q k.moved k.source k.target k.start k.finish from to) (from, to, are, are_there, refl) c.eval_map.result
-    c.eval_map.ensures.images c.eval_map.ensures.fits c.eval_map.ensures.goes
+    subst (λ (Q : QueryData). IfOk c.eval_moved_made.result (HasImages (AreMoved (by_eval Q) (carried_as c.args.carrying.now)) c.args.carrying.now.start.now c.args.carrying.now.finish.now)) (c.deref.ensures ∙ c.in-Ok.ensures)
+    c.eval_moved_made.ensures.made
+
+pub returns-clause-refused : goal.returns-clause-refused
+returns-clause-refused c =
+    subst (λ (Q : QueryData). IfErr c.eval_moved_made.result (TellsLong (AreMoved (by_eval Q) (carried_as c.args.carrying.now)))) (c.deref.ensures ∙ c.in-Ok.ensures) c.eval_moved_made.ensures.refused

@@ -1,10 +1,24 @@
-use Rattle.cq_program.proofs.OneEval.{told_within, withholds_answers}
+use Rattle.std.proofs.Common.{ℕ, IfOk, IfErr, sym, ap, subst, ◌≡◌, ◌∙◌}
+use Rattle.cq_query.specs.QueryData.{QueryData}
+use Rattle.cq_query.specs.Duties.{Sound}
+use Rattle.cq_stating.specs.Checks.{an_eval}
+use Rattle.cq_stating.specs.Environment.{meant}
+use Rattle.cq_program.specs.Judging.{Withholds}
+use Rattle.cq_program.specs.Program.{Stands}
 use Rattle.cq_program.proofs.queries.answered.Goals as goal
 
-pub eval_refusal-requires : goal.eval_refusal-requires
-eval_refusal-requires c = told_within c.args.query.now c.args.instance.now.tables c.in-Err.refusal c.in-Err.ensures.refused
+pub answered_made-requires-clause-sound : goal.answered_made-requires-clause-sound
+answered_made-requires-clause-sound c = subst (λ (Q : QueryData). Sound Q) (sym (c.deref.ensures ∙ c.in_ok-made.ensures)) c.requires.sound
 
-pub returns-in-Err-clause-withholds : goal.returns-in-Err-clause-withholds
-returns-in-Err-clause-withholds c = λ depth.
-    withholds_answers depth c.args.place c.args.name c.args.query.now c.args.instance.now.tables c.in-Err.refusal c.eval_refusal.result c.in-Err.ensures.refused
-    c.eval_refusal.ensures.many c.eval_refusal.ensures.large c.eval_refusal.ensures.memory
+pub answered_made-requires-clause-over : goal.answered_made-requires-clause-over
+answered_made-requires-clause-over c = c.requires.over ∙ ap (λ (Q : QueryData). Q.source) (sym (c.deref.ensures ∙ c.in_ok-made.ensures))
+
+pub returns-clause-stands : goal.returns-clause-stands
+returns-clause-stands c =
+    subst (λ (Q : QueryData). IfOk c.answered_made.result (λ meaning. Stands (an_eval c.args.name Q c.args.instance.now.tables) (meant meaning))) (c.deref.ensures ∙ c.in_ok-made.ensures)
+    c.answered_made.ensures.stands
+
+pub returns-clause-withholds : goal.returns-clause-withholds
+returns-clause-withholds c = λ depth.
+    subst (λ (Q : QueryData). IfErr c.answered_made.result (Withholds depth c.args.place (an_eval c.args.name Q c.args.instance.now.tables))) (c.deref.ensures ∙ c.in_ok-made.ensures)
+    (c.answered_made.ensures.withholds depth)

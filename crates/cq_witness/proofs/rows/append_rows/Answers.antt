@@ -16,9 +16,9 @@ append_within-requires c =
 pub returns-in-Passed : goal.returns-in-Passed
 returns-in-Passed c =
     let last = subst (TellsGrowth c.args.schema.now c.args.presentation.now c.args.depth) c.in-Passed.is c.in_ok-grown.ensures in
-    c.in_ok-append_within.ensures c.args.presentation.now c.args.depth last
+    c.in_ok-append_within-in-Passed.ensures c.args.presentation.now c.args.depth last
 
-pub returns-in-AtOnce : goal.returns-in-AtOnce
-returns-in-AtOnce c =
+pub returns : goal.returns
+returns c =
     let wide = subst (TellsGrowth c.args.schema.now c.args.presentation.now c.args.depth) c.in-AtOnce.is c.in_ok-grown.ensures in
-    at_once wide c.in_ok-extend_from_slice.ensures.items
+    at_once wide c.in_ok-append_phrase-in-AtOnce.ensures

@@ -1,4 +1,4 @@
-use Rattle.std.proofs.Common.{Some, ◌≡◌, ap, sym, ◌∙◌}
+use Rattle.std.proofs.Common.{Some, ◌≡◌, sym, ◌∙◌}
 use Rattle.std.specs.Prelude.{unwrap_or}
 use Rattle.cq_instance.proofs.OnWay.{entity_ground}
 use Rattle.cq_instance.specs.InstanceData.{name_at}

@@ -1,9 +1,11 @@
-use Rattle.std.proofs.Common.{ℕ, List, [], ◌++◌, ◌≡◌, ◌+◌, map, length, sym, ap, subst, ◌∙◌, arith}
+use Rattle.std.proofs.Common.{ℕ, Bool, List, [], ◌++◌, ◌≡◌, ◌+◌, map, length, sym, ap, subst, ◌∙◌, arith}
 use Rattle.cq_theory.specs.declared.presentation.Equation.{Equation}
 use Rattle.cq_theory.specs.Tables.{Tables}
 use Rattle.cq_query.specs.Answers.{IsTuple}
 use Rattle.cq_eval.specs.Join.{found_from}
 use Rattle.cq_eval.specs.Made.{answers_with}
+use Rattle.std.specs.Prelude.{slice_get}
+use Rattle.cq_eval.proofs.Bordered.{known_first}
 use Rattle.cq_eval.proofs.Extended.{first_tuple, none_are, some_are, tells_more}
 use Rattle.cq_eval.proofs.joining.Join.answers.Goals as goal
 
@@ -47,3 +49,9 @@ returns-clause-refused c =
     let none : length c.new-found.result.items ≡ 0 = ap length c.new-found.ensures.items in
     tells_more c.args.self.now.entity (length c.new-found.result.items + length (found_from M tests counts counts [])) (length (answers_with M tests counts)) c.in-Err.refusal
     (omega (arith, none, ap length all)) c.in-Err.ensures.refused
+
+pub extend-requires-clause-known : goal.extend-requires-clause-known
+extend-requires-clause-known c =
+    let same = c.in_ok-known.ensures.borders in
+    known_first c.args.self.now.instance.now.tables c.args.self.now.tests.now c.args.self.now.counts c.new-found.result.items c.in_ok-known.known
+    (ap length same ∙ c.requires.long) (λ bound at. c.requires.borders bound (ap (λ (l : List Bool). slice_get l bound) (sym same) ∙ at)) c.in_ok-known.ensures.noted c.in_ok-known.ensures.vain

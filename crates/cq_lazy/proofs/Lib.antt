@@ -1,0 +1,4 @@
+pub mod Counts
+pub mod Lengthening
+pub mod Short
+pub mod Widening

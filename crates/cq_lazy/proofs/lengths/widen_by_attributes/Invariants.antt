@@ -1,0 +1,7 @@
+use Rattle.std.proofs.Common.{take}
+use Rattle.std.specs.Prelude.{All}
+use Rattle.cq_lazy.specs.Lengths.{AreWider, IsShortAttribute}
+use Rattle.cq_lazy.proofs.lengths.widen_by_attributes.Given as goal
+
+abbrev pub invariant-loop-term : goal.invariant-loop-term
+invariant-loop-term l = AreWider l.fn.found l.wide × All (IsShortAttribute l.under l.wide) (take l.term-index l.terms)

@@ -1,0 +1,4 @@
+pub mod Plan
+pub mod Widths
+pub mod Lengths
+pub mod IsLazy
