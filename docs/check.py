@@ -126,7 +126,7 @@ class Typist:
 
     def stands_in_file(self, block):
         """Whether the block stands in a file of examples/ or in one that was exported, but for where lines end."""
-        parts = [part.strip() for part in f" {' '.join(' '.join(block.lines).split())} ".split(" .. ")]
+        parts = [part.strip() for part in f" {' '.join(' '.join(block.lines).split())} ".split(" .. ") if part.strip()]
         for name in ("examples", "cql-out"):
             for file in (self.folder / name).rglob("*.c[qs][lv]"):
                 lines = file.read_bytes().decode(errors="replace").split("\n")
