@@ -5,7 +5,7 @@
 
 PROGRAM is by default crates/cqlrun/out/cqlrun, which `./cqlrun` builds. A folder of 2,000, 20,000 and 200,000 records, each with
 four texts that nobody declared and a foreign key to another record. For each size it prints the seconds of a whole run (the best
-of three), exports in both formats included, the ratio to a tenth, the peak memory in bytes for each record, less eight times the
+of five), exports in both formats included, the ratio to a tenth, the peak memory in bytes for each record, less eight times the
 bytes of the folder, and, where Python has sqlite3, the ratio to reading the same records into tables in memory, checking the
 foreign keys, and writing all records out again. The exported file is read back and compared with what was imported.
 """
@@ -77,7 +77,7 @@ def main():
     for rows in (2_000, 20_000, 200_000):
         with tempfile.TemporaryDirectory() as folder:
             size = write(folder, rows)
-            seconds, peak = min(run(program, folder) for _ in range(3))
+            seconds, peak = min(run(program, folder) for _ in range(5))
             check(folder, rows)
             ratio = f"{seconds / before:.1f}" if before else ""
             before = seconds

@@ -5,7 +5,7 @@
 
 PROGRAM is by default crates/cqlrun/out/cqlrun, which `./cqlrun` builds. One entity with a foreign key and three columns of texts
 that nobody declared, some of which stand often; 1,000, 10,000 and 100,000 rows, each with four equations. For each it prints the
-seconds of a whole run (the best of three), exports as literals included, the ratio to a tenth, the peak memory, and, where Python
+seconds of a whole run (the best of five), exports as literals included, the ratio to a tenth, the peak memory, and, where Python
 has sqlite3, the seconds of the same rows as inserts into tables in memory, written as CSV, with the ratio.
 """
 import csv
@@ -66,10 +66,10 @@ def main():
         with tempfile.TemporaryDirectory() as folder:
             given = text(rows)
             pathlib.Path(folder, "p.cql").write_text(given)
-            seconds, peak = min(run(program, folder, words=("run", "p.cql", "--only", "cql")) for _ in range(3))
+            seconds, peak = min(run(program, folder, words=("run", "p.cql", "--only", "cql")) for _ in range(5))
             ratio = f"{seconds / before:.1f}" if before else ""
             before = seconds
-            other = min(by_sqlite(folder, rows) for _ in range(3)) if sqlite3 else None
+            other = min(by_sqlite(folder, rows) for _ in range(5)) if sqlite3 else None
             beside = f"{other:.3f} | {seconds / other:.2f}" if other else " | "
             print(f"| {rows:,} | {len(given):,} | {seconds:.3f} | {ratio} | {peak / 2**20:.0f} | {beside} |", flush=True)
 

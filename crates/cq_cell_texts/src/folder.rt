@@ -157,10 +157,14 @@ fn append_double(
     )
 }
 
+fn entity_name(schema: &Schema, entity: u32) -> Option<&Name> {
+    schema.entities.as_slice().get(entity as usize)
+}
+
 /// The entity to which the foreign key in a column leads.
 fn find_target<'a>(sheet: &Sheet<'a>, column: u32) -> Option<&'a Name> {
     match sheet.columns.get((column as usize).saturating_sub(2)) {
-        Some(Column::Key(_, target)) => sheet.schema.entities.as_slice().get(*target as usize),
+        Some(Column::Key(_, target)) => entity_name(sheet.schema, *target),
         _ => None,
     }
 }

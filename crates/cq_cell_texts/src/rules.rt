@@ -2,7 +2,7 @@
 use crate::bytes::{append, append_number, append_quoted};
 use crate::sheet::Sheet;
 use cq_import::columns::Column;
-use cq_theory::Typeside;
+use cq_theory::{Schema, Typeside};
 use cq_values::{name_of, read_label};
 use std::alloc::AllocError;
 
@@ -116,7 +116,8 @@ fn append_attribute(
     field: &[u8],
     out: &mut Vec<u8>,
 ) -> Result<(), AllocError> {
-    let typeside: &Typeside = &sheet.schema.typeside;
+    let schema: &Schema = sheet.schema;
+    let typeside: &Typeside = &schema.typeside;
     match field.first() {
         Some(b'?') => append_null(field, out),
         Some(b'=') => append(

@@ -9,5 +9,5 @@ mod words;
 
 pub use answer::explanation;
 pub use question::QuestionRefusal;
-pub use terms::{push_entity_term, push_equation, push_type_term};
+pub use terms::push_equation;
 pub use words::push_ordinal;

@@ -1,5 +1,5 @@
 -- One generator of an entity, with the entity's name, is a presentation.
-use Rattle.std.proofs.Common.{ℕ, List, [], ◌≡◌, ◌<◌, length, arith}
+use Rattle.std.proofs.Common.{ℕ, [], ◌<◌, length, arith}
 use Rattle.std.proofs.lemmas.List.Elements.{All-nil, All-cons}
 use Rattle.std.specs.Prelude.{slice_get}
 use Rattle.cq_base.specs.declared.name.Name.{Name}

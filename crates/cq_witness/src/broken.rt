@@ -62,7 +62,11 @@ fn append_kept(
 fn equation_at(instance: &Instance, place: u64) -> Option<&Equation>
     ensures { option_copied result ≡ slice_get instance.now.presentation.equations place }
 {
-    instance.presentation().equations.as_slice().get(place as usize)
+    instance
+        .presentation()
+        .equations
+        .as_slice()
+        .get(place as usize)
 }
 
 /// Appends the equation with a number, from 0, of the instance from which images go; its image in the one to which they

@@ -79,9 +79,11 @@ fn text(phrase: Phrase) -> &'static str
         Phrase::RowsOf => " rows of ",
         Phrase::NoneMore => ", and of no entity more.\n",
         Phrase::WithDepth => "With depth ",
-        Phrase::TooMany => " there are over 200000 rows in all.\nTo mend it: say by equations where the keys of ",
+        Phrase::TooMany =>
+            " there are over 200000 rows in all.\nTo mend it: say by equations where the keys of ",
         Phrase::Split => " lead, so that fewer rows are new, or split the instance.\n",
-        Phrase::AtOnce => "The generators alone are over 200000 rows.\nTo mend it: split the instance.\n",
+        Phrase::AtOnce =>
+            "The generators alone are over 200000 rows.\nTo mend it: split the instance.\n",
         Phrase::Indent => "  ",
         Phrase::TwoRows => "  two rows: ",
         Phrase::TwoValues => "  two values: ",
@@ -91,7 +93,8 @@ fn text(phrase: Phrase) -> &'static str
         Phrase::Of => " of ",
         Phrase::Image => "Its image in ",
         Phrase::Colon => ": ",
-        Phrase::OtherImages => "To mend it: give its generators other images, or state the image in that instance.\n",
+        Phrase::OtherImages =>
+            "To mend it: give its generators other images, or state the image in that instance.\n",
         Phrase::Follow => "It would have to follow that ",
     }
 }

@@ -58,7 +58,10 @@ fn entity_of(instance: &Instance, term: &EntTerm) -> Option<u32>
     ensures { result ≡ entity_of_term instance.now.schema instance.now.presentation.generators term.now }
 {
     let schema = instance.schema();
-    let entity = entity_at(instance.presentation().generators.as_slice(), term.generator)?;
+    let entity = entity_at(
+        instance.presentation().generators.as_slice(),
+        term.generator,
+    )?;
     target_of(schema.keys.as_slice(), term.path.as_slice(), entity)
 }
 

@@ -1,4 +1,4 @@
-use Rattle.std.proofs.Common.{List, ◌≡◌, ap, refl, sym, length, ◌∙◌}
+use Rattle.std.proofs.Common.{List, ap, refl, sym, length, ◌∙◌}
 use Rattle.std.proofs.lemmas.Option.{slice_get_read}
 use Rattle.std.specs.Prelude.{slice_get}
 use Rattle.cq_check.proofs.QueryDuties.{duty_found}

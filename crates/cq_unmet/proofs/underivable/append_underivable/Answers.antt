@@ -1,4 +1,4 @@
-use Rattle.std.proofs.Common.{◌≡◌, ap, refl, sym, subst, inl, inr, ◌∙◌}
+use Rattle.std.proofs.Common.{refl, sym, subst, inl, inr}
 use Rattle.cq_theory.specs.declared.presentation.Equation.{Equation}
 use Rattle.cq_theory.specs.declared.presentation.Presentation.{Presentation}
 use Rattle.cq_theory.specs.Presentation.{IsPresentation}
