@@ -32,5 +32,5 @@ pub returns-clause-stops : goal.returns-clause-stops
 returns-clause-stops g c = (
   environment_of c.loop-decl.env.names.entries,
   all_follow (g.F.Folder.state c.args.folder.now).files c.args.program.now c.as_slice-decl-items.result.now c.loop-decl.decl-index (environment_of c.loop-decl.env.names.entries)
-  c.as_slice-decl-items.ensures c.loop-decl-test.false c.loop-decl.invariant.0,
+      c.as_slice-decl-items.ensures c.loop-decl-test.false c.loop-decl.invariant.0,
 )
