@@ -11,8 +11,8 @@ use cq_base::Name;
 use cq_conflict::{Constants, Rest};
 use cq_instance::Instance;
 use cq_io::Folder;
+use cq_lazy::LazyQuery;
 use cq_mapping::Mapping;
-use cq_query::Query;
 use cq_stating::{Environment, ProgramRefusal, Statement, read_stated, state};
 use cq_syntax::{Body, Decl, InstanceExp};
 use cq_theory::{Presentation, Schema, SizeRefusal};
@@ -142,7 +142,7 @@ fn push_sigma<F: Folder>(
 fn push_coeval<F: Folder>(
     told: &Told,
     name: &Name,
-    query: &Query,
+    query: &LazyQuery,
     instance: &Instance,
     folder: &mut F,
     text: &mut Vec<u8>,
@@ -155,6 +155,7 @@ fn push_coeval<F: Folder>(
     let InstanceExp::Coeval(_, operand) = told.expression else {
         return Ok(false);
     };
+    let query = query.query(told.alloc)?;
     match query.coeval_presentation(told.alloc, instance.sheet(), instance.algebra()) {
         Ok(presentation) => {
             let asked = told.asked(name, &query.source, &presentation);
