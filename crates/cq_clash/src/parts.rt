@@ -23,9 +23,9 @@ pub struct Asked<'a> {
 }
 
 /// Tells of a presentation whose equations are written at one place.
-pub fn push_own<F: Folder>(
-    asked: &Asked,
-    source: Source,
+pub fn push_own<'a, F: Folder>(
+    asked: &Asked<'a>,
+    source: Source<'a>,
     folder: &mut F,
     text: &mut Vec<u8>,
 ) -> Result<bool, AllocError>
