@@ -1,4 +1,6 @@
 //! The first fault of a folder of the second format, with its file of nulls and entries.
+ghost use Rattle.std.specs.Prelude.{◌≡◌};
+
 use crate::folder::{append_file_faults, append_report, is_of_file};
 use crate::sheet::Sheet;
 use cq_base::Name;
@@ -122,7 +124,9 @@ fn append_entries<F: Folder>(
     dir: &Name,
     refused: &Refused,
     out: &mut Vec<u8>,
-) -> Result<(), Unread> {
+) -> Result<(), Unread>
+    ensures { (F.state folder.new).files ≡ (F.state folder.old).files }
+{
     let entity = name_of(alloc, "entries-2")?;
     let reading = read_file(alloc, folder, dir, &entity)?;
     let names = wanted(alloc)?;
@@ -148,7 +152,9 @@ pub fn append_folder2<F: Folder>(
     dir: &Name,
     schema: &Schema,
     out: &mut Vec<u8>,
-) -> Result<(), Unread> {
+) -> Result<(), Unread>
+    ensures { (F.state folder.new).files ≡ (F.state folder.old).files }
+{
     let found = examine(alloc, folder, dir, schema)?;
     if found.faults.as_slice().iter().any(is_of_file) {
         append_report(alloc, schema, dir, &found, out)?;

@@ -12,8 +12,8 @@ returns-in-Some-clause-tells g c =
     subst (λ (words : List (List ℕ)). IfOk c.reply_about.result
     (λ reply. HasToTell (reads words) (g.F.Folder.state c.args.folder.now) reply.status reply.text.items)) same c.reply_about.ensures.tells
 
-pub returns-in_ok-text-in-None-clause-tells : goal.returns-in_ok-text-in-None-clause-tells
-returns-in_ok-text-in-None-clause-tells g c =
+pub returns-clause-tells : goal.returns-clause-tells
+returns-clause-tells g c =
     let same : map string_bytes c.as_slice-all_words.result.now ≡ run_words (map string_bytes c.args.words.now) =
     ap (map string_bytes) c.as_slice-all_words.ensures.value ∙ c.in_ok-all.ensures in
     no_file _ _ _ _ c.in-None.is c.in_ok-found.ensures.asked same
