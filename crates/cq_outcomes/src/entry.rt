@@ -34,8 +34,7 @@
 //! - `-- derived`: equations, each in a line with a rule by which it is derived (see `derived`);
 //! - `-- term 1:3 21 Syntax`: a text that stands alone as a term (see `terms`);
 //! - `-- beginnings`: each beginning of the program (see `beginnings`);
-//! - `-- faults`: calls that fail, each in a line with what follows (see `faults`);
-//! - `-- why refused`: what `cqlwhy` tells of the text (see `whys`).
+//! - `-- faults`: calls that fail, each in a line with what follows (see `faults`).
 //!
 //! Where a case has exporters, its status is told with what they have when the run has ended:
 //! - `-- exported csv I/E.csv, cql I.cql`: the exporters that are left, each with the names of its files;
