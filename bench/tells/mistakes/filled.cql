@@ -1,0 +1,17 @@
+typeside T = literal { types text literals text }
+
+schema Lists = literal : T {
+  entities Customer Subscriber Mailbox Person
+    mail : Customer -> Mailbox
+    news : Subscriber -> Mailbox
+    owner : Mailbox -> Person
+  attributes
+    name street : Customer -> text
+    nick : Subscriber -> text
+    called home : Person -> text
+  observation_equations
+    forall c : Customer. street(c) = home(owner(mail(c)))
+    forall s : Subscriber. nick(s) = called(owner(news(s)))
+}
+
+instance Filled = import_csv "examples/recipes/filled" : Lists
