@@ -1,0 +1,21 @@
+// The lists of examples/lists.cql, in which Ben Li gave Ann's e-mail address and another street. The rules would make
+// the two streets one, so the file is refused with 63 Inconsistent.
+typeside T = literal { types text literals text }
+
+schema Lists = literal : T {
+  entities Customer Subscriber Mailbox Person
+  foreign_keys
+    mail : Customer -> Mailbox
+    news : Subscriber -> Mailbox
+    owner : Mailbox -> Person
+  attributes
+    name street : Customer -> text
+    nick : Subscriber -> text
+    called home : Person -> text
+  observation_equations
+    forall c : Customer. street(c) = home(owner(mail(c)))
+    forall s : Subscriber. nick(s) = called(owner(news(s)))
+}
+
+// Of the files only Customer.csv is another one, in its last record.
+instance Merged = import_csv "examples/conflict" : Lists
