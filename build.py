@@ -3,38 +3,42 @@
 
     ./build.py [--jobs N] [cqlrun|cqlwhy]
 
-A crate is begun as soon as those that it uses are built; where there is a choice, in the order of crates.txt. N is how
-many are built at a time: by default one for each processor, and not more than one for each 4 GiB of memory. Where fewer
-than N can be built, each of them gets more of the processors. For each crate a line on standard error says how many are
-built, and how long it took; what `rt` says of it stands in crates/NAME/out/build.log. What is built already is only
-looked at. Where a crate isn't built, nothing more is begun, the end of its log is shown, and the status is 70.
+The crates are copied to out/build, without their wrong bodies, which only the gate tries, and proved there by `rt ci`,
+which begins a crate as soon as those that it uses are proved. N is how many are proved at a time: by default one for
+each processor, and not more than one for each 4 GiB of memory. For each crate a line on standard error says how many
+are proved; what `rt` says stands in out/build.log. What was proved on this machine before, by the gate too, isn't
+proved again. Where a crate isn't proved, the end of the log is shown, and the status is 70.
 """
 import argparse
 import os
 import pathlib
-import signal
+import re
+import shutil
 import subprocess
 import sys
 import time
 
 ROOT = pathlib.Path(__file__).resolve().parent
+ROOM = ROOT / "out" / "build"
+LOG = ROOT / "out" / "build.log"
 PROGRAMS = ["cqlrun", "cqlwhy"]
 FAILED = 70
 MEMORY_OF_ONE = 4 << 30
 SHOWN = 20
+PROVED = re.compile(r"rt: (\w+) (?:proved|is kept: .*)$")
 
 
 def crates_below(program):
-    """The crates of which the program is made, in the order of crates.txt, each with those that it uses."""
-    lines = (line.split("#")[0] for line in (ROOT / "crates.txt").read_text().splitlines())
-    uses = {head.split()[0]: tail.split() for head, found, tail in (line.partition(":") for line in lines) if found}
+    """The lines of crates.txt for the crates of which the program is made, by crate."""
+    lines = (line for line in (ROOT / "crates.txt").read_text().splitlines() if ":" in line.split("#")[0])
+    lines = {line.split(":")[0].split()[0]: line for line in lines}
     below, waiting = set(), [program]
     while waiting:
         crate = waiting.pop()
-        if crate in uses and crate not in below:
+        if crate in lines and crate not in below:
             below.add(crate)
-            waiting += uses[crate]
-    return {crate: {low for low in used if low in uses} for crate, used in uses.items() if crate in below}
+            waiting += lines[crate].split("#")[0].partition(":")[2].split()
+    return {crate: line for crate, line in lines.items() if crate in below}
 
 
 def default_jobs():
@@ -42,73 +46,36 @@ def default_jobs():
     return max(1, min(len(os.sched_getaffinity(0)), memory // MEMORY_OF_ONE))
 
 
-def log_of(crate):
-    return ROOT / "crates" / crate / "out" / "build.log"
-
-
-def begin(crate, share):
-    """Starts the build of a crate with its share of the processors."""
-    log_of(crate).parent.mkdir(exist_ok=True)
-    # With no words the program writes its usage and ends.
-    words = ["rt", "run" if crate in PROGRAMS else "lib", "--jobs", str(share)]
-    with open(log_of(crate), "wb") as log:
-        streams = {"stdin": subprocess.DEVNULL, "stdout": log, "stderr": subprocess.STDOUT}
-        return subprocess.Popen(words, cwd=ROOT / "crates" / crate, **streams)
-
-
-def is_built(crate, status):
-    if crate in PROGRAMS:
-        return any(line.startswith("rt: running ") for line in log_of(crate).read_text(errors="replace").splitlines())
-    return status == 0
+def copy_to_room(lines):
+    """Puts the crates, without their wrong bodies, and their lines of crates.txt into the room."""
+    shutil.rmtree(ROOM, ignore_errors=True)
+    for crate in lines:
+        left_out = shutil.ignore_patterns("must-fail", "out")
+        shutil.copytree(ROOT / "crates" / crate, ROOM / "crates" / crate, ignore=left_out)
+    (ROOM / "crates.txt").write_text("".join(f"{line}\n" for line in lines.values()))
+    shutil.copy(ROOT / "HANDLES", ROOM)
+    # `rt ci` runs at the top of a repository alone, and tells it by this folder.
+    (ROOM / ".git").mkdir()
 
 
 def tell(text):
     print(text, file=sys.stderr, flush=True)
 
 
-class Build:
-    """The crates that wait, those that are being built, and those that are."""
-
-    def __init__(self, uses, jobs):
-        self.uses, self.jobs = uses, jobs
-        self.waiting, self.running, self.built = dict(uses), {}, set()
-
-    def begin_some(self):
-        ready = [crate for crate, used in self.waiting.items() if used <= self.built]
-        for place, crate in enumerate(ready[: self.jobs - len(self.running)]):
-            share = max(1, (self.jobs - len(self.running)) // (len(ready) - place))
-            self.running[crate] = begin(crate, share), time.monotonic()
-            del self.waiting[crate]
-
-    def end_some(self):
-        """Takes note of those that have ended. Answers one that isn't built, if there is one."""
-        ended = [crate for crate, (process, _) in self.running.items() if process.poll() is not None]
-        for crate in ended:
-            process, since = self.running.pop(crate)
-            if not is_built(crate, process.returncode):
-                return crate
-            self.built.add(crate)
-            tell(f"{len(self.built)} of {len(self.uses)} built: {crate}, {time.monotonic() - since:.0f} s")
-        return None
-
-    def run(self):
-        """Builds each crate once those that it uses are built. Answers the first that isn't, if there is one."""
-        failed = None
-        try:
-            while self.waiting or self.running:
-                self.begin_some()
-                time.sleep(0.1)
-                failed = self.end_some()
-                if failed:
-                    break
-            # What the others have begun is kept for the next build.
-            for process, _ in self.running.values():
-                process.wait()
-        except BaseException:
-            for process, _ in self.running.values():
-                process.terminate()
-            raise
-        return failed
+def prove(lines, jobs):
+    """Proves the crates in the room, and builds their program. Answers whether all are proved."""
+    since, proved = time.monotonic(), 0
+    streams = {"stdin": subprocess.DEVNULL, "stdout": subprocess.PIPE, "stderr": subprocess.STDOUT, "text": True}
+    words = {"cwd": ROOM, "env": {**os.environ, "RT_JOBS": str(jobs)}, "errors": "replace"}
+    with open(LOG, "w") as log, subprocess.Popen(["rt", "ci"], **streams, **words) as run:
+        for line in run.stdout:
+            log.write(line)
+            log.flush()
+            found = PROVED.match(line.rstrip("\n"))
+            if found and found[1] in lines:
+                proved += 1
+                tell(f"{proved} of {len(lines)} proved after {time.monotonic() - since:.0f} s: {found[1]}")
+    return run.returncode == 0
 
 
 def main():
@@ -117,14 +84,16 @@ def main():
     words.add_argument("program", nargs="?", choices=PROGRAMS, default=PROGRAMS[0])
     asked = words.parse_args()
     jobs, program = max(1, asked.jobs), asked.program
-    uses = crates_below(program)
-    tell(f"building {program}: {len(uses)} crates, each of which is proved first, {jobs} at a time")
-    signal.signal(signal.SIGTERM, lambda *_: sys.exit(FAILED))
-    failed = Build(uses, jobs).run()
-    if failed:
-        tell(f"{failed} is not built; the end of {log_of(failed).relative_to(ROOT)}:")
-        tell("\n".join(log_of(failed).read_text(errors="replace").splitlines()[-SHOWN:]))
+    lines = crates_below(program)
+    tell(f"building {program}: {len(lines)} crates, each of which is proved first, {jobs} at a time")
+    copy_to_room(lines)
+    if not prove(lines, jobs):
+        tell(f"{program} is not built; the end of {LOG.relative_to(ROOT)}:")
+        tell("\n".join(LOG.read_text(errors="replace").splitlines()[-SHOWN:]))
         sys.exit(FAILED)
+    made = ROOT / "crates" / program / "out"
+    made.mkdir(exist_ok=True)
+    shutil.copy(ROOM / "crates" / program / "out" / program, made / program)
 
 
 if __name__ == "__main__":
