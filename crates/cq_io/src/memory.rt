@@ -15,6 +15,7 @@ use crate::failing::Failing;
 use crate::folder::{Folder, ReadRefusal};
 use crate::format::Format;
 use crate::keep::keep;
+use crate::listing::Listing;
 use crate::overruns::Overruns;
 use crate::sink::{Failed, Sink};
 use std::alloc::{AllocError, Global};
@@ -100,6 +101,19 @@ impl Folder for MemFolder {
             Ok(copy) => Ok(copy),
             Err(_) => Err(ReadRefusal::Memory),
         }
+    }
+}
+
+impl Listing for MemFolder {
+    ghost listed = { λ s. Some (map file_of s.files.items) };
+
+    fn paths_beside(&self, _path: &str) -> Result<Vec<String>, AllocError> {
+        let mut paths = Vec::new(self.alloc);
+        for file in self.files.as_slice() {
+            let path = String::from_str(self.alloc, file.0.as_str())?;
+            paths.push(path)?;
+        }
+        Ok(paths)
     }
 }
 

@@ -11,6 +11,7 @@ use crate::exporter::{Exporter, PutRefusal};
 use crate::folder::{Folder, ReadRefusal};
 use crate::format::Format;
 use crate::keep::copy_of;
+use crate::listing::Listing;
 use crate::overruns::Overruns;
 use crate::sink::{Failed, Sink};
 use std::alloc::{AllocError, Global};
@@ -64,6 +65,45 @@ impl<R: Files> Folder for DirFolder<R> {
         }
         answer
     }
+}
+
+impl<R: Files + Alloc + Clone + Drop> Listing for DirFolder<R> {
+    ghost listed = { λ s. None };
+
+    fn paths_beside(&self, path: &str) -> Result<Vec<String>, AllocError> {
+        paths_in(&self.rt, self.alloc, folder_of(path))
+    }
+}
+
+/// What of a path stands before its last name: nothing, or a folder and a slash.
+fn folder_of(path: &str) -> &str {
+    match path.rfind('/') {
+        Some(slash) => path.get(..slash + 1).unwrap_or(""),
+        None => "",
+    }
+}
+
+/// The most paths of a folder that are told.
+const MOST_LISTED: usize = 10000;
+
+/// The paths of what stands in a folder, which is that of `folder_of`.
+fn paths_in<R: Files + Alloc + Clone + Drop>(
+    rt: &R,
+    alloc: Global,
+    folder: &str,
+) -> Result<Vec<String>, AllocError> {
+    let mut paths = Vec::new(alloc);
+    let shown = if folder.is_empty() { "." } else { folder };
+    let Ok(entries) = fs::read_dir(rt, shown) else {
+        return Ok(paths);
+    };
+    for entry in entries.take(MOST_LISTED) {
+        let Ok(entry) = entry else { continue };
+        let mut path = String::from_str(alloc, folder)?;
+        path.push_str(entry.file_name())?;
+        paths.push(path)?;
+    }
+    Ok(paths)
 }
 
 /// The bytes of a file, at most `limit`. An overrun is counted.

@@ -7,7 +7,7 @@ ghost use Rattle.cq_why.specs.Replies.{GoesOn, SaysOk};
 
 use crate::line::{Line, line_of};
 use cq_asked::{Asked, notice, read_run_words, run_words};
-use cq_io::Folder;
+use cq_io::{Folder, Listing};
 use cq_run::Status;
 use cq_told::explanation;
 use std::alloc::{AllocError, Global};
@@ -20,7 +20,7 @@ pub struct Reply {
 }
 
 /// What is to be written for these words.
-pub fn reply_to<F: Folder>(
+pub fn reply_to<F: Folder + Listing>(
     alloc: Global,
     words: &[String],
     folder: &mut F,
@@ -45,7 +45,7 @@ pub fn reply_to<F: Folder>(
 }
 
 /// What is to be written of a file, by the words of its run.
-fn reply_about<F: Folder>(
+fn reply_about<F: Folder + Listing>(
     alloc: Global,
     words: &[String],
     asked: Asked<'_>,
@@ -80,7 +80,7 @@ fn accepted(alloc: Global) -> Result<Reply, AllocError>
 }
 
 /// A line with its status, and behind it why it was written.
-fn explained<F: Folder>(
+fn explained<F: Folder + Listing>(
     alloc: Global,
     status: Status,
     line: Vec<u8>,

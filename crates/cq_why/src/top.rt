@@ -6,7 +6,7 @@ ghost use Rattle.cq_run.specs.Writing.{Tells};
 ghost use Rattle.cq_why.specs.Clause.{WhyGives};
 
 use crate::reply::reply_to;
-use cq_io::{Folder, Sink};
+use cq_io::{Folder, Listing, Sink};
 use cq_run::Status;
 use std::alloc::Global;
 
@@ -17,7 +17,7 @@ use std::alloc::Global;
 ///
 /// What each status says stands with the clause `gives`; what follows the line is free, but for what the crates below
 /// `cq_told` say of it.
-pub fn why<F: Folder, K: Sink>(
+pub fn why<F: Folder + Listing, K: Sink>(
     alloc: Global,
     words: &[String],
     folder: &mut F,
