@@ -169,7 +169,7 @@ fn push_value(
         ++ content_equations (sheets_in context.now) context.now.first made.old.labels (shown_cell cell.now) attribute
         (content.Means value.now)) }
 {
-    let left = TypeTerm::Att(attribute, generator_term(context.alloc, cell.generator));
+    let left = TypeTerm::Att(attribute, generator_term(cell.generator));
     let right = value_term(context.alloc, context.first, &made.labels, value)?;
     made.equations.push(Equation::Typ(left, right))?;
     Ok(())
