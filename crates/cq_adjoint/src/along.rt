@@ -10,10 +10,9 @@ ghost use Rattle.cq_adjoint.specs.Moved.{IsSigmaOf};
 ghost use Rattle.cq_adjoint.specs.Moves.{image_along as along_mapping, sigma_images};
 
 use crate::limits::push_image;
-use cq_base::Seq;
 use cq_instance::{Image, Instance, Transform};
 use cq_mapping::Mapping;
-use cq_theory::{EntTerm, SizeRefusal};
+use cq_theory::{EntTerm, Path, SizeRefusal};
 use cq_transform::transform_of_images;
 use std::alloc::{AllocError, Global};
 
@@ -24,7 +23,7 @@ fn entity_along(alloc: Global, mapping: &Mapping, term: &EntTerm) -> Result<EntT
     let path = mapping.image_path(alloc, term.path.as_slice())?;
     Ok(EntTerm {
         generator: term.generator,
-        path: Seq::from_vec(path),
+        path: Path::from_vec(path)?,
     })
 }
 

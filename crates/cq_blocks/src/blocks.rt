@@ -80,7 +80,7 @@ fn make_entity(
         return Ok(first_variable(alloc));
     };
     let term = make_term(alloc, source, scope, raw)?;
-    Ok(entity_term(alloc, term))
+    Ok(entity_term(term))
 }
 
 /// Appends the equation of a clause, where it is one.

@@ -10,7 +10,7 @@ ghost use Rattle.cq_colimit.specs.Frame.{HasShortNumbers, GoesInto};
 use crate::placed::Placed;
 use cq_base::Seq;
 use cq_mapping::Mapping;
-use cq_theory::{EntTerm, Schema, TypeTerm};
+use cq_theory::{EntTerm, Path, Schema, TypeTerm};
 use std::alloc::{AllocError, Global};
 use std::rc::Rc;
 
@@ -37,7 +37,7 @@ fn single_attributes(alloc: Global, first: u32, count: u32) -> Result<Vec<TypeTe
     for attribute in 0..count {
         let variable = EntTerm {
             generator: 0,
-            path: Seq::from_vec(Vec::new(alloc)),
+            path: Path::empty(),
         };
         made.push(TypeTerm::Att(first + attribute, variable))?;
     }

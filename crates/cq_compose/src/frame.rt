@@ -6,10 +6,9 @@ ghost use Rattle.cq_query.specs.Translation.{variables_at, assigned};
 ghost use Rattle.cq_compose.specs.Composite.{components};
 ghost use Rattle.cq_compose.specs.Frame.{IsFrame, terms_of, component_along};
 
-use cq_base::Seq;
 use cq_query::Query;
 use cq_query::translation::found_terms;
-use cq_theory::EntTerm;
+use cq_theory::{EntTerm, Path};
 use std::alloc::{AllocError, Global};
 
 /// A block of the second query, that of an entity, with the first component of each of its variables.
@@ -154,6 +153,6 @@ pub(crate) fn make_component(
     keys.extend_from_slice(path)?;
     Ok(EntTerm {
         generator,
-        path: Seq::from_vec(keys),
+        path: Path::from_vec(keys)?,
     })
 }

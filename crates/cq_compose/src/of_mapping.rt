@@ -15,7 +15,7 @@ use cq_base::Seq;
 use cq_mapping::Mapping;
 use cq_query::{Block, Query};
 use cq_terms::copy_type_term;
-use cq_theory::{Con, EntTerm, Groups, TypeTerm, attributes_by_entity, keys_by_entity};
+use cq_theory::{Con, EntTerm, Groups, Path, TypeTerm, attributes_by_entity, keys_by_entity};
 use std::alloc::{AllocError, Global};
 
 fn image_of_entity(mapping: &Mapping, entity: u32) -> u32
@@ -46,13 +46,10 @@ fn image_of_key(alloc: Global, mapping: &Mapping, key: u32) -> Result<EntTerm, A
     ensures { IfOk result (λ made. made ≡ from_variable mapping.now (key_image mapping.now key)) }
 {
     let path = match mapping.keys.as_slice().get(key as usize) {
-        Some(path) => Vec::from_slice(alloc, path.as_slice())?,
-        None => Vec::new(alloc),
+        Some(path) => Path::from_slice(alloc, path.as_slice())?,
+        None => Path::empty(),
     };
-    Ok(EntTerm {
-        generator: 0,
-        path: Seq::from_vec(path),
-    })
+    Ok(EntTerm { generator: 0, path })
 }
 
 /// The terms of these attributes.

@@ -115,10 +115,9 @@ fn renumber(places: &[u32], variable: u32) -> u32
 fn rename_entity(alloc: Global, places: &[u32], term: &EntTerm) -> Result<EntTerm, AllocError>
     ensures { IfOk result (λ made. made ≡ renamed_entity places.now term.now) }
 {
-    let path = Vec::from_slice(alloc, term.path.as_slice())?;
     Ok(EntTerm {
         generator: renumber(places, term.generator),
-        path: Seq::from_vec(path),
+        path: term.path.clone()?,
     })
 }
 

@@ -15,8 +15,8 @@ use crate::ids::Id;
 use crate::labels::{Labels, Trouble, note_labels, value_term};
 use crate::refusal::CsvRefusal;
 use crate::rows::bad_cell;
-use cq_base::{Seq, Source};
-use cq_theory::{EntTerm, Equation, Schema, TypeTerm, Typeside, Value};
+use cq_base::Source;
+use cq_theory::{EntTerm, Equation, Path, Schema, TypeTerm, Typeside, Value};
 use std::alloc::{AllocError, Global};
 
 /// What cells are read over: the files of the entities with their columns and the generators of their first records,
@@ -73,23 +73,21 @@ fn no_such_id(context: &Context, cell: &Cell) -> CsvRefusal
 }
 
 /// A generator as a term.
-fn generator_term(alloc: Global, generator: u32) -> EntTerm
+fn generator_term(generator: u32) -> EntTerm
     ensures { result ≡ record { generator = generator; path = [] } }
 {
     EntTerm {
         generator,
-        path: Seq::from_vec(Vec::new(alloc)),
+        path: Path::empty(),
     }
 }
 
 fn key_term(alloc: Global, generator: u32, key: u32) -> Result<EntTerm, AllocError>
     ensures { IfOk result (λ term. term ≡ record { generator = generator; path = key ∷ [] }) }
 {
-    let mut path = Vec::new(alloc);
-    path.push(key)?;
     Ok(EntTerm {
         generator,
-        path: Seq::from_vec(path),
+        path: Path::from_slice(alloc, &[key])?,
     })
 }
 
@@ -120,7 +118,7 @@ fn push_reference(
         (record { generator = value; path = [] }) ∷ []) }
 {
     let left = key_term(alloc, generator, key)?;
-    let right = generator_term(alloc, value);
+    let right = generator_term(value);
     equations.push(Equation::Ent(left, right))?;
     Ok(())
 }
@@ -171,7 +169,7 @@ fn push_value(
         ++ content_equations (sheets_in context.now) context.now.first made.old.labels (shown_cell cell.now) attribute
         (content.Means value.now)) }
 {
-    let left = TypeTerm::Att(attribute, generator_term(context.alloc, cell.generator));
+    let left = TypeTerm::Att(attribute, generator_term(cell.generator));
     let right = value_term(context.alloc, context.first, &made.labels, value)?;
     made.equations.push(Equation::Typ(left, right))?;
     Ok(())

@@ -15,7 +15,8 @@ use cq_base::{Name, Names, Seq, number_at};
 use cq_theory::lookup::{build, declare, in_part_of, of_arrow, path_keys, table_of, type_term};
 use cq_theory::route::path_attribute;
 use cq_theory::{
-    ArrowImage, ArrowPart, ArrowRefusal, Con, Edge, EntTerm, Schema, Sort, TheoryRefusal, TypeTerm,
+    ArrowImage, ArrowPart, ArrowRefusal, Con, Edge, EntTerm, Path, Schema, Sort, TheoryRefusal,
+    TypeTerm,
 };
 use std::alloc::{AllocError, Global};
 
@@ -142,7 +143,7 @@ fn make_path_term(alloc: Global, target: &Schema, names: &[Name]) -> Result<Type
         attribute,
         EntTerm {
             generator: 0,
-            path: Seq::from_vec(path),
+            path: Path::from_vec(path)?,
         },
     ))
 }

@@ -6,8 +6,7 @@ ghost use Rattle.cq_mapping.specs.Duties.{duties_of};
 
 use crate::images::image_of_entity;
 use crate::mapping::Mapping;
-use cq_base::Seq;
-use cq_theory::{EntTerm, Equation, ObsEq, PathEq};
+use cq_theory::{EntTerm, Equation, ObsEq, Path, PathEq};
 use std::alloc::{AllocError, Global};
 
 /// An equation of the target over one generator of an entity, which is the image of an equation of the source.
@@ -37,7 +36,7 @@ fn path_term(alloc: Global, mapping: &Mapping, path: &[u32]) -> Result<EntTerm, 
     let path = mapping.image_path(alloc, path)?;
     Ok(EntTerm {
         generator: 0,
-        path: Seq::from_vec(path),
+        path: Path::from_vec(path)?,
     })
 }
 

@@ -5,7 +5,7 @@ ghost use Rattle.cq_mapping.specs.Images.{entity_image, key_image, attribute_ima
 
 use crate::mapping::Mapping;
 use cq_base::Seq;
-use cq_theory::{Con, EntTerm, TypeTerm, substitute};
+use cq_theory::{Con, EntTerm, Path, TypeTerm, substitute};
 use std::alloc::{AllocError, Global};
 
 impl Mapping {
@@ -62,7 +62,7 @@ pub(crate) fn image_of_ent(
     let path = mapping.image_path(alloc, term.path.as_slice())?;
     Ok(EntTerm {
         generator: term.generator,
-        path: Seq::from_vec(path),
+        path: Path::from_vec(path)?,
     })
 }
 

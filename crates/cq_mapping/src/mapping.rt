@@ -7,7 +7,7 @@ ghost use Rattle.cq_mapping.specs.MappingParts.{mapping_fault, mapping_made};
 use crate::arrows::make_arrows;
 use crate::blocks::make_entities;
 use cq_base::Seq;
-use cq_theory::{ArrowRefusal, EntTerm, MappingParts, Schema, TypeTerm};
+use cq_theory::{ArrowRefusal, EntTerm, MappingParts, Path, Schema, TypeTerm};
 use std::alloc::{AllocError, Global};
 use std::marker::Model;
 use std::rc::Rc;
@@ -163,7 +163,7 @@ fn single_attributes(alloc: Global, count: u32) -> Result<Vec<TypeTerm>, AllocEr
     for attribute in 0..count {
         let variable = EntTerm {
             generator: 0,
-            path: Seq::from_vec(Vec::new(alloc)),
+            path: Path::empty(),
         };
         made.push(TypeTerm::Att(attribute, variable))?;
     }

@@ -12,9 +12,8 @@ ghost use Rattle.cq_names.specs.Closed.{AreClosed};
 ghost use Rattle.cq_instance.specs.TermOrder.{generator_term, one_further};
 ghost use Rattle.cq_names.specs.Walking.{Meets, IsWalked, IsWalkOf};
 
-use cq_base::Seq;
 use cq_tables::Tables;
-use cq_theory::{EntTerm, Presentation, Schema, Sort};
+use cq_theory::{EntTerm, Path, Presentation, Schema, Sort};
 use std::alloc::{AllocError, Global};
 use std::marker::Model;
 
@@ -51,14 +50,14 @@ impl Walk {
     }
 
     /// Names a row by a generator, if it has no name.
-    fn meet_generator(&mut self, alloc: Global, row: u64, generator: u32) -> Result<(), AllocError>
+    fn meet_generator(&mut self, row: u64, generator: u32) -> Result<(), AllocError>
         requires { row < length self.old.met }
         ensures { OnOk result (Meets self.old self.new row (generator_term generator)) }
     {
         if self.met[row as usize] {
             return Ok(());
         }
-        let path = Seq::from_vec(Vec::new(alloc));
+        let path = Path::empty();
         self.add(row, EntTerm { generator, path })
     }
 
@@ -93,11 +92,9 @@ impl Walk {
 fn further(alloc: Global, term: &EntTerm, key: u32) -> Result<EntTerm, AllocError>
     ensures { IfOk result (λ made. made ≡ one_further term.now key) }
 {
-    let mut path = Vec::from_slice(alloc, term.path.as_slice())?;
-    path.push(key)?;
     Ok(EntTerm {
         generator: term.generator,
-        path: Seq::from_vec(path),
+        path: term.path.followed_by(alloc, &[key])?,
     })
 }
 
@@ -119,7 +116,7 @@ fn begin(
         let Sort::Entity(_entity) = generator.1 else {
             continue;
         };
-        walk.meet_generator(alloc, entries[number], number as u32)?;
+        walk.meet_generator(entries[number], number as u32)?;
     }
     Ok(walk)
 }

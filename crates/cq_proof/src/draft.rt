@@ -12,7 +12,7 @@ ghost use Rattle.cq_proof.specs.Drafts.{top_entity, top_type, top_equation, unde
 use crate::stack::{put, taken};
 use cq_base::{Name, NameRefusal, Seq};
 use cq_steps::{Rule, Step};
-use cq_theory::{Con, EntTerm, Equation, TypeTerm};
+use cq_theory::{Con, EntTerm, Equation, Path, TypeTerm};
 use std::alloc::{AllocError, Global};
 use std::mem::replace;
 
@@ -36,12 +36,12 @@ fn word(number: u64) -> u32
 }
 
 /// The generator of this number.
-fn generator_term(alloc: Global, number: u32) -> EntTerm
+fn generator_term(number: u32) -> EntTerm
     ensures { result ≡ generator number }
 {
     EntTerm {
         generator: number,
-        path: Seq::from_vec(Vec::new(alloc)),
+        path: Path::empty(),
     }
 }
 
@@ -58,15 +58,12 @@ fn name_of(alloc: Global, bytes: &[u8]) -> Result<Name, AllocError>
 }
 
 /// The term with one more key.
-fn followed(term: EntTerm, key: u32) -> Result<EntTerm, AllocError>
-    ensures { IfOk result (λ made. made ≡ extended term (key ∷ [])) }
+fn followed(alloc: Global, term: &EntTerm, key: u32) -> Result<EntTerm, AllocError>
+    ensures { IfOk result (λ made. made ≡ extended term.now (key ∷ [])) }
 {
-    let EntTerm { generator, path } = term;
-    let mut keys = path.into_vec();
-    keys.push(key)?;
     Ok(EntTerm {
-        generator,
-        path: Seq::from_vec(keys),
+        generator: term.generator,
+        path: term.path.followed_by(alloc, &[key])?,
     })
 }
 
@@ -103,11 +100,11 @@ impl Draft {
         }
     }
 
-    fn taken_entity(&mut self, alloc: Global) -> EntTerm
+    fn taken_entity(&mut self) -> EntTerm
         ensures term { result ≡ top_entity (seen self.old).entities }
         ensures draft { seen self.new ≡ record (seen self.old) { entities = under (seen self.old).entities } }
     {
-        taken(&mut self.entities, generator_term(alloc, 0))
+        taken(&mut self.entities, generator_term(0))
     }
 
     fn taken_type(&mut self) -> TypeTerm
@@ -117,28 +114,28 @@ impl Draft {
         taken(&mut self.types, TypeTerm::Gen(0))
     }
 
-    fn taken_equation(&mut self, alloc: Global) -> Equation
+    fn taken_equation(&mut self) -> Equation
         ensures equation { result ≡ top_equation (seen self.old).equations }
         ensures draft { seen self.new ≡ record (seen self.old) { equations = under (seen self.old).equations } }
     {
-        let first = generator_term(alloc, 0);
-        let second = generator_term(alloc, 0);
+        let first = generator_term(0);
+        let second = generator_term(0);
         taken(&mut self.equations, Equation::Ent(first, second))
     }
 
     /// A term of an entity: a generator.
-    fn add_generator(&mut self, alloc: Global, number: u64) -> Result<(), AllocError>
+    fn add_generator(&mut self, number: u64) -> Result<(), AllocError>
         ensures { IfOk result (λ _. seen self.new ≡ with_generator number (seen self.old)) }
     {
-        put(&mut self.entities, generator_term(alloc, word(number)))
+        put(&mut self.entities, generator_term(word(number)))
     }
 
     /// One more key of the last term of an entity.
     fn add_key(&mut self, alloc: Global, number: u64) -> Result<(), AllocError>
         ensures { IfOk result (λ _. seen self.new ≡ with_key number (seen self.old)) }
     {
-        let term = self.taken_entity(alloc);
-        let longer = followed(term, word(number))?;
+        let term = self.taken_entity();
+        let longer = followed(alloc, &term, word(number))?;
         put(&mut self.entities, longer)
     }
 
@@ -166,10 +163,10 @@ impl Draft {
     }
 
     /// An attribute of the last term of an entity.
-    fn add_attribute(&mut self, alloc: Global, number: u64) -> Result<(), AllocError>
+    fn add_attribute(&mut self, number: u64) -> Result<(), AllocError>
         ensures { IfOk result (λ _. seen self.new ≡ with_attribute number (seen self.old)) }
     {
-        let term = self.taken_entity(alloc);
+        let term = self.taken_entity();
         put(&mut self.types, TypeTerm::Att(word(number), term))
     }
 
@@ -210,11 +207,11 @@ impl Draft {
     }
 
     /// An equation of the last two terms of entities.
-    fn add_entity_equation(&mut self, alloc: Global) -> Result<(), AllocError>
+    fn add_entity_equation(&mut self) -> Result<(), AllocError>
         ensures { IfOk result (λ _. seen self.new ≡ with_entity_equation 0 (seen self.old)) }
     {
-        let right = self.taken_entity(alloc);
-        let left = self.taken_entity(alloc);
+        let right = self.taken_entity();
+        let left = self.taken_entity();
         put(&mut self.equations, Equation::Ent(left, right))
     }
 
@@ -231,8 +228,8 @@ impl Draft {
     fn add_step(&mut self, alloc: Global, number: u64) -> Result<(), AllocError>
         ensures { IfOk result (λ _. seen self.new ≡ with_step number (seen self.old)) }
     {
-        let at = self.taken_entity(alloc);
-        let equation = self.taken_equation(alloc);
+        let at = self.taken_entity();
+        let equation = self.taken_equation();
         let from = replace(&mut self.from, Vec::new(alloc));
         self.steps.push(Step {
             rule: numbered_rule(number % 16, number / 16, at),
@@ -248,17 +245,17 @@ impl Draft {
     {
         let operand = number / 16;
         match number % 16 {
-            0 => self.add_generator(alloc, operand),
+            0 => self.add_generator(operand),
             1 => self.add_key(alloc, operand),
             2 => self.add_type_generator(operand),
             3 => self.add_constant(operand),
             4 => self.add_text(alloc),
-            5 => self.add_attribute(alloc, operand),
+            5 => self.add_attribute(operand),
             6 => self.add_function(alloc, operand),
             7 => self.add_byte(operand),
             8 => self.add_argument(),
             9 => self.add_premise(operand),
-            10 => self.add_entity_equation(alloc),
+            10 => self.add_entity_equation(),
             11 => self.add_type_equation(),
             _ => self.add_step(alloc, operand),
         }

@@ -22,10 +22,9 @@ pub(crate) fn shift_ent(alloc: Global, first: u32, term: &EntTerm) -> Result<Ent
     ensures { IfOk result (λ made. made ≡ shifted_ent first term.now) }
 {
     let generator = shifted(first, term.generator)?;
-    let path = Vec::from_slice(alloc, term.path.as_slice())?;
     Ok(EntTerm {
         generator,
-        path: Seq::from_vec(path),
+        path: term.path.clone()?,
     })
 }
 

@@ -3,7 +3,7 @@ use crate::halt::Halt;
 use crate::node::{Node, Symbol};
 use crate::terms::Terms;
 use cq_base::Seq;
-use cq_theory::{Con, EntTerm, Equation, TypeTerm};
+use cq_theory::{Con, EntTerm, Equation, Path, TypeTerm};
 use std::alloc::Global;
 
 /// The equation between two nodes.
@@ -29,7 +29,7 @@ pub fn entity_term_of(alloc: Global, terms: &Terms, number: u64) -> Result<EntTe
                 path.reverse();
                 return Ok(EntTerm {
                     generator,
-                    path: Seq::from_vec(path),
+                    path: Path::from_vec(path)?,
                 });
             }
             Symbol::Key(key) => {

@@ -9,10 +9,9 @@ use std::alloc::{AllocError, Global};
 pub fn copy_entity_term(alloc: Global, term: &EntTerm) -> Result<EntTerm, AllocError>
     ensures { IfOk result (λ made. made ≡ term.now) }
 {
-    let path = Vec::from_slice(alloc, term.path.as_slice())?;
     Ok(EntTerm {
         generator: term.generator,
-        path: Seq::from_vec(path),
+        path: term.path.clone()?,
     })
 }
 

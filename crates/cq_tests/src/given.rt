@@ -9,7 +9,7 @@ use cq_parse::parse;
 use cq_parts::{instance_parts, schema_parts, typeside_parts};
 use cq_syntax::{Body, InstanceExp, InstanceLit, Program, SchemaExp, SchemaLit, TypesideLit};
 use cq_theory::{
-    EntTerm, Presentation, PresentationParts, Schema, SchemaParts, TheoryRefusal, Typeside,
+    EntTerm, Path, Presentation, PresentationParts, Schema, SchemaParts, TheoryRefusal, Typeside,
     TypesideParts,
 };
 use std::alloc::Global;
@@ -169,9 +169,6 @@ pub(crate) fn instance(rt: &impl Abort, alloc: Global, text: &str) -> Instance {
 }
 
 pub(crate) fn ent_term(rt: &impl Abort, alloc: Global, (generator, path): Keys) -> EntTerm {
-    let path = Vec::from_slice(alloc, path).expect(rt, "memory");
-    EntTerm {
-        generator,
-        path: Seq::from_vec(path),
-    }
+    let path = Path::from_slice(alloc, path).expect(rt, "memory");
+    EntTerm { generator, path }
 }

@@ -1,6 +1,7 @@
 pub mod Constant
 pub mod TypesideData
 pub mod SchemaData
+pub mod FollowedKeys
 pub mod EntTerm
 pub mod TypeTerm
 pub mod Carried

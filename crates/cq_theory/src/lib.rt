@@ -22,6 +22,7 @@ pub mod groups;
 pub mod laws;
 pub mod lookup;
 pub mod parts;
+pub mod path;
 pub mod presentation;
 pub mod route;
 pub mod schema;
@@ -42,6 +43,7 @@ pub use parts::{
     ArrowImage, ArrowPart, ColimitParts, MappingParts, ObsPart, PresentationParts, SchemaParts,
     TypesideParts,
 };
+pub use path::Path;
 pub use presentation::{Equation, Presentation, Sort};
 pub use route::{Route, resolve_path};
 pub use schema::{Edge, ObsEq, PathEq, Schema};

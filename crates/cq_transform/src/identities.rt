@@ -10,7 +10,7 @@ ghost use Rattle.cq_transform.specs.Transforms.{GoesFrom};
 
 use cq_base::{Name, Seq};
 use cq_instance::{Image, Instance, Transform};
-use cq_theory::{EntTerm, Sort, TypeTerm, Value};
+use cq_theory::{EntTerm, Path, Sort, TypeTerm, Value};
 use std::alloc::{AllocError, Global};
 
 /// The transform that sends each generator, each row and each null of an instance to itself.
@@ -33,14 +33,14 @@ pub fn identity(alloc: Global, instance: &Instance) -> Result<Transform, AllocEr
 }
 
 /// A generator as its own image.
-fn own_image(alloc: Global, number: u32, sort: Sort) -> Image
+fn own_image(number: u32, sort: Sort) -> Image
     ensures { (name : AnyName) → result ≡ itself (number, (name, sort)) }
 {
     match sort {
         Sort::Plain(_) => Image::Value(TypeTerm::Gen(number)),
         Sort::Entity(_) => Image::Row(EntTerm {
             generator: number,
-            path: Seq::from_vec(Vec::new(alloc)),
+            path: Path::empty(),
         }),
     }
 }
@@ -52,7 +52,7 @@ fn own_images(alloc: Global, generators: &[(Name, Sort)]) -> Result<Vec<Image>, 
 {
     let mut images = Vec::with_capacity(alloc, generators.len())?;
     for (number, generator) in generators.iter().enumerate() {
-        images.push(own_image(alloc, number as u32, generator.1))?;
+        images.push(own_image(number as u32, generator.1))?;
     }
     Ok(images)
 }

@@ -12,14 +12,14 @@ ghost use Rattle.cq_transform.specs.Images.{image_named, names_of, sorts_of, sco
 
 use crate::refusal::{TransformRefusal, of_transform};
 use crate::scope::sort_of;
-use cq_base::{Name, Names, Raw, Seq};
+use cq_base::{Name, Names, Raw};
 use cq_instance::Image;
 use cq_scope::{Firsts, Scope, build_over, firsts_of};
 use cq_theory::lookup::{
     declare, has_reserved, has_unknown, has_wrong_count, have_one_sort, in_part_of, is_too_large,
     sort_of_raw,
 };
-use cq_theory::{EntTerm, Schema, Sort, Term, TermRefusal, TheoryRefusal};
+use cq_theory::{EntTerm, Path, Schema, Sort, Term, TermRefusal, TheoryRefusal};
 use std::alloc::{AllocError, Global};
 
 /// Whether a name is unknown: that of the generator, which then has no sort, or one in its image.
@@ -186,7 +186,7 @@ fn image_in(
         Some(part) => image_from(alloc, schema, to, &part.1),
         None => Ok(Image::Row(EntTerm {
             generator: 0,
-            path: Seq::from_vec(Vec::new(alloc)),
+            path: Path::empty(),
         })),
     }
 }

@@ -10,12 +10,11 @@ ghost use Rattle.cq_witness.specs.Depth.{TellsDepth};
 use crate::paths::{over, path_equation, path_term};
 use crate::phrases::{Phrase, append_phrase};
 use crate::terms::append_entity_term;
-use cq_base::Seq;
 use cq_explain::push_equation;
 use cq_growth::{first_new, repeated_keys};
 use cq_rows::{Outline, Partial, RowsRefusal, saturate_over};
 use cq_text::push_number;
-use cq_theory::{Edge, EntTerm, Presentation, Schema};
+use cq_theory::{Edge, EntTerm, Path, Presentation, Schema};
 use std::alloc::{AllocError, Global};
 
 /// The entity from which a key goes, and 0 where there is no such key.
@@ -55,7 +54,7 @@ fn first_step(alloc: Global, term: &EntTerm) -> Result<EntTerm, AllocError>
     let path = first_key(alloc, term.path.as_slice())?;
     Ok(EntTerm {
         generator: term.generator,
-        path: Seq::from_vec(path),
+        path: Path::from_vec(path)?,
     })
 }
 

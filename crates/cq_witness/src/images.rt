@@ -14,7 +14,7 @@ use cq_base::{Name, Raw, Seq};
 use cq_instance::{Image, Instance};
 use cq_scope::{Firsts, build_over, firsts_of};
 use cq_terms::copy_type_term;
-use cq_theory::{Con, EntTerm, Equation, Schema, Sort, Term, TypeTerm, alone, extend};
+use cq_theory::{Con, EntTerm, Equation, Path, Schema, Sort, Term, TypeTerm, alone, extend};
 use std::alloc::{AllocError, Global};
 
 /// The most parts of which names are looked up.
@@ -74,7 +74,7 @@ fn image_in(
         Some(part) => image_from(alloc, schema, to, &part.1),
         None => Ok(Image::Row(EntTerm {
             generator: 0,
-            path: Seq::from_vec(Vec::new(alloc)),
+            path: Path::empty(),
         })),
     }
 }

@@ -4,7 +4,7 @@ ghost use Rattle.cq_text.specs.Transcript.{name_or_empty};
 ghost use Rattle.cq_witness.specs.Paths.{from_there, over as over_entity, path_equation as equation_of_paths};
 
 use cq_base::{Name, Seq};
-use cq_theory::{EntTerm, Equation, Presentation, Schema, Sort};
+use cq_theory::{EntTerm, Equation, Path, Presentation, Schema, Sort};
 use std::alloc::{AllocError, Global};
 
 /// The name of an entity, and the empty one where there is no such entity.
@@ -33,10 +33,9 @@ pub fn over(alloc: Global, schema: &Schema, entity: u32) -> Result<Presentation,
 pub fn path_term(alloc: Global, path: &[u32]) -> Result<EntTerm, AllocError>
     ensures { IfOk result (λ made. made ≡ from_there path.now) }
 {
-    let path = Vec::from_slice(alloc, path)?;
     Ok(EntTerm {
         generator: 0,
-        path: Seq::from_vec(path),
+        path: Path::from_slice(alloc, path)?,
     })
 }
 

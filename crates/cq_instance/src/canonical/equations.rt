@@ -8,7 +8,7 @@ ghost use Rattle.cq_instance.specs.Numbers as made_of;
 use crate::canonical::Numbers;
 use cq_base::{Seq, number_at};
 use cq_terms::{cell_term, push_entries};
-use cq_theory::{EntTerm, Entry, Equation, Sheet, TypeTerm, Value, alone};
+use cq_theory::{EntTerm, Entry, Equation, Path, Sheet, TypeTerm, Value, alone};
 use std::alloc::{AllocError, Global};
 
 /// A row of an entity: its number among the entity's rows, and its generator.
@@ -59,11 +59,9 @@ fn key_equation(
     requires { made_of.target_generator sheet.now numbers.now key row.number < 2 ^ 32 }
     ensures { IfOk result (λ made. made ≡ made_of.key_made sheet.now numbers.now row.generator row.number key) }
 {
-    let mut path = Vec::with_capacity(alloc, 1)?;
-    path.push(key)?;
     let left = EntTerm {
         generator: row.generator,
-        path: Seq::from_vec(path),
+        path: Path::from_slice(alloc, &[key])?,
     };
     let right = alone(alloc, target_generator(sheet, numbers, key, row.number));
     Ok(Equation::Ent(left, right))

@@ -9,6 +9,7 @@ ghost use Rattle.cq_theory.specs.Resolved.{constant_term, word_term, symbol_term
 use crate::constant::Con;
 use crate::lookup::faults::term_fault;
 use crate::lookup::{Symbol, TermRefusal};
+use crate::path::Path;
 use crate::presentation::{Equation, Sort};
 use crate::schema::Schema;
 use crate::term::{EntTerm, Term, TypeTerm};
@@ -38,13 +39,13 @@ pub fn resolve(
     }
 }
 
-pub(crate) fn generator(alloc: Global, number: u32, sort: Option<Sort>) -> Term
+pub(crate) fn generator(number: u32, sort: Option<Sort>) -> Term
     ensures { result ≡ generator_term number sort }
 {
     match sort {
         Some(Sort::Entity(_)) => Term::Ent(EntTerm {
             generator: number,
-            path: Seq::from_vec(Vec::new(alloc)),
+            path: Path::empty(),
         }),
         Some(Sort::Plain(_)) => Term::Typ(TypeTerm::Gen(number)),
         None => Term::Typ(TypeTerm::Gen(number)),
@@ -71,11 +72,11 @@ fn find_word(schema: &Schema, word: &Name) -> Option<Con>
 }
 
 /// A word, which is a generator where there is one of that name, and else a constant.
-fn word(alloc: Global, sorts: &[Sort], number: Option<u32>, other: Option<Con>) -> Term
+fn word(sorts: &[Sort], number: Option<u32>, other: Option<Con>) -> Term
     ensures { result ≡ word_term sorts.now number other }
 {
     match number {
-        Some(number) => generator(alloc, number, sorts.get(number as usize).copied()),
+        Some(number) => generator(number, sorts.get(number as usize).copied()),
         None => constant(other),
     }
 }
@@ -91,14 +92,14 @@ pub fn type_term(term: Term) -> TypeTerm
 }
 
 /// The entity term, which is there where the whole term breaks no rule.
-pub fn entity_term(alloc: Global, term: Term) -> EntTerm
+pub fn entity_term(term: Term) -> EntTerm
     ensures { result ≡ entity_term_in term }
 {
     match term {
         Term::Ent(term) => term,
         Term::Typ(_) => EntTerm {
             generator: 0,
-            path: Seq::from_vec(Vec::new(alloc)),
+            path: Path::empty(),
         },
     }
 }
@@ -118,15 +119,12 @@ pub fn make_equation(left: Term, right: Term) -> Equation
 }
 
 /// The term with one more foreign key.
-pub(crate) fn with_key(term: EntTerm, key: u32) -> Result<EntTerm, AllocError>
-    ensures { IfOk result (λ made. made ≡ extended term (key ∷ [])) }
+pub(crate) fn with_key(alloc: Global, term: &EntTerm, key: u32) -> Result<EntTerm, AllocError>
+    ensures { IfOk result (λ made. made ≡ extended term.now (key ∷ [])) }
 {
-    let EntTerm { generator, path } = term;
-    let mut path = path.into_vec();
-    path.push(key)?;
     Ok(EntTerm {
-        generator,
-        path: Seq::from_vec(path),
+        generator: term.generator,
+        path: term.path.followed_by(alloc, &[key])?,
     })
 }
 
@@ -141,7 +139,7 @@ pub fn build(
     ensures { IfOk result (λ term. term ≡ resolved schema.now names.now sorts.now raw.now) }
 {
     match raw {
-        Raw::Word(name) => Ok(word(alloc, sorts, names.find(name), find_word(schema, name))),
+        Raw::Word(name) => Ok(word(sorts, names.find(name), find_word(schema, name))),
         Raw::Text(name) => Ok(constant(schema.find_text(name)?)),
         Raw::App(name, args) => {
             let term = build_application(alloc, schema, names, sorts, name, args.as_slice())?;
@@ -169,7 +167,7 @@ fn build_application(
         }
         Some(Symbol::Key(key)) => {
             let term = build_first(alloc, schema, names, sorts, args)?;
-            Ok(Term::Ent(with_key(term, key)?))
+            Ok(Term::Ent(with_key(alloc, &term, key)?))
         }
         Some(Symbol::Attribute(attribute)) => {
             let term = build_first(alloc, schema, names, sorts, args)?;
@@ -211,11 +209,11 @@ fn build_first(
     match args.first() {
         Some(arg) => {
             let term = build(alloc, schema, names, sorts, arg)?;
-            Ok(entity_term(alloc, term))
+            Ok(entity_term(term))
         }
         None => Ok(EntTerm {
             generator: 0,
-            path: Seq::from_vec(Vec::new(alloc)),
+            path: Path::empty(),
         }),
     }
 }

@@ -35,7 +35,6 @@ fn typed_constant(schema: &Schema, number: u32) -> Option<(Term, Sort)>
 
 /// A word with its sort: a generator where there is one of that name, and else a constant.
 fn typed_word(
-    alloc: Global,
     schema: &Schema,
     sorts: &[Sort],
     number: Option<u32>,
@@ -46,7 +45,7 @@ fn typed_word(
 {
     match number {
         Some(number) => match sorts.get(number as usize) {
-            Some(sort) => Some((generator(alloc, number, Some(*sort)), *sort)),
+            Some(sort) => Some((generator(number, Some(*sort)), *sort)),
             None => None,
         },
         None => match schema.find_constant(name) {
@@ -86,6 +85,7 @@ fn typed_function(number: u32, kind: u32, args: Option<Seq<TypeTerm>>) -> Option
 
 /// The foreign key of the term of this entity, with the entity that it leads to.
 fn typed_key(
+    alloc: Global,
     schema: &Schema,
     number: u32,
     made: Option<(EntTerm, u32)>,
@@ -96,7 +96,10 @@ fn typed_key(
 {
     match made {
         Some((term, entity)) => match edge_target(schema.keys.as_slice(), number, Some(entity)) {
-            Some(target) => Ok(Some((Term::Ent(with_key(term, number)?), Sort::Entity(target)))),
+            Some(target) => Ok(Some((
+                Term::Ent(with_key(alloc, &term, number)?),
+                Sort::Entity(target),
+            ))),
             None => Ok(None),
         },
         None => Ok(None),
@@ -137,7 +140,7 @@ pub(crate) fn typed_term(
         (raw_sort schema.now names.now sorts.now raw.now)) }
 {
     match raw {
-        Raw::Word(name) => Ok(typed_word(alloc, schema, sorts, names.find(name), name)),
+        Raw::Word(name) => Ok(typed_word(schema, sorts, names.find(name), name)),
         Raw::Text(text) => typed_text(schema, text),
         Raw::App(name, args) => {
             typed_application(alloc, schema, names, sorts, name, args.as_slice())
@@ -176,7 +179,7 @@ fn typed_application(
         }
         Some(Symbol::Key(number)) => {
             let made = typed_only(alloc, schema, names, sorts, args)?;
-            typed_key(schema, number, made)
+            typed_key(alloc, schema, number, made)
         }
         Some(Symbol::Attribute(number)) => {
             let made = typed_only(alloc, schema, names, sorts, args)?;
@@ -204,7 +207,7 @@ fn typed_only(
         return Ok(None);
     };
     match entity_of_sort(Some(sort)) {
-        Some(entity) => Ok(Some((entity_term(alloc, term), entity))),
+        Some(entity) => Ok(Some((entity_term(term), entity))),
         None => Ok(None),
     }
 }
