@@ -264,6 +264,22 @@ def one_tied(n):
     return queried(n, " ".join(f"a{k}.f = a0" for k in range(1, n)), "x y", "x.f = x y.f = y")
 
 
+@file("100 free keys", 100, "refused")
+def hundred_keys(n):
+    return schema(f"entities E foreign_keys {names('k', n)} : E -> E") + instance("a : E", "")
+
+
+@file("440 free keys", 440, "refused")
+def free_keys(n):
+    return schema(f"entities E foreign_keys {names('k', n)} : E -> E") + instance("a : E", "")
+
+
+@file("440 free keys beside one that an equation reads", 440, "refused")
+def keys_beside(n):
+    keys = f"foreign_keys f {names('k', n)} : E -> E path_equations f.f = f"
+    return schema(f"entities E {keys}") + instance("a b : E", "a.f = b")
+
+
 def twins(n, one, other):
     """So many texts, each of seventeen of the two pieces, which are of one length."""
     return ["".join(other if number >> bit & 1 else one for bit in range(17)) for number in range(n)]

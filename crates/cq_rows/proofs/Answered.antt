@@ -1,5 +1,5 @@
 -- What the end of a stage says of the schema and the presentation.
-use Rattle.std.proofs.Common.{◌≡◌, ℕ, List, Option, Some, None, refl, sym, ◌∙◌, ap}
+use Rattle.std.proofs.Common.{◌≡◌, ℕ, List, Option, Some, None, Result, Err, refl, sym, ◌∙◌, ap}
 use Rattle.std.proofs.lemmas.List.{length-map}
 use Rattle.std.proofs.lemmas.Option.{none-some, slice_get-map}
 use Rattle.std.specs.Prelude.{slice_get, option_and_then, option_map}
@@ -18,6 +18,10 @@ use Rattle.cq_rows.specs.Saturated.{HasEntries, OneRowIsEqual, AllTraced, Within
 use Rattle.cq_rows.specs.Stage.{IsStage}
 use Rattle.cq_rows.proofs.Bridge.{sort_same, start_same, tree, from_within, closes_plain, wide_tree, is_given}
 use Rattle.cq_rows.proofs.Stages.{stage_sound, within_one_row, have_rows}
+
+-- one refusal, whatever the other answers are
+pub same_refusal : {A B E : Type 0} (x y : E) → ◌≡◌ {A = Result A E} (Err x) (Err y) → ◌≡◌ {A = Result B E} (Err x) (Err y)
+same_refusal x y h = let e : x ≡ y = cc in ap Err e
 
 found_at : (o : Option (Option ℕ)) (e : ℕ) → option_and_then (λ x. x) o ≡ Some e → o ≡ Some (Some e)
 found_at None e h = absurd (none-some e h)

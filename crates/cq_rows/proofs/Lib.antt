@@ -19,3 +19,6 @@ pub mod WellSorted
 pub mod Answered
 pub mod ByEntity
 pub mod Ready
+pub mod FreeWords
+pub mod Counting
+pub mod ReadKeys

@@ -14,7 +14,7 @@ use Rattle.cq_rows.proofs.Tracing.{trace_append, trace-append, trace_leads, trac
 pub have_rows : (s : Theory) (m : Content) (rows : List ℕ) (j : ℕ) → IsGrown s m rows j → HaveRows s m rows
 have_rows s m rows j g x e f = let o = g.sound.1.generators x e f in (o.live, o.kind)
 
-some_of : (o : Option ℕ) → IsSome o → (a : ℕ) × (o ≡ Some a)
+pub some_of : (o : Option ℕ) → IsSome o → (a : ℕ) × (o ≡ Some a)
 some_of None h = absurd (false≢true h)
 some_of (Some a) h = (a, refl)
 

@@ -8,3 +8,4 @@ pub mod Saturated
 pub mod Outline
 pub mod Stage
 pub mod Origin
+pub mod Unread

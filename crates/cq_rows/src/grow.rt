@@ -13,6 +13,7 @@ ghost use Rattle.cq_rows.specs.Stage.{IsStage};
 ghost use Rattle.cq_rows.specs.Saturated as saturated;
 ghost use Rattle.cq_rows.specs.declared.grow.RowsRefusal.TheVariants.{TooManyRows, Memory};
 
+use crate::ahead::{is_wide, weight};
 use crate::entries::Entries;
 use crate::fill::{all_filled, count_live, fill};
 use crate::origin::Origin;
@@ -25,6 +26,9 @@ use std::alloc::{AllocError, Global};
 
 /// The most live rows at the end of a stage.
 pub const MOST_ROWS: u64 = 200_000;
+
+// The most that the new rows of a stage may take, in cells of 24 bytes.
+const MOST_CELLS: u64 = 1 << 26;
 
 /// Rows that were made up to some depth. The entry of a generator of an entity is its row, that of a generator of a
 /// type is `u64::MAX`. It is closed exactly where all cells are filled.
@@ -47,7 +51,7 @@ impl Drop for Partial {
 /// Why there are no rows.
 #[derive(Clone, Copy, Debug, PartialEq, Eq)]
 pub enum RowsRefusal {
-    /// A stage ended with more than 200,000 live rows.
+    /// A stage ended with more than 200,000 live rows, or one would, whatever equations join.
     TooManyRows,
     Memory,
 }
@@ -82,6 +86,34 @@ fn begin(alloc: Global, origin: &Origin) -> Result<(Tables, Vec<u64>), AllocErro
     Ok((tables, entries))
 }
 
+// Refuses the stages ahead where they are too wide by keys that no equation reads, or where the next one takes too
+// much. Where it takes little, paths aren't counted.
+fn look_ahead(
+    alloc: Global,
+    origin: &Origin,
+    tables: &Tables,
+    depth: u32,
+) -> Result<(), RowsRefusal>
+    requires schema { IsSchema origin.now.schema.now }
+    requires frame { HasFrame origin.now.schema.now origin.now.outline.now }
+    requires keys { keys_of tables.now ≡ (theory_at origin.now).keys }
+    requires entities { entities_of tables.now ≡ length origin.now.schema.now.entities }
+    requires whole { IsWhole tables.now }
+    ensures { result ≡ Err TooManyRows → rows.SomeWide (theory_at origin.now) depth MOST_ROWS }
+{
+    let cells = weight(&origin.outline.keys, tables);
+    if cells <= MOST_ROWS {
+        return Ok(());
+    }
+    if is_wide(alloc, origin, depth, MOST_ROWS)? {
+        return Err(RowsRefusal::TooManyRows);
+    }
+    if cells > MOST_CELLS {
+        return Err(RowsRefusal::Memory);
+    }
+    Ok(())
+}
+
 // The tables at the end of the last stage, the rows of the generators, and whether all cells are filled.
 fn grow(alloc: Global, origin: &Origin, depth: u32) -> Result<(Tables, Entries, bool), RowsRefusal>
     requires schema { IsSchema origin.now.schema.now }
@@ -102,6 +134,7 @@ fn grow(alloc: Global, origin: &Origin, depth: u32) -> Result<(Tables, Entries, 
         if all_filled(&tables) {
             return Ok((tables, rows, true));
         }
+        look_ahead(alloc, origin, &tables, depth)?;
         fill(&origin.outline.keys, &mut tables)?;
         settle(alloc, origin, &mut tables, &mut rows)?;
         if count_live(&tables) > MOST_ROWS {
@@ -136,7 +169,8 @@ fn saturate_from(alloc: Global, origin: &Origin, depth: u32) -> Result<Partial, 
 /// equation joins two. The work stops where all cells are filled, or after stage `depth`. The answer is Ok also where
 /// cells are empty then.
 ///
-/// `TooManyRows` says that a stage ended with more than 200,000 live rows.
+/// `TooManyRows` says that a stage ended with more than 200,000 live rows, or that the last one would, by paths of keys
+/// that no equation reads. A stage that would take too much isn't begun: there is no memory for it.
 pub fn saturate(
     alloc: Global,
     schema: &Schema,

@@ -1,6 +1,7 @@
 //! The rows of entity term models, made stage by stage.
 #![tactic(auto)]
 
+mod ahead;
 mod entries;
 mod fill;
 mod grow;
@@ -10,6 +11,7 @@ mod origin;
 mod outline;
 mod renamings;
 mod settle;
+mod unread;
 mod waiting;
 
 pub use grow::{MOST_ROWS, Partial, RowsRefusal, saturate, saturate_over};

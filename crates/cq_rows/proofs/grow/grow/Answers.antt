@@ -1,5 +1,7 @@
 use Rattle.std.proofs.Common.{◌≡◌, ◌+◌, length, map, refl, sym, ap, ◌∙◌, arith}
+use Rattle.std.proofs.lemmas.Result.{err_from_is_err_and}
 use Rattle.cq_rows.specs.Entries.{rows_of}
+use Rattle.cq_rows.proofs.Answered.{same_refusal}
 use Rattle.cq_rows.proofs.Current.{IsBehind-start, IsBehind-extended}
 use Rattle.cq_rows.specs.Origin.{theory_at}
 use Rattle.cq_rows.specs.Plain.{ends_of}
@@ -63,6 +65,16 @@ all_filled-requires c = record { whole = c.loop-stage.invariant.stage.grown.whol
 
 pub all_filled-closed-requires : goal.all_filled-closed-requires
 all_filled-closed-requires c = record { whole = c.loop-stage.invariant.stage.grown.whole }
+
+pub look_ahead-requires : goal.look_ahead-requires
+look_ahead-requires c =
+    let g = c.loop-stage.invariant.stage.grown in
+    record { schema = c.requires.schema; frame = c.requires.outline.frame; keys = g.sound.1.keys; entities = g.sound.1.entities; whole = g.whole }
+
+pub returns-in_err-look_ahead-clause-many : goal.returns-in_err-look_ahead-clause-many
+returns-in_err-look_ahead-clause-many c =
+    let p = err_from_is_err_and c.from_residual-in_err-look_ahead.result c.from_residual-in_err-look_ahead.ensures.1 in
+    rw (p.1, p.2) (λ e. c.in_err-look_ahead.ensures (same_refusal _ _ e))
 
 pub fill-requires : goal.fill-requires
 fill-requires c =

@@ -1,13 +1,8 @@
-use Rattle.std.proofs.Common.{◌≡◌, ap, Result, Err}
 use Rattle.std.proofs.lemmas.Result.{err_from_is_err_and}
 use Rattle.cq_rows.specs.Entries.{rows_of}
 use Rattle.cq_rows.proofs.WellSorted.{theory_is}
-use Rattle.cq_rows.proofs.Answered.{has_entries, one_row, all_traced, within_row, all_named, path_equations, entity_equations, none_closes, some_wide}
+use Rattle.cq_rows.proofs.Answered.{has_entries, one_row, all_traced, within_row, all_named, path_equations, entity_equations, none_closes, some_wide, same_refusal}
 use Rattle.cq_rows.proofs.grow.saturate_from.Goals as goal
-
--- one refusal, whatever the other answers are
-same_refusal : {A B E : Type 0} (x y : E) → ◌≡◌ {A = Result A E} (Err x) (Err y) → ◌≡◌ {A = Result B E} (Err x) (Err y)
-same_refusal x y h = let e : x ≡ y = cc in ap Err e
 
 pub grow-requires : goal.grow-requires
 grow-requires c = record {
