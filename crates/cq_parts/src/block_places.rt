@@ -1,11 +1,11 @@
 //! The places of the parts of queries, in the order in which the parts are numbered.
-ghost use Rattle.std.specs.Prelude.{◌≡◌, ◌++◌, IfOk, OnOk, map};
+ghost use Rattle.std.specs.Prelude.{◌≡◌, ◌++◌, IfOk, OnOk};
 ghost use Rattle.std.specs.List.{flat_map};
-ghost use Rattle.cq_parts.specs.Parts.{clause_places, key_places, query_places, variable_places};
+ghost use Rattle.cq_parts.specs.Parts.{clause_places, query_places, variable_places};
 
-use crate::places::{push_binds, push_equations, push_groups};
+use crate::placed::{push_all, push_each};
 use cq_base::Place;
-use cq_syntax::{QueryBlock, QueryKey, QueryLit};
+use cq_syntax::{QueryBlock, QueryLit};
 use std::alloc::{AllocError, Global};
 
 /// The places of the parts of a query.
@@ -14,26 +14,17 @@ pub fn query_places(alloc: Global, literal: &QueryLit) -> Result<Vec<Place>, All
     ensures { IfOk result (λ places. places.items ≡ query_places literal.now) }
 {
     let mut places = Vec::new(alloc);
-    push_blocks(&mut places, literal.blocks.as_slice())?;
+    push_each(&mut places, literal.blocks.as_slice())?;
     push_variables(&mut places, literal.blocks.as_slice())?;
     push_clauses(&mut places, literal.blocks.as_slice())?;
     Ok(places)
-}
-
-fn push_blocks(places: &mut Vec<Place>, blocks: &[QueryBlock]) -> Result<(), AllocError>
-    ensures { OnOk result (places.new.items ≡ places.old.items ++ map (λ b. b.place) blocks.now) }
-{
-    for block in blocks {
-        places.push(block.place)?;
-    }
-    Ok(())
 }
 
 fn push_variables(places: &mut Vec<Place>, blocks: &[QueryBlock]) -> Result<(), AllocError>
     ensures { OnOk result (places.new.items ≡ places.old.items ++ flat_map variable_places blocks.now) }
 {
     for block in blocks {
-        push_groups(places, block.vars.as_slice())?;
+        push_all(places, block.vars.as_slice())?;
     }
     Ok(())
 }
@@ -50,25 +41,8 @@ fn push_clauses(places: &mut Vec<Place>, blocks: &[QueryBlock]) -> Result<(), Al
 fn push_block_clauses(places: &mut Vec<Place>, block: &QueryBlock) -> Result<(), AllocError>
     ensures { OnOk result (places.new.items ≡ places.old.items ++ clause_places block.now) }
 {
-    push_equations(places, block.tests.as_slice())?;
-    push_binds(places, block.attributes.as_slice())?;
-    push_keys(places, block.keys.as_slice())?;
-    Ok(())
-}
-
-fn push_keys(places: &mut Vec<Place>, keys: &[QueryKey]) -> Result<(), AllocError>
-    ensures { OnOk result (places.new.items ≡ places.old.items ++ flat_map key_places keys.now) }
-{
-    for key in keys {
-        push_key(places, key)?;
-    }
-    Ok(())
-}
-
-fn push_key(places: &mut Vec<Place>, key: &QueryKey) -> Result<(), AllocError>
-    ensures { OnOk result (places.new.items ≡ places.old.items ++ key_places key.now) }
-{
-    places.push(key.place)?;
-    push_binds(places, key.assigns.as_slice())?;
+    push_each(places, block.tests.as_slice())?;
+    push_each(places, block.attributes.as_slice())?;
+    push_all(places, block.keys.as_slice())?;
     Ok(())
 }

@@ -4,6 +4,7 @@ ghost use Rattle.std.specs.List.{enumerate_from, flat_map};
 ghost use Rattle.cq_parts.specs.Parts.{assign_clause, attribute_clause, block_clauses, block_variables, key_clauses};
 ghost use Rattle.cq_parts.specs.Parts.{query_parts, test_clause, variable_parts};
 
+use crate::copied::{HasPart, parts_of_each};
 use crate::raw::copy_raw;
 use cq_base::{Name, Raw, Seq};
 use cq_blocks::{Clause, QueryParts};
@@ -16,7 +17,7 @@ pub fn query_parts(alloc: Global, literal: &QueryLit) -> Result<QueryParts, Allo
     requires { length literal.now.blocks < 2 ^ 32 }
     ensures { IfOk result (λ parts. parts ≡ query_parts literal.now) }
 {
-    let entities = entities_in(alloc, literal.blocks.as_slice())?;
+    let entities = parts_of_each(alloc, literal.blocks.as_slice())?;
     let vars = variables_in(alloc, literal.blocks.as_slice())?;
     let clauses = clauses_in(alloc, literal.blocks.as_slice())?;
     Ok(QueryParts {
@@ -26,14 +27,14 @@ pub fn query_parts(alloc: Global, literal: &QueryLit) -> Result<QueryParts, Allo
     })
 }
 
-fn entities_in(alloc: Global, blocks: &[QueryBlock]) -> Result<Seq<Name>, AllocError>
-    ensures { IfOk result (λ names. names ≡ map (λ b. b.entity) blocks.now) }
-{
-    let mut names = Vec::new(alloc);
-    for block in blocks {
-        names.push(block.entity.clone()?)?;
+impl HasPart for QueryBlock {
+    type Part = Name;
+
+    ghost part_of = { λ b. b.entity };
+
+    fn part(&self, _alloc: Global) -> Result<Name, AllocError> {
+        self.entity.clone()
     }
-    Ok(Seq::from_vec(names))
 }
 
 fn variables_in(alloc: Global, blocks: &[QueryBlock]) -> Result<Seq<(u32, Name, Name)>, AllocError>

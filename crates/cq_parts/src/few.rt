@@ -1,5 +1,5 @@
 //! Whether declarations and parts can be counted by numbers of 32 bits.
-ghost use Rattle.std.specs.Prelude.{◌≡◌, ◌+◌, ◌-◌, ◌<◌, ◌≤◌, ◌^◌, ◌↔◌, All, IsTrue, length, sum_by};
+ghost use Rattle.std.specs.Prelude.{ℕ, ◌≡◌, ◌+◌, ◌-◌, ◌<◌, ◌≤◌, ◌^◌, ◌↔◌, All, IsTrue, length, sum_by};
 ghost use Rattle.std.specs.Option.{SomeIff};
 ghost use Rattle.cq_syntax.specs.declared.program.Body.TheVariants.{Mapping, Query, Instance, Transform};
 ghost use Rattle.cq_parts.specs.Few.{HasFewParts, part_count};
@@ -66,10 +66,10 @@ fn has_few_in_typeside(literal: &TypesideLit) -> bool
     let Some(room) = room_after(room, count_of(&literal.literals)) else {
         return false;
     };
-    let Some(room) = room_after_groups(room, literal.constants.as_slice()) else {
+    let Some(room) = room_after_each(room, literal.constants.as_slice()) else {
         return false;
     };
-    room_after_functions(room, literal.functions.as_slice()).is_some()
+    room_after_each(room, literal.functions.as_slice()).is_some()
 }
 
 /// How many parts the name of an open type is.
@@ -88,13 +88,13 @@ fn has_few_in_schema(literal: &SchemaLit) -> bool
     let Some(room) = room_after(u32::MAX, literal.entities.len()) else {
         return false;
     };
-    let Some(room) = room_after_edges(room, literal.keys.as_slice()) else {
+    let Some(room) = room_after_each(room, literal.keys.as_slice()) else {
         return false;
     };
     let Some(room) = room_after(room, literal.path_eqs.len()) else {
         return false;
     };
-    let Some(room) = room_after_edges(room, literal.attributes.as_slice()) else {
+    let Some(room) = room_after_each(room, literal.attributes.as_slice()) else {
         return false;
     };
     room_after(room, literal.obs_eqs.len()).is_some()
@@ -116,7 +116,7 @@ fn has_few_in_blocks(literal: &MappingLit) -> bool
     let Some(room) = room_after(u32::MAX, literal.blocks.len()) else {
         return false;
     };
-    room_after_blocks(room, literal.blocks.as_slice()).is_some()
+    room_after_each(room, literal.blocks.as_slice()).is_some()
 }
 
 fn has_few_in_query(expression: &QueryExp) -> bool
@@ -138,7 +138,7 @@ fn has_few_in_query_literal(literal: &QueryLit) -> bool
     let Some(room) = room_after_variables(room, literal.blocks.as_slice()) else {
         return false;
     };
-    room_after_clauses(room, literal.blocks.as_slice()).is_some()
+    room_after_each(room, literal.blocks.as_slice()).is_some()
 }
 
 fn has_few_in_transform(expression: &TransformExp) -> bool
@@ -170,7 +170,7 @@ fn has_few_in_instance(expression: &InstanceExp) -> bool
 fn has_few_in_literal(literal: &InstanceLit) -> bool
     ensures { IsTrue result ↔ (instance_count literal.now < 2 ^ 32) }
 {
-    let Some(room) = room_after_groups(u32::MAX, literal.generators.as_slice()) else {
+    let Some(room) = room_after_each(u32::MAX, literal.generators.as_slice()) else {
         return false;
     };
     room_after(room, literal.equations.len()).is_some()
@@ -187,13 +187,21 @@ fn room_after(room: u32, parts: usize) -> Option<u32>
     }
 }
 
-fn room_after_groups(room: u32, groups: &[GroupSyn]) -> Option<u32>
-    ensures { SomeIff result (sum_by (λ g. length g.names) groups.now ≤ room)
-        (room - sum_by (λ g. length g.names) groups.now) }
+/// What has parts.
+trait Counted {
+    ghost count_of: { Self → ℕ };
+
+    /// What is left of the room for parts after its own.
+    fn room_after(&self, room: u32) -> Option<u32>
+        ensures { SomeIff result (count_of self.now ≤ room) (room - count_of self.now) };
+}
+
+fn room_after_each<C: Counted>(room: u32, groups: &[C]) -> Option<u32>
+    ensures { SomeIff result (sum_by C.count_of groups.now ≤ room) (room - sum_by C.count_of groups.now) }
 {
     let mut left = room;
     for group in groups {
-        match room_after(left, group.names.len()) {
+        match group.room_after(left) {
             Some(room) => left = room,
             None => return None,
         }
@@ -201,56 +209,64 @@ fn room_after_groups(room: u32, groups: &[GroupSyn]) -> Option<u32>
     Some(left)
 }
 
-fn room_after_blocks(room: u32, blocks: &[MapBlock]) -> Option<u32>
-    ensures { SomeIff result (sum_by (λ b. length b.keys + length b.attributes) blocks.now ≤ room)
-        (room - sum_by (λ b. length b.keys + length b.attributes) blocks.now) }
-{
-    let mut left = room;
-    for block in blocks {
-        match room_after_block(left, block) {
-            Some(room) => left = room,
-            None => return None,
-        }
-    }
-    Some(left)
-}
+impl Counted for GroupSyn {
+    ghost count_of = { λ g. length g.names };
 
-fn room_after_block(room: u32, block: &MapBlock) -> Option<u32>
-    ensures { SomeIff result (length block.now.keys + length block.now.attributes ≤ room)
-        (room - (length block.now.keys + length block.now.attributes)) }
-{
-    match room_after(room, block.keys.len()) {
-        Some(room) => room_after(room, block.attributes.len()),
-        None => None,
+    fn room_after(&self, room: u32) -> Option<u32> {
+        room_after(room, self.names.len())
     }
 }
 
-fn room_after_edges(room: u32, groups: &[EdgeSyn]) -> Option<u32>
-    ensures { SomeIff result (sum_by (λ e. length e.names) groups.now ≤ room)
-        (room - sum_by (λ e. length e.names) groups.now) }
-{
-    let mut left = room;
-    for group in groups {
-        match room_after(left, group.names.len()) {
-            Some(room) => left = room,
-            None => return None,
-        }
+impl Counted for EdgeSyn {
+    ghost count_of = { λ e. length e.names };
+
+    fn room_after(&self, room: u32) -> Option<u32> {
+        room_after(room, self.names.len())
     }
-    Some(left)
 }
 
-fn room_after_functions(room: u32, groups: &[FunSyn]) -> Option<u32>
-    ensures { SomeIff result (sum_by (λ f. length f.names) groups.now ≤ room)
-        (room - sum_by (λ f. length f.names) groups.now) }
-{
-    let mut left = room;
-    for group in groups {
-        match room_after(left, group.names.len()) {
-            Some(room) => left = room,
-            None => return None,
+impl Counted for FunSyn {
+    ghost count_of = { λ f. length f.names };
+
+    fn room_after(&self, room: u32) -> Option<u32> {
+        room_after(room, self.names.len())
+    }
+}
+
+impl Counted for MapBlock {
+    ghost count_of = { λ b. length b.keys + length b.attributes };
+
+    fn room_after(&self, room: u32) -> Option<u32> {
+        match room_after(room, self.keys.len()) {
+            Some(room) => room_after(room, self.attributes.len()),
+            None => None,
         }
     }
-    Some(left)
+}
+
+impl Counted for QueryKey {
+    ghost count_of = { key_count };
+
+    fn room_after(&self, room: u32) -> Option<u32> {
+        match room_after(room, self.assigns.len()) {
+            Some(room) => room_after(room, 1),
+            None => None,
+        }
+    }
+}
+
+impl Counted for QueryBlock {
+    ghost count_of = { clause_count };
+
+    fn room_after(&self, room: u32) -> Option<u32> {
+        let Some(room) = room_after(room, self.tests.len()) else {
+            return None;
+        };
+        let Some(room) = room_after(room, self.attributes.len()) else {
+            return None;
+        };
+        room_after_each(room, self.keys.as_slice())
+    }
 }
 
 fn room_after_variables(room: u32, blocks: &[QueryBlock]) -> Option<u32>
@@ -258,57 +274,10 @@ fn room_after_variables(room: u32, blocks: &[QueryBlock]) -> Option<u32>
 {
     let mut left = room;
     for block in blocks {
-        match room_after_groups(left, block.vars.as_slice()) {
+        match room_after_each(left, block.vars.as_slice()) {
             Some(room) => left = room,
             None => return None,
         }
     }
     Some(left)
-}
-
-fn room_after_clauses(room: u32, blocks: &[QueryBlock]) -> Option<u32>
-    ensures { SomeIff result (sum_by clause_count blocks.now ≤ room) (room - sum_by clause_count blocks.now) }
-{
-    let mut left = room;
-    for block in blocks {
-        match room_after_query_block(left, block) {
-            Some(room) => left = room,
-            None => return None,
-        }
-    }
-    Some(left)
-}
-
-fn room_after_query_block(room: u32, block: &QueryBlock) -> Option<u32>
-    ensures { SomeIff result (clause_count block.now ≤ room) (room - clause_count block.now) }
-{
-    let Some(room) = room_after(room, block.tests.len()) else {
-        return None;
-    };
-    let Some(room) = room_after(room, block.attributes.len()) else {
-        return None;
-    };
-    room_after_query_keys(room, block.keys.as_slice())
-}
-
-fn room_after_query_keys(room: u32, keys: &[QueryKey]) -> Option<u32>
-    ensures { SomeIff result (sum_by key_count keys.now ≤ room) (room - sum_by key_count keys.now) }
-{
-    let mut left = room;
-    for key in keys {
-        match room_after_query_key(left, key) {
-            Some(room) => left = room,
-            None => return None,
-        }
-    }
-    Some(left)
-}
-
-fn room_after_query_key(room: u32, key: &QueryKey) -> Option<u32>
-    ensures { SomeIff result (key_count key.now ≤ room) (room - key_count key.now) }
-{
-    match room_after(room, key.assigns.len()) {
-        Some(room) => room_after(room, 1),
-        None => None,
-    }
 }

@@ -7,8 +7,10 @@
 
 mod block_places;
 mod blocks;
+mod copied;
 mod few;
 mod parts;
+mod placed;
 mod places;
 mod raw;
 

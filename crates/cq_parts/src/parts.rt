@@ -1,11 +1,11 @@
 //! The parts that literals give. A name in a group is a part of its own.
-ghost use Rattle.std.specs.Prelude.{◌≡◌, ◌++◌, IfOk, OnOk, map};
-ghost use Rattle.std.specs.List.{flat_map};
-ghost use Rattle.cq_parts.specs.Parts.{names_of, name_of, group_parts, function_parts, edge_parts, path_eq_part};
+ghost use Rattle.std.specs.Prelude.{◌≡◌, IfOk};
+ghost use Rattle.cq_parts.specs.Parts.{name_of, group_parts, function_parts, edge_parts, path_eq_part};
 ghost use Rattle.cq_parts.specs.Parts.{observation_part, equation_part, attribute_image, key_part, attribute_part};
 ghost use Rattle.cq_parts.specs.Parts.{arrow_parts, typeside_parts, schema_parts, instance_parts, mapping_parts};
 ghost use Rattle.cq_parts.specs.Parts.{colimit_parts, transform_parts};
 
+use crate::copied::{HasPart, HasParts, Holds, each_part, parts_of_all, parts_of_each, push_held};
 use crate::raw::copy_raw;
 use cq_base::{Name, Raw, Seq};
 use cq_syntax::{
@@ -23,10 +23,10 @@ use std::alloc::{AllocError, Global};
 pub fn typeside_parts(alloc: Global, literal: &TypesideLit) -> Result<TypesideParts, AllocError>
     ensures { IfOk result (λ parts. parts ≡ typeside_parts literal.now) }
 {
-    let types = names_in(alloc, literal.types.as_slice())?;
+    let types = parts_of_each(alloc, literal.types.as_slice())?;
     let literals = name_in(&literal.literals)?;
-    let constants = groups_in(alloc, literal.constants.as_slice())?;
-    let functions = functions_in(alloc, literal.functions.as_slice())?;
+    let constants = parts_of_all(alloc, literal.constants.as_slice())?;
+    let functions = parts_of_all(alloc, literal.functions.as_slice())?;
     Ok(TypesideParts {
         types,
         literals,
@@ -40,11 +40,11 @@ pub fn typeside_parts(alloc: Global, literal: &TypesideLit) -> Result<TypesidePa
 pub fn schema_parts(alloc: Global, literal: &SchemaLit) -> Result<SchemaParts, AllocError>
     ensures { IfOk result (λ parts. parts ≡ schema_parts literal.now) }
 {
-    let entities = names_in(alloc, literal.entities.as_slice())?;
-    let keys = edges_in(alloc, literal.keys.as_slice())?;
-    let path_eqs = path_eqs_in(alloc, literal.path_eqs.as_slice())?;
-    let attributes = edges_in(alloc, literal.attributes.as_slice())?;
-    let obs_eqs = observations_in(alloc, literal.obs_eqs.as_slice())?;
+    let entities = parts_of_each(alloc, literal.entities.as_slice())?;
+    let keys = parts_of_all(alloc, literal.keys.as_slice())?;
+    let path_eqs = parts_of_each(alloc, literal.path_eqs.as_slice())?;
+    let attributes = parts_of_all(alloc, literal.attributes.as_slice())?;
+    let obs_eqs = parts_of_each(alloc, literal.obs_eqs.as_slice())?;
     Ok(SchemaParts {
         entities,
         keys,
@@ -59,8 +59,8 @@ pub fn schema_parts(alloc: Global, literal: &SchemaLit) -> Result<SchemaParts, A
 pub fn instance_parts(alloc: Global, literal: &InstanceLit) -> Result<PresentationParts, AllocError>
     ensures { IfOk result (λ parts. parts ≡ instance_parts literal.now) }
 {
-    let generators = groups_in(alloc, literal.generators.as_slice())?;
-    let equations = equations_in(alloc, literal.equations.as_slice())?;
+    let generators = parts_of_all(alloc, literal.generators.as_slice())?;
+    let equations = parts_of_each(alloc, literal.equations.as_slice())?;
     Ok(PresentationParts {
         generators,
         equations,
@@ -72,8 +72,8 @@ pub fn instance_parts(alloc: Global, literal: &InstanceLit) -> Result<Presentati
 pub fn mapping_parts(alloc: Global, literal: &MappingLit) -> Result<MappingParts, AllocError>
     ensures { IfOk result (λ parts. parts ≡ mapping_parts literal.now) }
 {
-    let entities = block_images(alloc, literal.blocks.as_slice())?;
-    let arrows = arrows_in(alloc, literal.blocks.as_slice())?;
+    let entities = parts_of_each(alloc, literal.blocks.as_slice())?;
+    let arrows = parts_of_all(alloc, literal.blocks.as_slice())?;
     Ok(MappingParts { entities, arrows })
 }
 
@@ -82,29 +82,14 @@ pub fn mapping_parts(alloc: Global, literal: &MappingLit) -> Result<MappingParts
 pub fn colimit_parts(alloc: Global, literal: &ColimitLit) -> Result<ColimitParts, AllocError>
     ensures { IfOk result (λ parts. parts ≡ colimit_parts literal.now) }
 {
-    let pairs = pairs_in(alloc, literal.pairs.as_slice())?;
-    let path_eqs = path_eqs_in(alloc, literal.path_eqs.as_slice())?;
-    let obs_eqs = observations_in(alloc, literal.obs_eqs.as_slice())?;
+    let pairs = parts_of_each(alloc, literal.pairs.as_slice())?;
+    let path_eqs = parts_of_each(alloc, literal.path_eqs.as_slice())?;
+    let obs_eqs = parts_of_each(alloc, literal.obs_eqs.as_slice())?;
     Ok(ColimitParts {
         pairs,
         path_eqs,
         obs_eqs,
     })
-}
-
-fn pairs_in(
-    alloc: Global,
-    pairs: &[PairSyn],
-) -> Result<Seq<((Name, Name), (Name, Name))>, AllocError>
-    ensures { IfOk result (λ parts. parts ≡ map (λ p. (p.left, p.right)) pairs.now) }
-{
-    let mut parts = Vec::new(alloc);
-    for pair in pairs {
-        let left = (pair.left.0.clone()?, pair.left.1.clone()?);
-        let right = (pair.right.0.clone()?, pair.right.1.clone()?);
-        parts.push((left, right))?;
-    }
-    Ok(Seq::from_vec(parts))
 }
 
 /// The image of each generator.
@@ -115,87 +100,7 @@ pub fn transform_parts(
 ) -> Result<Vec<(Name, Raw)>, AllocError>
     ensures { IfOk result (λ parts. parts.items ≡ transform_parts literal.now) }
 {
-    images_in(alloc, literal.images.as_slice())
-}
-
-fn images_in(alloc: Global, images: &[Bind]) -> Result<Vec<(Name, Raw)>, AllocError>
-    ensures { IfOk result (λ parts. parts.items ≡ map (λ b. (b.name, b.term.raw)) images.now) }
-{
-    let mut parts = Vec::new(alloc);
-    for image in images {
-        parts.push((image.name.clone()?, copy_raw(alloc, &image.term.raw)?))?;
-    }
-    Ok(parts)
-}
-
-fn block_images(alloc: Global, blocks: &[MapBlock]) -> Result<Seq<(Name, Name)>, AllocError>
-    ensures { IfOk result (λ parts. parts ≡ map (λ b. (b.entity, b.image)) blocks.now) }
-{
-    let mut parts = Vec::new(alloc);
-    for block in blocks {
-        parts.push((block.entity.clone()?, block.image.clone()?))?;
-    }
-    Ok(Seq::from_vec(parts))
-}
-
-fn arrows_in(alloc: Global, blocks: &[MapBlock]) -> Result<Seq<ArrowPart>, AllocError>
-    ensures { IfOk result (λ parts. parts ≡ flat_map arrow_parts blocks.now) }
-{
-    let mut parts = Vec::new(alloc);
-    for block in blocks {
-        push_arrows(alloc, &mut parts, block)?;
-    }
-    Ok(Seq::from_vec(parts))
-}
-
-fn push_arrows(
-    alloc: Global,
-    parts: &mut Vec<ArrowPart>,
-    block: &MapBlock,
-) -> Result<(), AllocError>
-    ensures { OnOk result (parts.new.items ≡ parts.old.items ++ arrow_parts block.now) }
-{
-    push_key_images(alloc, parts, &block.entity, block.keys.as_slice())?;
-    push_attribute_images(alloc, parts, &block.entity, block.attributes.as_slice())?;
-    Ok(())
-}
-
-fn push_key_images(
-    alloc: Global,
-    parts: &mut Vec<ArrowPart>,
-    block: &Name,
-    images: &[KeyImage],
-) -> Result<(), AllocError>
-    ensures { OnOk result (parts.new.items ≡ parts.old.items ++ map (key_part block.now) images.now) }
-{
-    for image in images {
-        let names = copy_names(alloc, image.image.names.as_slice())?;
-        parts.push(ArrowPart {
-            block: block.clone()?,
-            name: image.name.clone()?,
-            image: ArrowImage::Key(names),
-        })?;
-    }
-    Ok(())
-}
-
-fn push_attribute_images(
-    alloc: Global,
-    parts: &mut Vec<ArrowPart>,
-    block: &Name,
-    images: &[AttImage],
-) -> Result<(), AllocError>
-    ensures { OnOk result (parts.new.items ≡ parts.old.items ++ map (attribute_part block.now) images.now) }
-{
-    for image in images {
-        let sent = attribute_image(alloc, &image.image)?;
-        parts.push(ArrowPart {
-            block: block.clone()?,
-            name: image.name.clone()?,
-            image: sent,
-        })?;
-    }
-    Ok(())
+    each_part(alloc, literal.images.as_slice())
 }
 
 fn attribute_image(alloc: Global, image: &AttSyn) -> Result<ArrowImage, AllocError>
@@ -229,16 +134,6 @@ fn name_in(spot: &Option<Spot>) -> Result<Option<Name>, AllocError>
     }
 }
 
-fn names_in(alloc: Global, spots: &[Spot]) -> Result<Seq<Name>, AllocError>
-    ensures { IfOk result (λ names. names ≡ names_of spots.now) }
-{
-    let mut names = Vec::new(alloc);
-    for spot in spots {
-        names.push(spot.name.clone()?)?;
-    }
-    Ok(Seq::from_vec(names))
-}
-
 fn copy_names(alloc: Global, names: &[Name]) -> Result<Seq<Name>, AllocError>
     ensures { IfOk result (λ copies. copies ≡ names.now) }
 {
@@ -249,115 +144,185 @@ fn copy_names(alloc: Global, names: &[Name]) -> Result<Seq<Name>, AllocError>
     Ok(Seq::from_vec(copies))
 }
 
-fn groups_in(alloc: Global, groups: &[GroupSyn]) -> Result<Seq<(Name, Name)>, AllocError>
-    ensures { IfOk result (λ parts. parts ≡ flat_map group_parts groups.now) }
-{
-    let mut parts = Vec::new(alloc);
-    for group in groups {
-        push_group(&mut parts, group)?;
+impl HasPart for Spot {
+    type Part = Name;
+
+    ghost part_of = { λ spot. spot.name };
+
+    fn part(&self, _alloc: Global) -> Result<Name, AllocError> {
+        self.name.clone()
     }
-    Ok(Seq::from_vec(parts))
 }
 
-fn push_group(parts: &mut Vec<(Name, Name)>, group: &GroupSyn) -> Result<(), AllocError>
-    ensures { OnOk result (parts.new.items ≡ parts.old.items ++ group_parts group.now) }
-{
-    for spot in group.names.as_slice() {
-        parts.push((spot.name.clone()?, group.sort.clone()?))?;
+impl HasPart for PairSyn {
+    type Part = ((Name, Name), (Name, Name));
+
+    ghost part_of = { λ p. (p.left, p.right) };
+
+    fn part(&self, _alloc: Global) -> Result<Self::Part, AllocError> {
+        let left = (self.left.0.clone()?, self.left.1.clone()?);
+        let right = (self.right.0.clone()?, self.right.1.clone()?);
+        Ok((left, right))
     }
-    Ok(())
 }
 
-fn functions_in(
-    alloc: Global,
-    groups: &[FunSyn],
-) -> Result<Seq<(Name, Seq<Name>, Name)>, AllocError>
-    ensures { IfOk result (λ parts. parts ≡ flat_map function_parts groups.now) }
-{
-    let mut parts = Vec::new(alloc);
-    for group in groups {
-        push_functions(alloc, &mut parts, group)?;
+impl HasPart for Bind {
+    type Part = (Name, Raw);
+
+    ghost part_of = { λ b. (b.name, b.term.raw) };
+
+    fn part(&self, alloc: Global) -> Result<Self::Part, AllocError> {
+        Ok((self.name.clone()?, copy_raw(alloc, &self.term.raw)?))
     }
-    Ok(Seq::from_vec(parts))
 }
 
-fn push_functions(
-    alloc: Global,
-    parts: &mut Vec<(Name, Seq<Name>, Name)>,
-    group: &FunSyn,
-) -> Result<(), AllocError>
-    ensures { OnOk result (parts.new.items ≡ parts.old.items ++ function_parts group.now) }
-{
-    for spot in group.names.as_slice() {
-        let args = copy_names(alloc, group.args.as_slice())?;
-        parts.push((spot.name.clone()?, args, group.result.clone()?))?;
+impl HasPart for MapBlock {
+    type Part = (Name, Name);
+
+    ghost part_of = { λ b. (b.entity, b.image) };
+
+    fn part(&self, _alloc: Global) -> Result<Self::Part, AllocError> {
+        Ok((self.entity.clone()?, self.image.clone()?))
     }
-    Ok(())
 }
 
-fn edges_in(alloc: Global, groups: &[EdgeSyn]) -> Result<Seq<(Name, Name, Name)>, AllocError>
-    ensures { IfOk result (λ parts. parts ≡ flat_map edge_parts groups.now) }
-{
-    let mut parts = Vec::new(alloc);
-    for group in groups {
-        push_edges(&mut parts, group)?;
+impl HasPart for PathEqSyn {
+    type Part = (Seq<Name>, Seq<Name>);
+
+    ghost part_of = { path_eq_part };
+
+    fn part(&self, alloc: Global) -> Result<Self::Part, AllocError> {
+        let left = copy_names(alloc, self.left.names.as_slice())?;
+        let right = copy_names(alloc, self.right.names.as_slice())?;
+        Ok((left, right))
     }
-    Ok(Seq::from_vec(parts))
 }
 
-fn push_edges(parts: &mut Vec<(Name, Name, Name)>, group: &EdgeSyn) -> Result<(), AllocError>
-    ensures { OnOk result (parts.new.items ≡ parts.old.items ++ edge_parts group.now) }
-{
-    for spot in group.names.as_slice() {
-        parts.push((spot.name.clone()?, group.from.clone()?, group.to.clone()?))?;
+impl HasPart for EqSyn {
+    type Part = (Raw, Raw);
+
+    ghost part_of = { equation_part };
+
+    fn part(&self, alloc: Global) -> Result<Self::Part, AllocError> {
+        let left = copy_raw(alloc, &self.left.raw)?;
+        let right = copy_raw(alloc, &self.right.raw)?;
+        Ok((left, right))
     }
-    Ok(())
 }
 
-fn path_eqs_in(
-    alloc: Global,
-    equations: &[PathEqSyn],
-) -> Result<Seq<(Seq<Name>, Seq<Name>)>, AllocError>
-    ensures { IfOk result (λ parts. parts ≡ map path_eq_part equations.now) }
-{
-    let mut parts = Vec::new(alloc);
-    for equation in equations {
-        let left = copy_names(alloc, equation.left.names.as_slice())?;
-        let right = copy_names(alloc, equation.right.names.as_slice())?;
-        parts.push((left, right))?;
+impl HasPart for ObsSyn {
+    type Part = ObsPart;
+
+    ghost part_of = { observation_part };
+
+    fn part(&self, alloc: Global) -> Result<ObsPart, AllocError> {
+        Ok(ObsPart {
+            variable: self.variable.clone()?,
+            entity: copy_optional(&self.entity)?,
+            left: copy_raw(alloc, &self.left.raw)?,
+            right: copy_raw(alloc, &self.right.raw)?,
+        })
     }
-    Ok(Seq::from_vec(parts))
 }
 
-fn observations_in(alloc: Global, equations: &[ObsSyn]) -> Result<Seq<ObsPart>, AllocError>
-    ensures { IfOk result (λ parts. parts ≡ map observation_part equations.now) }
-{
-    let mut parts = Vec::new(alloc);
-    for equation in equations {
-        parts.push(observation_in(alloc, equation)?)?;
+impl Holds<Spot> for GroupSyn {
+    type Part = (Name, Name);
+
+    ghost part_for = { λ g spot. (spot.name, g.sort) };
+
+    fn held_part(&self, _alloc: Global, spot: &Spot) -> Result<Self::Part, AllocError> {
+        Ok((spot.name.clone()?, self.sort.clone()?))
     }
-    Ok(Seq::from_vec(parts))
 }
 
-fn observation_in(alloc: Global, equation: &ObsSyn) -> Result<ObsPart, AllocError>
-    ensures { IfOk result (λ part. part ≡ observation_part equation.now) }
-{
-    Ok(ObsPart {
-        variable: equation.variable.clone()?,
-        entity: copy_optional(&equation.entity)?,
-        left: copy_raw(alloc, &equation.left.raw)?,
-        right: copy_raw(alloc, &equation.right.raw)?,
-    })
+impl HasParts for GroupSyn {
+    type Part = (Name, Name);
+
+    ghost parts_of = { group_parts };
+
+    fn push_parts(&self, alloc: Global, parts: &mut Vec<Self::Part>) -> Result<(), AllocError> {
+        push_held(alloc, parts, self, self.names.as_slice())
+    }
 }
 
-fn equations_in(alloc: Global, equations: &[EqSyn]) -> Result<Seq<(Raw, Raw)>, AllocError>
-    ensures { IfOk result (λ parts. parts ≡ map equation_part equations.now) }
-{
-    let mut parts = Vec::new(alloc);
-    for equation in equations {
-        let left = copy_raw(alloc, &equation.left.raw)?;
-        let right = copy_raw(alloc, &equation.right.raw)?;
-        parts.push((left, right))?;
+impl Holds<Spot> for FunSyn {
+    type Part = (Name, Seq<Name>, Name);
+
+    ghost part_for = { λ f spot. (spot.name, f.args, f.result) };
+
+    fn held_part(&self, alloc: Global, spot: &Spot) -> Result<Self::Part, AllocError> {
+        let args = copy_names(alloc, self.args.as_slice())?;
+        Ok((spot.name.clone()?, args, self.result.clone()?))
     }
-    Ok(Seq::from_vec(parts))
+}
+
+impl HasParts for FunSyn {
+    type Part = (Name, Seq<Name>, Name);
+
+    ghost parts_of = { function_parts };
+
+    fn push_parts(&self, alloc: Global, parts: &mut Vec<Self::Part>) -> Result<(), AllocError> {
+        push_held(alloc, parts, self, self.names.as_slice())
+    }
+}
+
+impl Holds<Spot> for EdgeSyn {
+    type Part = (Name, Name, Name);
+
+    ghost part_for = { λ e spot. (spot.name, e.from, e.to) };
+
+    fn held_part(&self, _alloc: Global, spot: &Spot) -> Result<Self::Part, AllocError> {
+        Ok((spot.name.clone()?, self.from.clone()?, self.to.clone()?))
+    }
+}
+
+impl HasParts for EdgeSyn {
+    type Part = (Name, Name, Name);
+
+    ghost parts_of = { edge_parts };
+
+    fn push_parts(&self, alloc: Global, parts: &mut Vec<Self::Part>) -> Result<(), AllocError> {
+        push_held(alloc, parts, self, self.names.as_slice())
+    }
+}
+
+impl Holds<KeyImage> for Name {
+    type Part = ArrowPart;
+
+    ghost part_for = { key_part };
+
+    fn held_part(&self, alloc: Global, image: &KeyImage) -> Result<ArrowPart, AllocError> {
+        let names = copy_names(alloc, image.image.names.as_slice())?;
+        Ok(ArrowPart {
+            block: self.clone()?,
+            name: image.name.clone()?,
+            image: ArrowImage::Key(names),
+        })
+    }
+}
+
+impl Holds<AttImage> for Name {
+    type Part = ArrowPart;
+
+    ghost part_for = { attribute_part };
+
+    fn held_part(&self, alloc: Global, image: &AttImage) -> Result<ArrowPart, AllocError> {
+        let sent = attribute_image(alloc, &image.image)?;
+        Ok(ArrowPart {
+            block: self.clone()?,
+            name: image.name.clone()?,
+            image: sent,
+        })
+    }
+}
+
+impl HasParts for MapBlock {
+    type Part = ArrowPart;
+
+    ghost parts_of = { arrow_parts };
+
+    fn push_parts(&self, alloc: Global, parts: &mut Vec<ArrowPart>) -> Result<(), AllocError> {
+        push_held(alloc, parts, &self.entity, self.keys.as_slice())?;
+        push_held(alloc, parts, &self.entity, self.attributes.as_slice())
+    }
 }

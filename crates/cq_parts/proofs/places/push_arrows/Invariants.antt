@@ -1,7 +1,0 @@
-use Rattle.std.proofs.Common.{◌≡◌, ◌++◌, take}
-use Rattle.std.specs.List.{flat_map}
-use Rattle.cq_parts.specs.Parts.{arrow_places}
-use Rattle.cq_parts.proofs.places.push_arrows.Given as goal
-
-abbrev pub invariant-loop-block : goal.invariant-loop-block
-invariant-loop-block l = l.places.items ≡ l.initial.places.items ++ flat_map arrow_places (take l.block-index l.blocks)

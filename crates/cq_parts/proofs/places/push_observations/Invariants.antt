@@ -1,5 +1,0 @@
-use Rattle.std.proofs.Common.{◌≡◌, ◌++◌, map, take}
-use Rattle.cq_parts.proofs.places.push_observations.Given as goal
-
-abbrev pub invariant-loop-equation : goal.invariant-loop-equation
-invariant-loop-equation l = l.places.items ≡ l.initial.places.items ++ map (λ e. e.place) (take l.equation-index l.equations)
