@@ -1,21 +1,17 @@
 -- Cells that are read one after the other.
-use Rattle.std.proofs.Common.{ℕ, List, [], ◌∷◌, ◌++◌, ◌+◌, ◌≤◌, ◌≡◌, Option, Some, None, ◌<◌, ◌-◌, suc, length, map, drop, get_or, refl, sym, ap, ◌∙◌, append_assoc, add-one, drop-cons, arith}
+use Rattle.std.proofs.Common.{ℕ, List, [], ◌∷◌, ◌++◌, ◌+◌, ◌≤◌, ◌≡◌, ◌<◌, ◌-◌, suc, length, map, drop, get_or, refl, sym, ap, ◌∙◌, append_assoc, add-one, drop-cons, arith}
 use Rattle.std.specs.List.{flat_map, enumerate_from, range_with_len}
 use Rattle.std.proofs.lemmas.List.{append-nil, drop_all, get_or_default}
-use Rattle.cq_theory.specs.declared.presentation.Equation.{Equation}
 use Rattle.cq_theory.specs.TypesideData.{TypesideData as Typeside}
 use Rattle.cq_import.specs.declared.cells.Cell.{Cell as RustCell}
 use Rattle.cq_import.specs.declared.columns.Column.{Column}
 use Rattle.cq_import.specs.declared.cells.Context.{Context}
 use Rattle.cq_import.specs.declared.cells.Made.{Made}
-use Rattle.cq_theory.specs.declared.value.Value.{Value}
-use Rattle.cq_import.specs.declared.columns.Column.TheVariants.{Attribute}
-use Rattle.cq_import.specs.declared.content.Content.TheVariants.{Means}
 use Rattle.cq_import.specs.declared.refusal.CsvRefusal.{CsvRefusal}
-use Rattle.cq_import.specs.Cells.{Cell, Sheet, cell_equations, cell_fault, cell_in, cell_uses, cells_fault, column_fault, content_fault, content_of, equations_from, trouble_fault}
-use Rattle.cq_import.specs.Context.{Reads, ReadsCell, fault_in, faults_in, sheets_in, shown_cell, typeside_in}
-use Rattle.cq_import.specs.Faults.{Fault, Refuses, or_else}
-use Rattle.cq_import.specs.Labels.{Labels, Room, Use, uses_in, uses_trouble, with_uses}
+use Rattle.cq_import.specs.Cells.{Cell, Sheet, cell_equations, cell_fault, cell_in, cell_uses, cells_fault, equations_from}
+use Rattle.cq_import.specs.Context.{Reads, ReadsCell, faults_in, sheets_in, shown_cell, typeside_in}
+use Rattle.cq_import.specs.Faults.{Refuses, or_else}
+use Rattle.cq_import.specs.Labels.{Labels, Room, with_uses}
 use Rattle.cq_import.specs.Records.{Record, field_in}
 use Rattle.cq_import.proofs.Faulty.{after_none, or_else-assoc, refuses_first, refuses_same}
 use Rattle.cq_import.proofs.Uses.{with_uses-append}
@@ -133,15 +129,6 @@ module _ (file : List ℕ) (columns : List Column) (generator number : ℕ) (fie
       let less : place + 1 ≡ place + 2 - 1 = omega arith in
       let field : cell.field.now ≡ field_in fields (place + 2 - 1) = f ∙ ap (field_in fields) less in
       λ i. record { file = a i; row_number = b i; column_number = c i; generator = d i; column = e i; field = field i }
-
--- what is wrong with the labels of an attribute's value is wrong with the cell
-pub attribute_refused : (context : Context) (made : Made) (cell : RustCell) (a type : ℕ) (T : Typeside) (v : Value) (r : CsvRefusal) → T ≡ typeside_in context → cell.column ≡ Attribute a type
-    → content_of T type cell.field.now ≡ Means v → Refuses r (trouble_fault (shown_cell cell) (uses_trouble context.room made.labels (uses_in T v type))) → Refuses r (fault_in context made (shown_cell cell))
-attribute_refused context made cell a type T v r same column content refuses =
-    refuses_same r _ _
-    (sym (ap (λ t. cell_fault (sheets_in context) t context.room made.labels (shown_cell cell)) (sym same)
-    ∙ ap (column_fault (sheets_in context) T context.room made.labels (shown_cell cell)) column
-    ∙ ap (content_fault T context.room made.labels (shown_cell cell) type) content)) refuses
 
 -- a list's item is the same whatever stands for none
 pub same_default : (columns : List Column) (place : ℕ) (d : Column) → place < length columns → get_or columns place d ≡ get_or columns place (get_or columns place d)

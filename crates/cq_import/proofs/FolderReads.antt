@@ -153,6 +153,10 @@ module _ (files : Option (List File)) (dir : Name) (S : Schema) (entity : ℕ) (
   read_refused (Ok file) refuses = tt
   read_refused (Err r) refuses = inr (record { text = text; short = short; found = there_named; refuses = refuses_same r _ _ wanted refuses })
 
+-- no file yet
+pub AreRead-none : (dir : Name) (S : Schema) (files : Option (List File)) (made : List EntityFile) → made ≡ [] → AreRead dir S files made
+AreRead-none dir S files made none = subst (AreRead dir S files) (sym none) (λ entity d within. absurd (omega (arith, within)))
+
 -- one file more
 pub AreRead-more : (dir : Name) (S : Schema) (files : Option (List File)) (made more : List EntityFile) (file : EntityFile) → AreRead dir S files made → IsRead dir S files (length made) file
     → more ≡ made ++ file ∷ [] → AreRead dir S files more

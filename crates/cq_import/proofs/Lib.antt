@@ -18,6 +18,7 @@ pub mod Texts
 pub mod Untold
 pub mod Uses
 pub mod CellLists
+pub mod AttributeCells
 pub mod Checked
 pub mod Places
 pub mod LabelPlaces

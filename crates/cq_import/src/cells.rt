@@ -3,11 +3,12 @@ ghost use Rattle.std.specs.Prelude.{ℕ, ◌≡◌, ◌+◌, ◌≤◌, ◌<◌,
 ghost use Rattle.std.specs.Prelude.{option_map};
 ghost use Rattle.cq_theory.specs.declared.presentation.Equation.TheVariants as equation;
 ghost use Rattle.cq_import.specs.declared.content.Content.TheVariants as content;
-ghost use Rattle.cq_import.specs.Cells.{content_equations, row_with_id, start_of, trouble_fault};
-ghost use Rattle.cq_import.specs.Context.{IsColumn, IsContext, ReadsCell, fault_in, sheets_in, shown_cell};
+ghost use Rattle.cq_import.specs.Cells.{content_equations, content_of, row_with_id, start_of, trouble_fault};
+ghost use Rattle.cq_import.specs.Context.{IsColumn, IsContext, ReadsCell, fault_in, sheets_in, shown_cell, typeside_in};
 ghost use Rattle.cq_import.specs.Faults.{Refuses, BadCell as BadCellFault, NoSuchId as NoSuchIdFault};
 ghost use Rattle.cq_import.specs.Labels.{uses_in, uses_trouble, with_uses};
 
+use crate::capacities::empty_equations;
 use crate::columns::Column;
 use crate::content::{Content, read_content};
 use crate::entity_file::EntityFile;
@@ -33,11 +34,48 @@ pub struct Context<'a> {
 }
 
 /// The labels and the equations that were read, and the file that is read, in whose memory texts of constants stand.
-#[derive(Drop)]
 pub struct Made {
     pub labels: Labels,
     pub equations: Vec<Equation>,
     pub source: Source,
+}
+
+impl Drop for Made {
+    fn drop(self) {
+        let Self {
+            labels: _,
+            equations: _,
+            source: _,
+        } = self;
+    }
+}
+
+impl Made {
+    /// Nothing that was read, with room for the equations.
+    pub fn new(context: &Context) -> Result<Made, AllocError>
+        ensures labels { IfOk result (λ made. made.labels ≡ []) }
+        ensures equations { IfOk result (λ made. made.equations.items ≡ []) }
+    {
+        let source = Source::new(context.alloc, &[])?;
+        Ok(Made {
+            labels: Labels::new(context.alloc),
+            equations: empty_equations(context),
+            source,
+        })
+    }
+
+    /// The labels and the equations.
+    pub fn into_parts(self) -> (Labels, Vec<Equation>)
+        ensures labels { result.0 ≡ self.labels }
+        ensures equations { result.1.items ≡ self.equations.items }
+    {
+        let Self {
+            labels,
+            equations,
+            source: _,
+        } = self;
+        (labels, equations)
+    }
 }
 
 /// A field with its place and the generator of its record, and how many bytes the file has from its content on.
@@ -197,6 +235,33 @@ fn note_value(
     }
 }
 
+/// Reads a value in a cell of an attribute.
+fn read_value(
+    context: &Context,
+    cell: &Cell,
+    attribute: u32,
+    sort: u32,
+    value: &Value,
+    made: &mut Made,
+) -> Result<(), CsvRefusal>
+    requires context { IsContext context.now }
+    requires column { cell.now.column ≡ Column.Attribute attribute sort }
+    requires content { content_of (typeside_in context.now) sort cell.now.field.now ≡ content.Means value.now }
+    requires room { context.now.first + length made.old.labels ≤ 16000000 }
+    ensures passed { OnOk result (ReadsCell context.now made.old made.new (shown_cell cell.now)) }
+    ensures room { OnOk result (context.now.first + length made.new.labels ≤ 16000000) }
+    ensures refused { IfErr result (λ r. Refuses r (fault_in context.now made.old (shown_cell cell.now))) }
+{
+    let schema: &Schema = context.schema;
+    let typeside: &Typeside = &schema.typeside;
+    let noted = note_value(context, typeside, cell, sort, value, &mut made.labels);
+    if let Err(refusal) = noted {
+        return Err(refusal);
+    }
+    push_value(context, cell, attribute, value, made)?;
+    Ok(())
+}
+
 /// Reads a cell of an attribute.
 fn read_attribute(
     context: &Context,
@@ -218,14 +283,7 @@ fn read_attribute(
     match read_content(context.alloc, source, typeside, sort, cell.rest, cell.field)? {
         Content::Blank => Ok(()),
         Content::Wrong => Err(wrong(context, cell)),
-        Content::Means(value) => {
-            let noted = note_value(context, typeside, cell, sort, &value, &mut made.labels);
-            if let Err(refusal) = noted {
-                return Err(refusal);
-            }
-            push_value(context, cell, attribute, &value, made)?;
-            Ok(())
-        }
+        Content::Means(value) => read_value(context, cell, attribute, sort, &value, made),
     }
 }
 

@@ -15,7 +15,7 @@ ghost use Rattle.cq_import.specs.Rows.{rows_of};
 
 use crate::cells::Made;
 use crate::labels::{Labels, note_labels, value_term};
-use crate::lines::{is_entry, start_behind};
+use crate::lines::{is_entry, open_behind};
 use crate::records::{field, next};
 use crate::refusal::CsvRefusal;
 use crate::rows::bad_cell;
@@ -266,11 +266,11 @@ pub fn read_entries(over: &Over, text: &[u8], made: &mut Made) -> Result<(), Csv
     ensures refused { IfErr result (λ r. Refuses r (entries_fault over.now.typeside.now over.now.file.now
         made.old.labels 1 (rows_of text.now))) }
 {
-    let Some(mut reader) = start_behind(over.alloc, text)? else {
+    let Some(mut opened) = open_behind(over.alloc, text)? else {
         return Ok(());
     };
     let mut fields = ByteRecord::new(over.alloc);
-    match read_lines(over, &mut reader, &mut fields, made) {
+    match read_lines(over, &mut opened.reader, &mut fields, made) {
         Ok(()) => Ok(()),
         Err(refusal) => Err(refusal),
     }

@@ -8,7 +8,7 @@ ghost use Rattle.cq_import.specs.Faults.{Refuses};
 ghost use Rattle.cq_import.specs.Records.{Record, Remains, records_of};
 ghost use Rattle.cq_import.specs.Rows.{rows_of};
 
-use crate::records::{field, next, start};
+use crate::records::{Opened, field, next, open};
 use crate::refusal::CsvRefusal;
 use crate::rows::{bad_header, is_row, is_same, not_csv};
 use cq_base::Name;
@@ -29,15 +29,15 @@ pub fn is_entry(fields: &ByteRecord) -> bool
     field(fields, 0) == b"entry".as_slice()
 }
 
-/// A reader of the records behind the first one, where there is a first one.
-pub fn start_behind(alloc: Global, text: &[u8]) -> Result<Option<Reader<&[u8]>>, AllocError>
+/// A text, behind its first record, where there is a first one.
+pub fn open_behind(alloc: Global, text: &[u8]) -> Result<Option<Opened<'_>>, AllocError>
     ensures { IfOk result (λ found. MatchOption found (records_of text.now ≡ [])
-        (λ reader. Remains reader (rows_of text.now))) }
+        (λ opened. Remains opened.reader (rows_of text.now))) }
 {
-    let mut reader = start(alloc, text);
+    let mut opened = open(alloc, text);
     let mut fields = ByteRecord::new(alloc);
-    if next(&mut reader, &mut fields)? {
-        Ok(Some(reader))
+    if next(&mut opened.reader, &mut fields)? {
+        Ok(Some(opened))
     } else {
         Ok(None)
     }
@@ -130,9 +130,16 @@ pub fn check_marked(alloc: Global, file: &str, text: &[u8]) -> Result<u32, CsvRe
     ensures refused { IfErr result (λ r. Refuses r (marked_fault file.now (records_of text.now))) }
 {
     let wanted = mark(alloc)?;
-    let mut reader = start(alloc, text);
+    let mut opened = open(alloc, text);
     let mut fields = ByteRecord::new(alloc);
-    match check_records(alloc, file, wanted.as_slice(), &mut reader, &mut fields) {
+    let tested = check_records(
+        alloc,
+        file,
+        wanted.as_slice(),
+        &mut opened.reader,
+        &mut fields,
+    );
+    match tested {
         Ok(nulls) => Ok(nulls),
         Err(refusal) => Err(refusal),
     }

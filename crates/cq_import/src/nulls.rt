@@ -10,7 +10,7 @@ ghost use Rattle.cq_import.specs.Records.{Record, Remains};
 ghost use Rattle.cq_import.specs.Rows.{rows_of};
 
 use crate::labels::Labels;
-use crate::lines::{is_entry, is_null, start_behind};
+use crate::lines::{is_entry, is_null, open_behind};
 use crate::records::{field, next};
 use crate::refusal::CsvRefusal;
 use crate::rows::bad_cell;
@@ -129,11 +129,19 @@ pub fn read_nulls(
     ensures refused { IfErr result (λ r. Refuses r (nulls_fault typeside.now file.now labels.old 1
         (rows_of text.now))) }
 {
-    let Some(mut reader) = start_behind(alloc, text)? else {
+    let Some(mut opened) = open_behind(alloc, text)? else {
         return Ok(());
     };
     let mut fields = ByteRecord::new(alloc);
-    match read_lines(alloc, typeside, file, &mut reader, &mut fields, labels) {
+    let read = read_lines(
+        alloc,
+        typeside,
+        file,
+        &mut opened.reader,
+        &mut fields,
+        labels,
+    );
+    match read {
         Ok(()) => Ok(()),
         Err(refusal) => Err(refusal),
     }

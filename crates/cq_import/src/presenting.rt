@@ -12,7 +12,7 @@ ghost use Rattle.cq_import.specs.Faults.{Refuses};
 ghost use Rattle.cq_import.specs.Imports.{entity_sorts, presented, sheets_fault};
 ghost use Rattle.cq_import.specs.Labels.{with_uses};
 
-use crate::capacities::{count_generators, empty_equations};
+use crate::capacities::count_generators;
 use crate::cells::{Context, Made};
 use crate::columns::Column;
 use crate::entity_file::EntityFile;
@@ -20,7 +20,7 @@ use crate::generators::push_row_sorts;
 use crate::labels::Labels;
 use crate::refusal::CsvRefusal;
 use crate::tables::read_cells;
-use cq_base::{Name, Seq, Source};
+use cq_base::{Name, Seq};
 use cq_terms::name_generators;
 use cq_theory::{Presentation, Schema, Sort};
 use std::alloc::{AllocError, Global};
@@ -75,11 +75,7 @@ pub fn finish(context: &Context, made: Made) -> Result<Presentation, AllocError>
         ++ map (λ u. Plain u.1) made.labels)) }
     ensures equations { IfOk result (λ p. p.equations ≡ made.equations.items) }
 {
-    let Made {
-        labels,
-        mut equations,
-        ..
-    } = made;
+    let (labels, mut equations) = made.into_parts();
     // Cells that are empty have no equation.
     equations.shrink_to_fit();
     let generators = generators_of(context, &labels)?;
@@ -104,11 +100,7 @@ fn present_cells(context: &Context) -> Result<Presentation, CsvRefusal>
     ensures refused { IfErr result (λ r. Refuses r (cells_fault (sheets_in context.now) (typeside_in context.now)
         context.now.room [] (all_cells context.now.schema.now (sheets_in context.now)))) }
 {
-    let mut made = Made {
-        labels: Labels::new(context.alloc),
-        equations: empty_equations(context),
-        source: Source::new(context.alloc, &[])?,
-    };
+    let mut made = Made::new(context)?;
     if let Err(refusal) = read_cells(context, &mut made) {
         return Err(refusal);
     }

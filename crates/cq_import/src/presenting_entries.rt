@@ -13,18 +13,15 @@ ghost use Rattle.cq_import.specs.Faults.{Refuses};
 ghost use Rattle.cq_import.specs.Imports.{entity_sorts};
 ghost use Rattle.cq_import.specs.Rows.{rows_of};
 
-use crate::capacities::empty_equations;
 use crate::cells::{Context, Made};
 use crate::columns::Column;
 use crate::entity_file::EntityFile;
 use crate::entries::{Over, read_entries};
 use crate::entries_text::EntriesFile;
-use crate::labels::Labels;
 use crate::nulls::read_nulls;
 use crate::presenting::{MOST_GENERATORS, find_starts, finish};
 use crate::refusal::CsvRefusal;
 use crate::tables::read_cells;
-use cq_base::Source;
 use cq_theory::{Presentation, Schema, Typeside};
 use std::alloc::Global;
 
@@ -93,11 +90,7 @@ fn present_all(context: &Context, over: &Over, text: &[u8]) -> Result<Presentati
     ensures refused { IfErr result (λ r. Refuses r (contents2_fault context.now.schema.now (sheets_in context.now)
         (rows_of text.now) over.now.file.now)) }
 {
-    let mut made = Made {
-        labels: Labels::new(context.alloc),
-        equations: empty_equations(context),
-        source: Source::new(context.alloc, &[])?,
-    };
+    let mut made = Made::new(context)?;
     if let Err(refusal) = read_all(context, over, text, &mut made) {
         return Err(refusal);
     }

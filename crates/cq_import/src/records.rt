@@ -6,8 +6,28 @@ ghost use Rattle.cq_import.specs.Records.{Record, Remains, Steps, field_in, reco
 use csv::{ByteRecord, Reader, ReaderBuilder};
 use std::alloc::{AllocError, Global};
 
+/// The reader of a text, whose drop is one call here.
+pub struct Opened<'a> {
+    pub reader: Reader<&'a [u8]>,
+}
+
+impl Drop for Opened<'_> {
+    fn drop(self) {
+        let Self { reader: _ } = self;
+    }
+}
+
+/// A text, before its first record is read.
+pub fn open(alloc: Global, text: &[u8]) -> Opened<'_>
+    ensures { Remains result.reader (records_of text.now) }
+{
+    Opened {
+        reader: start(alloc, text),
+    }
+}
+
 /// A reader of the records of a file, the first one included, which may have different lengths.
-pub fn start(alloc: Global, text: &[u8]) -> Reader<&[u8]>
+fn start(alloc: Global, text: &[u8]) -> Reader<&[u8]>
     ensures { Remains result (records_of text.now) }
 {
     ReaderBuilder::new()

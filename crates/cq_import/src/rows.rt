@@ -11,7 +11,7 @@ ghost use Rattle.cq_import.specs.Rows.{id_of, ids_of, is_row as row_is, row_faul
 ghost use Rattle.cq_import.specs.Rows.{sheet_fault};
 
 use crate::ids::{Id, Ids};
-use crate::records::{field, next, start, width};
+use crate::records::{field, next, open, width};
 use crate::refusal::CsvRefusal;
 use cq_base::Name;
 use csv::{ByteRecord, Reader};
@@ -196,10 +196,18 @@ pub fn check_sheet(
     ensures ids { IfOk result (λ ids. ids ≡ ids_of (rows_of text.now)) }
     ensures refused { IfErr result (λ r. Refuses r (sheet_fault file.now wanted.now (records_of text.now))) }
 {
-    let mut reader = start(alloc, text);
+    let mut opened = open(alloc, text);
     let mut fields = ByteRecord::new(alloc);
     let mut ids = Ids::new(alloc);
-    match check_records(alloc, file, wanted, &mut reader, &mut fields, &mut ids) {
+    let tested = check_records(
+        alloc,
+        file,
+        wanted,
+        &mut opened.reader,
+        &mut fields,
+        &mut ids,
+    );
+    match tested {
         Ok(()) => Ok(ids),
         Err(refusal) => Err(refusal),
     }

@@ -10,7 +10,7 @@ ghost use Rattle.cq_import.specs.Rows.{rows_of};
 use crate::cells::{Cell, Context, Made, read_cell};
 use crate::columns::Column;
 use crate::field_places::{place_of, rest_behind_id};
-use crate::records::{field, next, start};
+use crate::records::{field, next, open};
 use crate::refusal::CsvRefusal;
 use cq_base::Source;
 use cq_theory::Schema;
@@ -152,9 +152,9 @@ fn read_table(context: &Context, table: &Table, made: &mut Made) -> Result<(), C
         (rows_cells table.now.file.now table.now.columns.now table.now.start 1 (rows_of table.now.text.now)))) }
 {
     made.source = Source::new(context.alloc, table.text)?;
-    let mut reader = start(context.alloc, table.text);
+    let mut opened = open(context.alloc, table.text);
     let mut fields = ByteRecord::new(context.alloc);
-    match read_records(context, table, &mut reader, &mut fields, made) {
+    match read_records(context, table, &mut opened.reader, &mut fields, made) {
         Ok(()) => Ok(()),
         Err(refusal) => Err(refusal),
     }

@@ -1,11 +1,10 @@
 -- What terms mean is a value on which no entry bears, and homomorphisms keep what terms mean.
-use Rattle.std.proofs.Common.{ℕ, Bool, true, List, [], ◌∷◌, Option, Some, None, ◌≡◌, ◌<◌, ◌&&◌, map, length, refl, sym, ap, subst, ◌∙◌, slice_index_or}
+use Rattle.std.proofs.Common.{ℕ, true, List, [], ◌∷◌, Option, Some, None, ◌≡◌, ◌<◌, map, refl, sym, ap, subst, ◌∙◌, slice_index_or}
 use Rattle.std.specs.Prelude.{slice_get, find}
 use Rattle.std.proofs.lemmas.Option.{option_and_then_some}
-use Rattle.cq_base.specs.declared.name.Name.{Name}
 use Rattle.cq_theory.specs.declared.presentation.Presentation.{Presentation}
 use Rattle.cq_theory.specs.declared.presentation.Sort.{Sort}
-use Rattle.cq_theory.specs.declared.presentation.Sort.TheVariants.{Plain, Entity}
+use Rattle.cq_theory.specs.declared.presentation.Sort.TheVariants.{Plain}
 use Rattle.cq_theory.specs.SchemaData.{SchemaData as Schema}
 use Rattle.cq_theory.specs.declared.term.TypeTerm.{TypeTerm}
 use Rattle.cq_theory.specs.declared.term.TypeTerm.TheVariants as term
@@ -13,28 +12,13 @@ use Rattle.cq_theory.specs.declared.value.Value.{Value}
 use Rattle.cq_theory.specs.declared.value.Value.TheVariants.{Const, Null, Fun}
 use Rattle.cq_theory.specs.declared.constant.Con.TheVariants.{Named}
 use Rattle.cq_theory.specs.declared.value.Entry.{Entry}
-use Rattle.cq_theory.specs.Sorts.{followed, entity_at, type_at, entity_of, is_type, have_types, type_of, type_step}
+use Rattle.cq_theory.specs.Sorts.{followed, entity_of, is_type, have_types, type_of, type_step}
 use Rattle.cq_theory.specs.Tables.{Tables, Meaning, AtRow, AtValue, Assignment, value_in, count_of, row_of, value_of, value_step, is_for, entry_or_built, applied, normal_of, normal_step, HasSort, IsPlain, IsSoundEntry, IsWellFormed, Holds}
 use Rattle.cq_theory.proofs.TypeTerms.{fold-Gen, fold-Const, fold-Att, fold-Fun, Each, on_terms}
 use Rattle.cq_theory.proofs.Values as values
 use Rattle.cq_theory.proofs.OnValues.{All_at, found_passes}
+pub use Rattle.cq_instance.proofs.TypedTerms.{type_at_some, entity_at_some}
 use Rattle.cq_theory.proofs.Sound.{both, is_type_some, applied_type_some, followed_some, row_of-within}
-
-pub type_at_some : (o : Option (Name × Sort)) (n : ℕ) → type_at o ≡ Some n → (g : Name × Sort) × (o ≡ Some g) × (g.1 ≡ Plain n)
-type_at_some None n h = cc
-type_at_some (Some g) n h = (g, refl, go g.1 h)
-  where
-    go : (sort : Sort) → type_at (Some (g.0, sort)) ≡ Some n → sort ≡ Plain n
-    go (Plain m) h = let same : m ≡ n = cc in ap Plain same
-    go (Entity m) h = cc
-
-pub entity_at_some : (o : Option (Name × Sort)) (e : ℕ) → entity_at o ≡ Some e → (g : Name × Sort) × (o ≡ Some g) × (g.1 ≡ Entity e)
-entity_at_some None e h = cc
-entity_at_some (Some g) e h = (g, refl, go g.1 h)
-  where
-    go : (sort : Sort) → entity_at (Some (g.0, sort)) ≡ Some e → sort ≡ Entity e
-    go (Plain n) h = cc
-    go (Entity n) h = let same : n ≡ e = cc in ap Entity same
 
 pub plain_normal : (M : Tables) (v : Value) → IsPlain v → normal_of M v ≡ v
 plain_normal M (Const c) h = values.fold-Const Value (normal_step M) c

@@ -77,7 +77,9 @@ fn composed_images(
 {
     let mut made = Vec::with_capacity(alloc, first.len())?;
     for image in first {
-        push_image(alloc, second, image, &mut made)?;
+        if let Err(refusal) = push_image(alloc, second, image, &mut made) {
+            return Err(refusal);
+        }
     }
     Ok(made)
 }

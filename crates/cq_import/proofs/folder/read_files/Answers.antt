@@ -5,14 +5,14 @@ use Rattle.std.specs.declared.alloc.Global.{Global}
 use Rattle.cq_theory.specs.SchemaData.{SchemaData}
 use Rattle.cq_import.specs.declared.columns.Column.{Column}
 use Rattle.cq_import.specs.Folders.{AreRead, IsRead, IsRefused}
-use Rattle.cq_import.proofs.FolderReads.{AreRead-more, keeps_itself, keeps_then, raises_after}
+use Rattle.cq_import.proofs.FolderReads.{AreRead-more, AreRead-none, keeps_itself, keeps_then, raises_after}
 use Rattle.cq_import.proofs.folder.read_files.Goals as goal
 
 pub loop-entity-init : goal.loop-entity-init
 loop-entity-init g c = (
   keeps_itself _,
   ap length c.new-made.ensures.items,
-  (λ entity d within. let none : length c.new-made.result.items ≡ 0 = ap length c.new-made.ensures.items in absurd (omega arith)),
+  AreRead-none _ _ _ _ c.new-made.ensures.items,
 )
 
 pub read_entity_file-requires : goal.read_entity_file-requires
