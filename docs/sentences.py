@@ -17,12 +17,9 @@ WORDS = {"Absent": "read, absent", "TooLong": "read, too long", "Failed": "read,
 
 
 def arms(kind, text):
-    """The texts of the arms of a kind, by their names: the sentences first, and then what there is to mend."""
-    found = re.findall(rf'{kind}::(\w+) => (?:\{{\s*)?"((?:[^"\\]|\\.)*)"', text)
-    half = len(found) // 2
-    plain = [(name, words.replace('\\"', '"')) for name, words in found]
-    assert [name for name, _ in plain[:half]] == [name for name, _ in plain[half:]]
-    return [(name, sentence, dict(plain[half:])[name]) for name, sentence in plain[:half]]
+    """What is said of each code or cause of a kind: its name, its sentence, and what there is to mend."""
+    found = re.findall(rf'{kind}::(\w+) => say\(\s*"((?:[^"\\]|\\.)*)",\s*"((?:[^"\\]|\\.)*)"', text)
+    return [(name, sentence.replace('\\"', '"'), remedy.replace('\\"', '"')) for name, sentence, remedy in found]
 
 
 def table():

@@ -53,9 +53,11 @@ pub fn append_latin(byte: u8, out: &mut Vec<u8>) -> Result<(), AllocError> {
     append(&[b", \"", letter.as_slice(), b"\" in ISO 8859-1"], out)
 }
 
-/// Appends a byte as it is, or where it would end the line or leave it as what a user would type for it.
+/// Appends a byte as it is, or where it would end the line or leave it as what a user would type for it. A double quote
+/// is doubled, as in a cell of CSV.
 fn append_byte(byte: u8, out: &mut Vec<u8>) -> Result<(), AllocError> {
     match byte {
+        b'"' => out.extend_from_slice(b"\"\"")?,
         b'\n' => out.extend_from_slice(b"\\n")?,
         b'\r' => out.extend_from_slice(b"\\r")?,
         b'\t' => out.extend_from_slice(b"\\t")?,
@@ -82,7 +84,7 @@ fn shown_length(text: &[u8]) -> usize
 }
 
 /// Appends the bytes of a text that are letters of UTF-8, and each other one by its number.
-pub fn append_shown(text: &[u8], out: &mut Vec<u8>) -> Result<(), AllocError> {
+fn append_letters(text: &[u8], out: &mut Vec<u8>) -> Result<(), AllocError> {
     let length = shown_length(text);
     let whole = str::from_utf8(text).is_ok();
     for byte in &text[..length] {
@@ -98,9 +100,21 @@ pub fn append_shown(text: &[u8], out: &mut Vec<u8>) -> Result<(), AllocError> {
     Ok(())
 }
 
-/// Appends a text between double quotes.
+/// Appends a text between double quotes, as CSV has it.
 pub fn append_quoted(text: &[u8], out: &mut Vec<u8>) -> Result<(), AllocError> {
     out.extend_from_slice(b"\"")?;
-    append_shown(text, out)?;
+    append_letters(text, out)?;
     out.extend_from_slice(b"\"")
+}
+
+/// Appends a cell as it stands in a record: a comma, a double quote or an end of line in it asks for quotes around it.
+pub fn append_cell(cell: &[u8], out: &mut Vec<u8>) -> Result<(), AllocError> {
+    if cell
+        .iter()
+        .any(|byte| matches!(*byte, b',' | b'"' | b'\n' | b'\r'))
+    {
+        append_quoted(cell, out)
+    } else {
+        append_letters(cell, out)
+    }
 }

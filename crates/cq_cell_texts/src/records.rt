@@ -1,4 +1,5 @@
 //! Records that are read once more, where they stand.
+use crate::bytes::append_cell;
 use csv::{ByteRecord, ReaderBuilder};
 use std::alloc::{AllocError, Global};
 
@@ -23,13 +24,13 @@ pub fn field(fields: &ByteRecord, column: usize) -> &[u8] {
     }
 }
 
-/// Appends the fields of a record, with commas between them.
+/// Appends the fields of a record as CSV has them: with commas between them, and quotes where one needs them.
 pub fn append_record(fields: &ByteRecord, out: &mut Vec<u8>) -> Result<(), AllocError> {
     for column in 0..fields.len().min(20) {
         if column > 0 {
             out.extend_from_slice(b",")?;
         }
-        crate::bytes::append_shown(field(fields, column), out)?;
+        append_cell(field(fields, column), out)?;
     }
     if fields.len() > 20 {
         out.extend_from_slice(b", ..")?;

@@ -150,7 +150,7 @@ fn run<F: Folder, K: Sink>(
 }
 
 /// The status of a run with what was written.
-fn ended(alloc: Global, status: Status, bytes: &[u8]) -> Result<String, AllocError> {
+pub fn ended(alloc: Global, status: Status, bytes: &[u8]) -> Result<String, AllocError> {
     match std::str::from_utf8(bytes) {
         Ok(text) => format!(in alloc; "{}\n{text}", name_of(status)),
         Err(_) => format!(in alloc; "{}, and no text", name_of(status)),

@@ -28,6 +28,7 @@
 //! The parts that say what is told, each of which is tried:
 //! - `-- ok`, `-- refused`, `-- usage`, `-- read`, `-- write`, `-- memory`: the status, and the lines that are written;
 //!   behind `-- ok and more`, the first ones of these;
+//! - `-- why refused`: the status of `cqlwhy`, and the lines that it writes (see `whys`);
 //! - `-- rows`: texts, each in a line (see `rows`);
 //! - `-- programs`: texts that are read as programs, each in a line (see `programs`);
 //! - `-- questions`: questions, each in a line (see `questions`);

@@ -109,7 +109,7 @@ fn file<K: Sink>(rt: HostRuntime, out: &mut K, folder: &str, name: &str) -> Opti
 }
 
 /// Prints a line with a name.
-fn head<K: Sink>(out: &mut K, mark: &str, name: &str) -> Option<()> {
+pub fn head<K: Sink>(out: &mut K, mark: &str, name: &str) -> Option<()> {
     out.write_all(mark.as_bytes()).ok()?;
     out.write_all(name.as_bytes()).ok()?;
     out.write_all(b"\n").ok()

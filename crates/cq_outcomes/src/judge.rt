@@ -9,6 +9,7 @@ use crate::questions::try_question;
 use crate::rows::try_row;
 use crate::tally::Tally;
 use crate::terms::try_term;
+use crate::whys::try_why;
 use std::alloc::{AllocError, Global};
 
 /// The end of a line that goes on, and what the next one begins with.
@@ -91,6 +92,7 @@ fn try_part(
     match part.name {
         "term" => try_term(alloc, part, tally),
         "beginnings" => try_beginnings(alloc, entry, tally),
+        "why" => try_why(alloc, entry, part, tally),
         _ => tally.refuse(alloc, entry.title(), "a part has no name that is known"),
     }
 }

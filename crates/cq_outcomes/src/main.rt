@@ -1,6 +1,6 @@
 //! Runs each file of `data/examples/` in turn, and prints its transcript and the files that it exports: what is stored
-//! of the examples stays what the program prints. Then it runs the texts of each table of `data/`, and prints how many
-//! end as the table tells, and those that do not.
+//! of the examples stays what the program prints. Then it prints what `cqlwhy` tells of each file of `data/mistakes/`.
+//! Then it runs the texts of each table of `data/`, and prints how many end as the table tells, and those that do not.
 #![tactic(auto)]
 
 mod beginnings;
@@ -12,15 +12,18 @@ mod examples;
 mod exports;
 mod faults;
 mod judge;
+mod mistakes;
 mod programs;
 mod questions;
 mod repeated;
 mod rows;
 mod tally;
 mod terms;
+mod whys;
 
 use crate::examples::show_examples;
 use crate::judge::tally_of;
+use crate::mistakes::show_mistakes;
 use crate::tally::Tally;
 use cq_io::{DirFolder, Folder};
 use std::alloc::Global;
@@ -28,7 +31,7 @@ use std::io;
 use std::process::ExitCode;
 
 /// The tables, by the names of their files.
-const TABLES: [&str; 21] = [
+const TABLES: [&str; 24] = [
     "syntax",
     "statuses",
     "models",
@@ -50,13 +53,17 @@ const TABLES: [&str; 21] = [
     "questions",
     "devices",
     "exports",
+    "whys",
+    "why_rules",
+    "why_folders",
 ];
 
 /// A file of a table is shorter than this.
 const LIMIT: u64 = 1048576;
 
 fn main(rt: HostRuntime) -> ExitCode {
-    let mut code = if show_examples(rt).is_some() { 0 } else { 1 };
+    let shown = show_examples(rt).is_some() && show_mistakes(rt).is_some();
+    let mut code = if shown { 0 } else { 1 };
     for name in TABLES {
         if !matches!(is_as_told(rt, name), Ok(true)) {
             code = 1;
