@@ -1,23 +1,26 @@
 #!/usr/bin/env python3
 """Times the transforms that move along mappings and queries in the built program.
 
-    bench/adjoint.py [PROGRAM]
+    bench/adjoint.py [--instructions] [PROGRAM]
 
-PROGRAM is by default crates/cqlrun/out/cqlrun, which `./cqlrun` builds. Each of the eight forms, at 2,000, 20,000 and 200,000 rows
-of the instance that is moved (for counit half of that). Along a mapping the rows are those of the case merge of `bench/move.py`: half of them in A, each with
-its row in B, and sigma makes one of each two. Along a query they are a ring: a foreign key leads each row to the next one, and the
-query's answers are the rows with the rows that follow them. The transform that is moved is the identity.
+PROGRAM is by default crates/cqlrun/out/cqlrun, which `./cqlrun` builds. Each of the eight forms, at 2,000, 20,000 and
+200,000 rows of the instance that is moved (for counit half of that). Along a mapping the rows are those of the case
+merge of `bench/move.py`: half of them in A, each with its row in B, and sigma makes one of each two. Along a query they
+are a ring: a foreign key leads each row to the next one, and the query's answers are the rows with the rows that follow
+them. The transform that is moved is the identity.
 
-For each form it prints the seconds that the transform adds to a run that makes the same instances (the best of five of each, and
-of fifteen up to 20,000 rows, where the difference is of a few milliseconds), the
-ratio of that to the seconds at a tenth, its ratio to what the move of the instances adds to a run without it, and the bytes of peak
-memory that the transform adds for each row.
+For each form it prints what the transform adds to a run that makes the same instances, in processor seconds; the ratio
+of that to what it adds at a tenth; its ratio to what the move of the instances adds to a run without it; and the bytes
+of peak memory that the transform adds for each row. The three runs are made in turns, 41 times up to 20,000 rows, where
+the difference is of a few milliseconds, and 11 times above, and the least of each counts.
+
+With --instructions it prints in place of that the instructions that the transform adds at 20,000 and 200,000 rows, as
+valgrind counts them, and their ratios: these are the same in each run, on whatever machine, and say nothing of memory.
 """
+import argparse
 import pathlib
-import sys
-import tempfile
 
-from whole_run import run
+from whole_run import instructions_of, least_of
 
 ROOT = pathlib.Path(__file__).resolve().parent.parent
 T = "typeside T = literal { types s constants Al : s }\n"
@@ -88,27 +91,52 @@ FORMS = (
 )
 
 
-def measure(program, text, runs):
-    with tempfile.TemporaryDirectory() as folder:
-        pathlib.Path(folder, "p.cql").write_text(text)
-        return min(run(program, folder) for _ in range(runs))
+def programs(form, rows):
+    """The text with the instance alone, the one that makes the other instances too, and the one with the transform."""
+    _, source, made, identity, transform = form
+    start = source(rows)
+    return start, start + made + identity, start + made + identity + transform
+
+
+def ratio_of(added, before):
+    return f"{added / before:.1f}" if before else ""
+
+
+def print_seconds(program):
+    print("| form | rows | processor seconds that it adds | of a tenth | of what the move adds | bytes a row |")
+    print("|---|---|---|---|---|---|")
+    for form in FORMS:
+        before = None
+        for rows in (2_000, 20_000, 200_000):
+            least = least_of(program, programs(form, rows), 41 if rows <= 20_000 else 11)
+            (without, _), (still, idle), (seconds, peak) = least
+            added = seconds - still
+            share, bytes_a_row = added / (still - without), (peak - idle) / rows
+            ratio = ratio_of(added, before)
+            print(f"| {form[0]} | {rows:,} | {added:.4f} | {ratio} | {share:.2f} | {bytes_a_row:.0f} |", flush=True)
+            before = added
+
+
+def print_instructions(program):
+    print("| form | rows | instructions that it adds | of a tenth | of what the move adds |")
+    print("|---|---|---|---|---|")
+    for form in FORMS:
+        before = None
+        for rows in (20_000, 200_000):
+            without, still, whole = (instructions_of(program, text) for text in programs(form, rows))
+            added = whole - still
+            share = added / (still - without)
+            print(f"| {form[0]} | {rows:,} | {added:,} | {ratio_of(added, before)} | {share:.2f} |", flush=True)
+            before = added
 
 
 def main():
-    program = str(pathlib.Path(sys.argv[1]).resolve() if len(sys.argv) > 1 else ROOT / "crates/cqlrun/out/cqlrun")
-    print("| form | rows | seconds that it adds | of a tenth | of what the move adds | bytes a row |")
-    print("|---|---|---|---|---|---|")
-    for name, source, made, identity, transform in FORMS:
-        before = None
-        for rows in (2_000, 20_000, 200_000):
-            start, runs = source(rows), 15 if rows <= 20_000 else 5
-            without, _ = measure(program, start, runs)
-            still, idle = measure(program, start + made + identity, runs)
-            seconds, peak = measure(program, start + made + identity + transform, runs)
-            added, move = seconds - still, still - without
-            ratio = f"{added / before:.1f}" if before else ""
-            before = added
-            print(f"| {name} | {rows:,} | {added:.3f} | {ratio} | {added / move:.2f} | {(peak - idle) / rows:.0f} |", flush=True)
+    words = argparse.ArgumentParser()
+    words.add_argument("--instructions", action="store_true")
+    words.add_argument("program", nargs="?", default=ROOT / "crates/cqlrun/out/cqlrun")
+    asked = words.parse_args()
+    program = str(pathlib.Path(asked.program).resolve())
+    (print_instructions if asked.instructions else print_seconds)(program)
 
 
 main()

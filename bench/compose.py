@@ -1,25 +1,29 @@
 #!/usr/bin/env python3
 """Times composed queries in the built program.
 
-    bench/compose.py [PROGRAM]
+    bench/compose.py [--instructions] [PROGRAM]
 
 PROGRAM is by default crates/cqlrun/out/cqlrun, which `./cqlrun` builds. At 2,000, 20,000 and 200,000 rows: a first query joins two
 entities along a foreign key, a second one joins the answers of the first by a cell, and their composite is answered at once. For
-each size it prints the seconds of a whole run (the best of three) with the composite and with the two evals in turn, each without
-the run that answers nothing, the ratio of the composite's to that at a tenth and to that of the two evals, and, where Python has
-sqlite3, its ratio to the view that is spelled out, over the same rows in memory with indexes.
+each size it prints the processor seconds of a run with the composite and with the two evals in turn, each without the run that
+answers nothing, the ratio of the composite's to that at a tenth and to that of the two evals, and, where Python has sqlite3, its
+ratio to the view that is spelled out, over the same rows in memory with indexes. The runs are made in turns, 41 times up to 20,000
+rows and 11 times above, and the least of each counts.
 
 Then it prints the seconds of programs that only compose: ten queries of two variables each in a chain, whose composite has 1,024
 variables, and forty, whose composite is refused; each from the first query on and from the last on, and also with a where equation,
 an attribute and a foreign key in each query.
+
+With --instructions it prints in place of all that the instructions of the composite's eval and of the two evals at 20,000 and 200,000
+rows, as valgrind counts them, and their ratios: these are the same in each run, on whatever machine, and say nothing of memory.
 """
+import argparse
 import pathlib
 import subprocess
-import sys
 import tempfile
 import time
 
-from whole_run import run
+from whole_run import instructions_of, least_of
 
 try:
     import sqlite3
@@ -51,7 +55,7 @@ def instance(rows):
 def by_sqlite(rows):
     half = rows // 2
     base = sqlite3.connect(":memory:")
-    start = time.perf_counter()
+    start = time.process_time()
     base.execute("create table E (id integer primary key, k integer, x text)")
     base.execute("create table D (id integer primary key, y text)")
     base.executemany("insert into E values (?, ?, ?)", ((n, n, str(n)) for n in range(half)))
@@ -61,13 +65,13 @@ def by_sqlite(rows):
     with tempfile.TemporaryFile("w") as out:
         for row in base.execute(SELECT):
             out.write(f"{row[0]}\n")
-    return time.perf_counter() - start
+    return time.process_time() - start
 
 
-def measure(program, text):
-    with tempfile.TemporaryDirectory() as folder:
-        pathlib.Path(folder, "p.cql").write_text(text)
-        return min(run(program, folder) for _ in range(3))[0]
+def programs(rows):
+    """The text that answers nothing, the one that answers the composite, and the one with the two evals in turn."""
+    start = T + SCHEMAS + QUERIES + "query C = compose Q W\n" + instance(rows)
+    return start, start + "instance M = eval C I\n", start + "instance J = eval Q I\ninstance N = eval W J\n"
 
 
 def composed(count, rich=False, turned=False):
@@ -102,26 +106,54 @@ def seconds_of(program, text):
         return best, line
 
 
-def main():
-    program = str(pathlib.Path(sys.argv[1]).resolve() if len(sys.argv) > 1 else ROOT / "crates/cqlrun/out/cqlrun")
-    print("| rows | composite, seconds | of a tenth | of the two evals | of sqlite3 |")
+def ratio_of(added, before):
+    return f"{added / before:.1f}" if before else ""
+
+
+def print_seconds(program):
+    print("| rows | composite, processor seconds | of a tenth | of the two evals | of sqlite3 |")
     print("|---|---|---|---|---|")
     before = None
     for rows in (2_000, 20_000, 200_000):
-        start = T + SCHEMAS + QUERIES + "query C = compose Q W\n" + instance(rows)
-        without = measure(program, start)
-        once = measure(program, start + "instance M = eval C I\n") - without
-        turns = measure(program, start + "instance J = eval Q I\ninstance N = eval W J\n") - without
-        ratio = f"{once / before:.1f}" if before else ""
-        before = once
-        other = f"{once / by_sqlite(rows):.1f}" if sqlite3 else ""
-        print(f"| {rows:,} | {once:.3f} | {ratio} | {once / turns:.1f} | {other} |", flush=True)
+        rounds = 41 if rows <= 20_000 else 11
+        without, composite, turns = (seconds for seconds, _ in least_of(program, programs(rows), rounds))
+        added, both = composite - without, turns - without
+        other = f"{added / min(by_sqlite(rows) for _ in range(3)):.1f}" if sqlite3 else ""
+        print(f"| {rows:,} | {added:.4f} | {ratio_of(added, before)} | {added / both:.2f} | {other} |", flush=True)
+        before = added
+
+
+def print_instructions(program):
+    print("| rows | composite, instructions | of a tenth | of the two evals |")
+    print("|---|---|---|---|")
+    before = None
+    for rows in (20_000, 200_000):
+        without, composite, turns = (instructions_of(program, text) for text in programs(rows))
+        added, both = composite - without, turns - without
+        print(f"| {rows:,} | {added:,} | {ratio_of(added, before)} | {added / both:.2f} |", flush=True)
+        before = added
+
+
+def print_compositions(program):
     print()
     for count in (10, 40):
         for rich, turned in ((False, False), (False, True), (True, False), (True, True)):
             took, line = seconds_of(program, composed(count, rich, turned))
             kind = f"{'rich ' if rich else ''}queries{', from the last on' if turned else ''}"
             print(f"{count} {kind}: {took:.3f} seconds {line}", flush=True)
+
+
+def main():
+    words = argparse.ArgumentParser()
+    words.add_argument("--instructions", action="store_true")
+    words.add_argument("program", nargs="?", default=ROOT / "crates/cqlrun/out/cqlrun")
+    asked = words.parse_args()
+    program = str(pathlib.Path(asked.program).resolve())
+    if asked.instructions:
+        print_instructions(program)
+    else:
+        print_seconds(program)
+        print_compositions(program)
 
 
 main()

@@ -34,7 +34,8 @@ pub record IsAlongCoeval (Q : Query) (i j a b : InstanceData) (h s : Transform) 
   pub images : s.images ≡ coeval_images Q h i j
 
 -- h goes from i to j, and s from a to b, which are eval of these with these answers, with the images of h along eval
-pub record IsAlongEval (Q : Query) (i j a b : InstanceData) (from to : List (List (List ℕ))) (h s : Transform) : Type 0 where
+pub record IsAlongEval (Q : Query) (i j a b : InstanceData) (from to : List (List (List ℕ)))
+    (h s : Transform) : Type 0 where
   pub below : GoesFrom h i j
   pub evaluated : AreEvaluated Q i j a b from to
   pub above : GoesFrom s a b

@@ -20,7 +20,8 @@ use Rattle.cq_adjoint.specs.Moves.{spelled_value}
 module _ (Q : Query) (h : Transform) (i j d : InstanceData) (answers : List (List (List ℕ))) where
   -- the answer to which h sends a row of i
   abbrev pub answer_of : ℕ → ℕ → List ℕ
-  answer_of entity row = slice_index_or (answers_at answers entity) (row_image i.schema i.tables d.tables h.rows h.nulls entity row) []
+  answer_of entity row = slice_index_or (answers_at answers entity)
+      (row_image i.schema i.tables d.tables h.rows h.nulls entity row) []
 
   -- the copy of a row for a variable goes to the name of the variable's row in the answer
   abbrev pub row_named : ℕ → ℕ → ℕ × (Name × ℕ) → Image
@@ -32,9 +33,11 @@ module _ (Q : Query) (h : Transform) (i j d : InstanceData) (answers : List (Lis
   -- and a null's generator to the value to which h sends the null, spelled with these terms for the nulls of j
   module _ (null_term : ℕ → TypeTerm) where
     abbrev pub null_named : ℕ → Image
-    null_named label = ValueImage (spelled_value null_term (value_image i.schema i.tables d.tables h.rows h.nulls (Null label)))
+    null_named label = ValueImage (spelled_value null_term
+        (value_image i.schema i.tables d.tables h.rows h.nulls (Null label)))
 
     abbrev pub from_eval_images : List Image
     from_eval_images =
-        flat_map (λ entity. flat_map (rows_named entity) (below (count_of i.tables entity))) (below (length Q.target.entities))
+        flat_map (λ entity. flat_map (rows_named entity) (below (count_of i.tables entity)))
+        (below (length Q.target.entities))
         ++ map null_named (below (length i.tables.algebra.nulls))

@@ -1,5 +1,6 @@
 -- Copies of rows in coeval, and answers in eval.
-use Rattle.std.specs.Prelude.{ℕ, List, [], ◌≡◌, ◌<◌, ◌+◌, ◌*◌, Some, length, slice_get, slice_index_or, position, nat_eq}
+use Rattle.std.specs.Prelude.{ℕ, List, [], ◌≡◌, ◌<◌, ◌+◌, ◌*◌, Some, length, slice_get, slice_index_or, position}
+use Rattle.std.specs.Prelude.{nat_eq}
 use Rattle.std.specs.Option.{unwrap_or}
 use Rattle.std.specs.Cmp.Lexicographic.{pointwise, slice_cmp}
 use Rattle.std.specs.List.Sorted.{IsNonDecreasingBy}
@@ -18,7 +19,8 @@ use Rattle.cq_query.specs.Answers.{AreAnswers}
 module _ (Q : Query) (M : Tables) where
   -- the generator of coeval for a row of an entity of the target and a variable of its block
   abbrev pub copy_of : ℕ → ℕ → ℕ → EntTerm
-  copy_of entity row variable = alone (start_of Q M.sheet.counts entity + row * length (variables_at Q entity) + variable)
+  copy_of entity row variable = alone
+      (start_of Q M.sheet.counts entity + row * length (variables_at Q entity) + variable)
 
   -- a value of the tables as a term, in which a null stands as its generator of coeval
   abbrev pub copied_value : Value → TypeTerm
@@ -36,11 +38,13 @@ place_of answers rows = unwrap_or (position (pointwise nat_eq rows) answers) 0
 abbrev pub StandOnce : List (List ℕ) → Type 0
 StandOnce lists = (p q : ℕ) (rows : List ℕ) → slice_get lists p ≡ Some rows → slice_get lists q ≡ Some rows → p ≡ q
 
--- 0 where a list comes before the rows in lexicographic order, 1 where it is these rows, and 2 where it comes after them
+-- 0 where a list comes before the rows in lexicographic order, 1 where it is these rows, and 2 where it comes after
+-- them
 abbrev pub order_to : List ℕ → List ℕ → ℕ
 order_to rows list = ordering_index (slice_cmp nat_cmp list rows)
 
--- the lists stand in lexicographic order: to whatever rows they are compared, none that comes before them stands behind one that doesn't
+-- the lists stand in lexicographic order: to whatever rows they are compared, none that comes before them stands behind
+-- one that doesn't
 abbrev pub DoRise : List (List ℕ) → Type 0
 DoRise lists = (rows : List ℕ) → IsNonDecreasingBy (order_to rows) lists
 

@@ -5,7 +5,8 @@ use Rattle.cq_transform.specs.Transforms.{GoesFrom}
 use Rattle.cq_adjoint.specs.declared.coeval_maps.Copying.{Copying}
 use Rattle.cq_adjoint.specs.QueryMoves.{IsCoeval}
 
--- the transform goes from the source to the target, the instances are coeval of these, and the starts are those in the target's
+-- the transform goes from the source to the target, the instances are coeval of these, and the starts are those in the
+-- target's
 pub record IsCopying (copying : Copying) : Type 0 where
   pub goes : GoesFrom copying.moved.now copying.source.now copying.target.now
   pub copied : IsCoeval copying.query.now copying.source.now copying.copies.now

@@ -21,9 +21,11 @@ use Rattle.cq_transform.specs.Agreement.{meaning_image}
 
 -- where h, which goes from i to j, sends what generator n of i stands for
 abbrev pub sent : InstanceData → InstanceData → Transform → Sort → ℕ → Meaning
-sent i j h sort n = meaning_image i.schema i.tables j.tables h.rows h.nulls sort (slice_index_or i.assignment n (AtRow 0))
+sent i j h sort n = meaning_image i.schema i.tables j.tables h.rows h.nulls sort
+    (slice_index_or i.assignment n (AtRow 0))
 
--- the spelling of a row or a value in the instance of tables: the row's generator, and the value as a term over those of nulls
+-- the spelling of a row or a value in the instance of tables: the row's generator, and the value as a term over those
+-- of nulls
 abbrev pub spelled : InstanceData → Sort → Meaning → Image
 spelled d (Entity entity) m = Row (row_term d.schema d.tables entity (row_in m))
 spelled d (Plain type) m = ValueImage (value_term d.schema d.tables (value_in m))
@@ -56,17 +58,19 @@ module _ (F : Mapping) where
   abbrev pub sigma_images : Transform → List Image
   sigma_images h = map image_along h.images
 
-  -- h goes from i to j, and a and b are delta of i and of j: of row r at e the generator in b of h's row for the row r of F(e), of a null
-  -- the spelling of h's value for it
+  -- h goes from i to j, and a and b are delta of i and of j: of row r at e the generator in b of h's row for the row r
+  -- of F(e), of a null the spelling of h's value for it
   abbrev pub delta_images : Transform → (i j a b : InstanceData) → List Image
   delta_images h i j a b = each_generator (λ n sort. spelled b sort
-      (meaning_image i.schema i.tables j.tables h.rows h.nulls (sort_image F sort) (slice_index_or a.assignment n (AtRow 0))))
+      (meaning_image i.schema i.tables j.tables h.rows h.nulls (sort_image F sort)
+      (slice_index_or a.assignment n (AtRow 0))))
       a.presentation.generators
 
-  -- h goes from a, which is sigma of i, to j, of which d is delta: of a generator the spelling in d of what h makes of what it stands for
-  -- in a
+  -- h goes from a, which is sigma of i, to j, of which d is delta: of a generator the spelling in d of what h makes of
+  -- what it stands for in a
   abbrev pub to_delta_images : Transform → (i a j d : InstanceData) → List Image
-  to_delta_images h i a j d = each_generator (λ n sort. spelled d sort (sent a j h (sort_image F sort) n)) i.presentation.generators
+  to_delta_images h i a j d = each_generator
+      (λ n sort. spelled d sort (sent a j h (sort_image F sort) n)) i.presentation.generators
 
   -- h goes from i to d, which is delta of j: of a generator the name in j of what h makes of what it stands for in i
   abbrev pub from_delta_images : Transform → (ℕ → TypeTerm) → (i j d : InstanceData) → List Image

@@ -17,7 +17,8 @@ use Rattle.cq_adjoint.specs.Spellable.{IsGenerator}
 module _ (F : Mapping) (k : Transform) (from to : InstanceData) where
   -- where k sends what generator n stands for
   abbrev pub moved : ℕ → Sort → Meaning
-  moved n sort = meaning_image to.schema from.tables to.tables k.rows k.nulls sort (slice_index_or from.assignment n (AtRow 0))
+  moved n sort = meaning_image to.schema from.tables to.tables k.rows k.nulls sort
+      (slice_index_or from.assignment n (AtRow 0))
 
   abbrev pub moved_name : (ℕ → TypeTerm) → ℕ → Sort → Image
   moved_name null_term n sort = named to null_term (sort_image F sort) (moved n sort)

@@ -45,16 +45,19 @@ module _ (h : Transform) (a j : InstanceData) where
   abbrev pub value_sent : TypeTerm → Value
   value_sent t = value_image a.schema a.tables j.tables h.rows h.nulls (value_of a.tables a.assignment t)
 
--- h goes from a, which is coeval of i, to j; the answer in j for a row of i has for each variable the row to which h sends the copy
+-- h goes from a, which is coeval of i, to j; the answer in j for a row of i has for each variable the row to which h
+-- sends the copy
 module _ (Q : Query) (h : Transform) (i a j : InstanceData) where
   abbrev pub copies_sent : ℕ → ℕ → List ℕ
-  copies_sent entity row = map (λ v. row_sent h a j v.1.1 (copy_of Q i.tables entity row v.0)) (enumerate_from 0 (variables_at Q entity))
+  copies_sent entity row = map (λ v. row_sent h a j v.1.1 (copy_of Q i.tables entity row v.0))
+      (enumerate_from 0 (variables_at Q entity))
 
-  -- d is eval of j, and these are the answers in j; a generator of a row goes to that of the row's answer, and one of a value to the
-  -- spelling of the value to which h sends the copied value
+  -- d is eval of j, and these are the answers in j; a generator of a row goes to that of the row's answer, and one of a
+  -- value to the spelling of the value to which h sends the copied value
   module _ (d : InstanceData) (answers : List (List (List ℕ))) where
     abbrev pub to_eval_row : ℕ → ℕ → Image
-    to_eval_row entity row = Row (row_term d.schema d.tables entity (place_of (answers_at answers entity) (copies_sent entity row)))
+    to_eval_row entity row = Row (row_term d.schema d.tables entity
+        (place_of (answers_at answers entity) (copies_sent entity row)))
 
     abbrev pub to_eval_value : Value → Image
     to_eval_value v = ValueImage (value_term d.schema d.tables (value_sent h a j (copied_value Q i.tables v)))
@@ -79,12 +82,13 @@ pub record AreAcross (Q : Query) (i a j d : InstanceData) (answers : List (List 
 module _ (Q : Query) (h : Transform) (i j : InstanceData) where
   abbrev pub answer_sent : ℕ → List ℕ → List ℕ
   answer_sent entity rows =
-      map (λ v. row_image i.schema i.tables j.tables h.rows h.nulls v.1.1 (slice_index rows v.0)) (enumerate_from 0 (variables_at Q entity))
+      map (λ v. row_image i.schema i.tables j.tables h.rows h.nulls v.1.1 (slice_index rows v.0))
+      (enumerate_from 0 (variables_at Q entity))
 
 -- h goes from i to j, a is eval of i with the answers `from`, and b is eval of j with the answers `to`
 module _ (Q : Query) (h : Transform) (i j a b : InstanceData) (from to : List (List (List ℕ))) where
-  -- a generator of an answer goes to that of the answer with h applied to each row, and one of a null to the spelling of where h sends the
-  -- null
+  -- a generator of an answer goes to that of the answer with h applied to each row, and one of a null to the spelling
+  -- of where h sends the null
   abbrev pub eval_row : ℕ → ℕ → Image
   eval_row entity row = Row (row_term b.schema b.tables entity
       (place_of (answers_at to entity) (answer_sent Q h i j entity (slice_index_or (answers_at from entity) row []))))
@@ -108,19 +112,22 @@ pub record AreEvaluated (Q : Query) (i j a b : InstanceData) (from to : List (Li
   pub answered : AreAllAnswers Q i.tables from
   pub answered_there : AreAllAnswers Q j.tables to
 
--- h goes from i to j; a and b are coeval of i and of j. The copy of a row goes to the copy, for the same variable, of the row to which h
--- sends the row, and a null's generator to the spelling of the value to which h sends the null.
+-- h goes from i to j; a and b are coeval of i and of j. The copy of a row goes to the copy, for the same variable, of
+-- the row to which h sends the row, and a null's generator to the spelling of the value to which h sends the null.
 module _ (Q : Query) (h : Transform) (i j : InstanceData) where
   abbrev pub copy_sent : ℕ → ℕ → ℕ → Image
-  copy_sent entity row variable = Row (copy_of Q j.tables entity (row_image i.schema i.tables j.tables h.rows h.nulls entity row) variable)
+  copy_sent entity row variable = Row
+      (copy_of Q j.tables entity (row_image i.schema i.tables j.tables h.rows h.nulls entity row) variable)
 
   abbrev pub copies_of_row : ℕ → ℕ → List Image
   copies_of_row entity row = map (copy_sent entity row) (below (length (variables_at Q entity)))
 
   abbrev pub null_sent : ℕ → Image
-  null_sent label = ValueImage (copied_value Q j.tables (value_image i.schema i.tables j.tables h.rows h.nulls (Null label)))
+  null_sent label = ValueImage (copied_value Q j.tables
+      (value_image i.schema i.tables j.tables h.rows h.nulls (Null label)))
 
   abbrev pub coeval_images : List Image
   coeval_images =
-      flat_map (λ entity. flat_map (copies_of_row entity) (below (count_of i.tables entity))) (below (length Q.target.entities))
+      flat_map (λ entity. flat_map (copies_of_row entity) (below (count_of i.tables entity)))
+      (below (length Q.target.entities))
       ++ map null_sent (below (length i.tables.algebra.nulls))

@@ -20,7 +20,8 @@ module _ (Q : Query) (i x b : InstanceData) (answers : List (List (List ℕ))) w
   -- the rows of x that the copies of a row of i name
   abbrev pub copies_named : ℕ → ℕ → List ℕ
   copies_named entity row =
-      map (λ v. row_of x.tables x.assignment (copy_of Q i.tables entity row v.0)) (enumerate_from 0 (variables_at Q entity))
+      map (λ v. row_of x.tables x.assignment (copy_of Q i.tables entity row v.0))
+      (enumerate_from 0 (variables_at Q entity))
 
   -- a row goes to the generator of the answer that its copies name, and a value to the spelling of its copy's value
   abbrev pub unit_row : ℕ → ℕ → Image
@@ -50,5 +51,6 @@ module _ (Q : Query) (i x : InstanceData) (answers : List (List (List ℕ))) (nu
   -- and a null's generator to the null's term
   abbrev pub counit_query_images : List Image
   counit_query_images =
-      flat_map (λ entity. flat_map (answer_named entity) (below (count_of x.tables entity))) (below (length Q.target.entities))
+      flat_map (λ entity. flat_map (answer_named entity) (below (count_of x.tables entity)))
+      (below (length Q.target.entities))
       ++ map (λ label. ValueImage (null_term label)) (below (length x.tables.algebra.nulls))

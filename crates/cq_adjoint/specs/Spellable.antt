@@ -24,7 +24,8 @@ module _ (F : Mapping) (h : Transform) (from to : InstanceData) where
   -- where h sends, at the image of the sort, what generator n stands for
   abbrev pub moved : ℕ → Sort → Meaning
   moved n sort =
-      meaning_image to.schema from.tables to.tables h.rows h.nulls (sort_image F sort) (slice_index_or from.assignment n (AtRow 0))
+      meaning_image to.schema from.tables to.tables h.rows h.nulls (sort_image F sort)
+      (slice_index_or from.assignment n (AtRow 0))
 
   abbrev pub moved_spelling : ℕ → Sort → Image
   moved_spelling n sort = spelled to sort (moved n sort)

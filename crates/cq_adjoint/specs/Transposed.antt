@@ -9,8 +9,8 @@ use Rattle.cq_instance.specs.InstanceData.{InstanceData}
 use Rattle.cq_instance.specs.declared.transform.Transform.{Transform}
 use Rattle.cq_adjoint.specs.Moves.{sent}
 
--- h goes from a, which is sigma of i, to j, and k from i to d, which is delta of j: for each generator of i, k makes of what
--- it stands for in i what h makes of what it stands for in a
+-- h goes from a, which is sigma of i, to j, and k from i to d, which is delta of j: for each generator of i, k makes of
+-- what it stands for in i what h makes of what it stands for in a
 abbrev pub Transposed : Mapping → (i a j d : InstanceData) → (h k : Transform) → Type 0
 Transposed F i a j d h k = (n : ℕ) (g : Name × Sort) → slice_get i.presentation.generators n ≡ Some g
     → sent i d k g.1 n ≡ sent a j h (sort_image F g.1) n

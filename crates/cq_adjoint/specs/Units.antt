@@ -21,9 +21,11 @@ identity_of i = record {
 
 -- x is sigma of i, and b is delta of x: each generator goes to the spelling in b of what it stands for in x
 abbrev pub unit_images : (i x b : InstanceData) → List Image
-unit_images i x b = each_generator (λ n sort. spelled b sort (slice_index_or x.assignment n (AtRow 0))) i.presentation.generators
+unit_images i x b = each_generator
+    (λ n sort. spelled b sort (slice_index_or x.assignment n (AtRow 0))) i.presentation.generators
 
 -- x is delta of i: the generator of a row or a null of x goes to its name in i
 abbrev pub counit_images : Mapping → (ℕ → TypeTerm) → (i x : InstanceData) → List Image
 counit_images F null_term i x =
-    each_generator (λ n sort. named i null_term (sort_image F sort) (slice_index_or x.assignment n (AtRow 0))) x.presentation.generators
+    each_generator (λ n sort. named i null_term (sort_image F sort)
+    (slice_index_or x.assignment n (AtRow 0))) x.presentation.generators

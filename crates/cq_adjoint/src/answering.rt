@@ -142,7 +142,8 @@ pub(crate) fn images(alloc: Global, answering: &Answering) -> Result<Vec<Image>,
         (term_among answering.now.null_terms.now)) }
 {
     let query = answering.query;
-    let mut images = Vec::new(alloc);
+    let presentation = answering.copies.presentation();
+    let mut images = Vec::with_capacity(alloc, presentation.generators.len())?;
     for entity in 0..query.entity_count() {
         push_rows(alloc, answering, entity, &mut images)?;
     }

@@ -169,7 +169,8 @@ fn images(alloc: Global, copying: &Copying) -> Result<Vec<Image>, AllocError>
         copying.now.source.now copying.now.target.now) }
 {
     let query = copying.query;
-    let mut images = Vec::new(alloc);
+    let presentation = copying.copies.presentation();
+    let mut images = Vec::with_capacity(alloc, presentation.generators.len())?;
     for entity in 0..query.entity_count() {
         push_rows(alloc, copying, entity, &mut images)?;
     }

@@ -7,10 +7,10 @@
 //! equation is tested again.
 //!
 //! Along a query, answers stand in order, so that the place of each is found by halves (`places`), and so do the
-//! generators of coeval (`layout`). `to_eval` sends rows to the answers that their copies name (`crossing`, `into_eval`), and `eval_map`
-//! applies a transform to each row of an answer (`eval_maps`). `coeval_map` sends the copies of a row to those of the
-//! row to which the row goes (`coeval_maps`), and `from_eval` sends them to the names of the rows in the row's answer
-//! (`answering`, `out_of_coeval`).
+//! generators of coeval (`layout`). `to_eval` sends rows to the answers that their copies name (`crossing`,
+//! `into_eval`), and `eval_map` applies a transform to each row of an answer (`eval_maps`). `coeval_map` sends the
+//! copies of a row to those of the row to which the row goes (`coeval_maps`), and `from_eval` sends them to the names
+//! of the rows in the row's answer (`answering`, `out_of_coeval`).
 //!
 //! The laws (`laws`, `query_laws`) say that there and back is the identity both ways, that units and counits are the
 //! transforms of identities, and that the four maps keep identities and composites.

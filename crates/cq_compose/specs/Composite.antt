@@ -1,5 +1,6 @@
 -- The composite of two queries: one query that asks what the second asks of the answers of the first.
-use Rattle.std.specs.Prelude.{ℕ, Bool, List, [], ◌∷◌, ◌++◌, ◌||◌, map, length, sum, take, nat_lt, codes, decimal, Option, Some, None, slice_get}
+use Rattle.std.specs.Prelude.{ℕ, Bool, List, [], ◌∷◌, ◌++◌, ◌||◌, map, length, sum, take, nat_lt, codes, decimal}
+use Rattle.std.specs.Prelude.{Option, Some, None, slice_get}
 use Rattle.std.specs.List.{flat_map, enumerate_from, list_any}
 use Rattle.cq_base.specs.declared.name.Name.{Name}
 use Rattle.cq_theory.specs.declared.presentation.Equation.{Equation}
@@ -23,8 +24,8 @@ use Rattle.cq_query.specs.Duties.{equal_terms}
 abbrev pub numbered : List ℕ → List (Name × ℕ)
 numbered entities = map (λ p. (codes "x" ++ decimal p.0, p.1)) (enumerate_from 1 entities)
 
--- Q goes from S to T, and W from T to U. A variable y of W's block for an entity u of U, which is of an entity of T, has components:
--- a variable for each one of Q's block for that entity.
+-- Q goes from S to T, and W from T to U. A variable y of W's block for an entity u of U, which is of an entity of T,
+-- has components: a variable for each one of Q's block for that entity.
 module _ (Q W : Query) where
   -- how many components a variable has
   abbrev pub width : Name × ℕ → ℕ

@@ -50,7 +50,8 @@ widths Q variables = map (λ v. length (variables_at Q v.1)) variables
 abbrev pub start_in : Query → List (Name × ℕ) → ℕ → ℕ
 start_in Q variables y = sum (widths Q (take y variables))
 
--- A term of the composite's block has over 1,024 symbols. The first query's where equations on components are as short as they were.
+-- A term of the composite's block has over 1,024 symbols. The first query's where equations on components are as short
+-- as they were.
 module _ (Q W : Query) (u : ℕ) where
   abbrev pub has_long_test : List Equation → Bool
   has_long_test tests = list_any (λ test. list_any has_long_side (translated_test Q W u test)) tests
@@ -59,7 +60,8 @@ module _ (Q W : Query) (u : ℕ) where
   has_long_attribute terms = list_any (λ t. nat_lt 1024 (typ.symbols_of (translated Q W u t))) terms
 
   abbrev pub has_long_key : List (List EntTerm) → Bool
-  has_long_key keys = list_any (list_any (λ t. list_any (λ s. nat_lt 1024 (ent.symbols_of s)) (term_components Q W u t))) keys
+  has_long_key keys = list_any (list_any
+      (λ t. list_any (λ s. nat_lt 1024 (ent.symbols_of s)) (term_components Q W u t))) keys
 
   abbrev pub has_long_term : Block → Bool
   has_long_term b = has_long_test b.tests || has_long_attribute b.attributes || has_long_key b.keys

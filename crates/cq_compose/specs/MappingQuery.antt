@@ -14,7 +14,8 @@ module _ (F : Mapping) where
   abbrev pub from_variable : List ℕ → EntTerm
   from_variable path = record { generator = 0; path = path }
 
-  -- One variable x1 of the entity's image and no where equations; for each attribute its image, and for each key its path.
+  -- One variable x1 of the entity's image and no where equations; for each attribute its image, and for each key its
+  -- path.
   abbrev pub mapping_block : ℕ × ℕ → Block
   mapping_block e = record {
     vars = (codes "x1", e.1) ∷ [];
@@ -25,4 +26,9 @@ module _ (F : Mapping) where
 
   -- from the mapping's target to its source
   abbrev pub mapping_query : Query
-  mapping_query = record { source = F.target; target = F.source; blocks = map mapping_block (enumerate_from 0 F.entities) }
+  mapping_query = record {
+    source = F.target;
+    target = F.source;
+    blocks = map mapping_block
+        (enumerate_from 0 F.entities);
+  }

@@ -130,7 +130,8 @@ pub(crate) fn has_long_component(frame: &Frame, term: &EntTerm) -> bool
 
 /// Whether a side of one of the equations between the components of two terms has over 1,024 symbols.
 fn has_long_pair(frame: &Frame, left: &EntTerm, right: &EntTerm) -> bool
-    ensures { result ≡ list_any has_long_side (equal_terms (terms_of frame.now left.now) (terms_of frame.now right.now)) }
+    ensures { result ≡ list_any has_long_side
+        (equal_terms (terms_of frame.now left.now) (terms_of frame.now right.now)) }
 {
     let count = component_count(frame, left).min(component_count(frame, right));
     for place in 0..count {

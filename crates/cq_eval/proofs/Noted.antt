@@ -1,5 +1,5 @@
 -- Lists in which nothing is noted, or one thing more.
-use Rattle.std.proofs.Common.{ℕ, zero, suc, List, [], ◌∷◌, ◌++◌, Option, Some, None, ◌≡◌, ◌⊎◌, inl, inr, set, refl, sym, ap}
+use Rattle.std.proofs.Common.{ℕ, zero, suc, List, [], ◌∷◌, ◌++◌, Option, Some, None, ◌≡◌, ◌⊎◌, inl, inr, set}
 use Rattle.std.specs.Prelude.{slice_get}
 use Rattle.cq_eval.proofs.Firsts.{set_at}
 

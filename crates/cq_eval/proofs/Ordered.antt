@@ -1,18 +1,16 @@
 -- Choices of rows in lexicographic order, and how often each stands among them.
-use Rattle.std.proofs.Common.{ℕ, zero, suc, Bool, true, false, not, cond, List, [], ◌∷◌, ◌++◌, Some, ◌≡◌, ◌≢◌, ◌<◌, ◌≤◌, ◌+◌, ◌==◌, ◌&&◌, inl, inr, map, filter, length, refl, sym, ap, subst, ◌∙◌, arith}
-use Rattle.std.specs.Prelude.{slice_get, slice_index, nat_eq, nat_lt}
+use Rattle.std.proofs.Common.{ℕ, zero, suc, Bool, true, false, cond, List, [], ◌∷◌, ◌++◌, Some, ◌≡◌, ◌<◌, ◌≤◌, ◌+◌, ◌==◌, ◌&&◌, inl, inr, map, filter, length, refl, sym, ap, ◌∙◌, arith}
+use Rattle.std.specs.Prelude.{nat_lt}
 use Rattle.std.specs.List.{flat_map, range_with_len}
 use Rattle.std.specs.Ordering.{is_lt, nat_cmp, ordering_then}
-use Rattle.std.specs.declared.cmp.Ordering.{Ordering}
-use Rattle.std.specs.declared.cmp.Ordering.TheVariants.{Less, Equal, Greater}
+use Rattle.std.specs.declared.cmp.Ordering.TheVariants.{Equal, Greater}
 use Rattle.std.specs.Cmp.{nat_cmp_is}
 use Rattle.std.specs.Cmp.Lexicographic.{slice_cmp}
-use Rattle.std.proofs.lemmas.Bool.{cases_eq, cases_order, eqb-true, eq-eqb, ne_eqb, ltb-false, ltb-true, lt-ltb, and_parts, and_from}
-use Rattle.std.proofs.lemmas.Bool.Decides.{nat_tests}
+use Rattle.std.proofs.lemmas.Bool.{cases_eq, cases_order, eq-eqb, ne_eqb, ltb-false, ltb-true, lt-ltb, and_parts, and_from}
 use Rattle.cq_theory.specs.Canonical.{below}
 use Rattle.cq_query.specs.Answers.{tuples, IsTuple}
 use Rattle.cq_query.proofs.Answering.{IsIn, no_member, later, cases_in, in_either, from_longer}
-use Rattle.cq_eval.proofs.Counted.{same, one_if, times, times_append, is_before, Rises, itself, is_same}
+use Rattle.cq_eval.proofs.Counted.{same, one_if, times, times_append, is_before, Rises, is_same}
 
 -- what is left of a list that rises rises
 in_either_way : (y x : List ℕ) (kept l : List (List ℕ)) (b : Bool) → IsIn y (cond b (x ∷ kept) kept) → (IsIn y kept → IsIn y l) → IsIn y (x ∷ l)

@@ -1,14 +1,12 @@
 -- Where equations over renumbered variables hold at rows in that order where the equations hold at the rows.
-use Rattle.std.proofs.Common.{ℕ, zero, suc, Bool, true, false, List, [], ◌∷◌, ◌++◌, Option, Some, None, ◌≡◌, ◌<◌, ◌≤◌, ◌+◌, ◌==◌, ◌&&◌, inl, inr, map, length, get_or, refl, sym, ap, subst, ◌∙◌, arith}
+use Rattle.std.proofs.Common.{ℕ, zero, suc, Bool, true, false, List, [], ◌∷◌, Option, Some, None, ◌≡◌, ◌<◌, ◌≤◌, ◌+◌, ◌==◌, ◌&&◌, inl, inr, map, length, refl, sym, ap, subst, ◌∙◌, arith}
 use Rattle.std.specs.Prelude.{slice_get, slice_index, slice_index_or, option_and_then}
 use Rattle.std.specs.List.{list_all}
 use Rattle.std.proofs.lemmas.Bool.{cases_order}
 use Rattle.std.proofs.lemmas.List.{length-map}
 use Rattle.std.proofs.lemmas.Option.{slice_get_past, slice_get_within, slice_get-get_or, get_or_from_slice_get}
-use Rattle.cq_base.specs.declared.name.Name.{Name}
 use Rattle.cq_theory.specs.declared.presentation.Equation.{Equation}
 use Rattle.cq_theory.specs.declared.presentation.Equation.TheVariants as equation
-use Rattle.cq_theory.specs.declared.presentation.Sort.{Sort}
 use Rattle.cq_theory.specs.declared.term.EntTerm.{EntTerm}
 use Rattle.cq_theory.specs.declared.term.TypeTerm.{TypeTerm}
 use Rattle.cq_theory.specs.declared.value.Value.{Value}
@@ -19,7 +17,7 @@ use Rattle.cq_theory.proofs.TypeTerms.{fold-Gen, fold-Const, fold-Att, fold-Fun,
 use Rattle.cq_instance.specs.SameValue.{same_value}
 use Rattle.cq_instance.specs.Terms.{AreStandings, IsEntTermOf, IsTypeTermOf}
 use Rattle.cq_query.specs.Answers.{IsTuple}
-use Rattle.cq_query.proofs.Holding.{tuple_length, tuple_at, tuple_from}
+use Rattle.cq_query.proofs.Holding.{tuple_at, tuple_from}
 use Rattle.cq_eval.specs.Testing.{holds_at, IsTestAt}
 use Rattle.cq_eval.specs.Order.{IsBack, IsOrder, picked, renamed_entity, renamed_step, renamed_type, renamed}
 

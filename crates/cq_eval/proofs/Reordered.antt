@@ -1,10 +1,10 @@
 -- Answers that are found in another order of the variables, put back and sorted, are the answers.
-use Rattle.std.proofs.Common.{ℕ, zero, suc, Bool, true, false, cond, List, [], ◌∷◌, Some, ◌≡◌, ◌<◌, ◌≤◌, ◌+◌, ◌⊎◌, inl, inr, map, filter, length, refl, sym, ap, subst, ◌∙◌, arith}
-use Rattle.std.specs.Prelude.{slice_get, slice_index, nat_eq, IsPermutation, IsSorted}
+use Rattle.std.proofs.Common.{ℕ, zero, suc, Bool, true, false, cond, List, [], ◌∷◌, Some, ◌≡◌, ◌≤◌, ◌+◌, inl, inr, map, length, refl, sym, ap, subst, ◌∙◌, arith}
+use Rattle.std.specs.Prelude.{slice_get, IsPermutation, IsSorted}
 use Rattle.std.specs.List.{list_all}
-use Rattle.std.specs.Ordering.{is_lt, nat_cmp}
-use Rattle.std.specs.Cmp.Lexicographic.{slice_cmp, nat_list_cmp_total, pointwise}
-use Rattle.std.proofs.lemmas.Bool.{cases_order, cases_eq}
+use Rattle.std.specs.Ordering.{nat_cmp}
+use Rattle.std.specs.Cmp.Lexicographic.{slice_cmp, nat_list_cmp_total}
+use Rattle.std.proofs.lemmas.Bool.{cases_eq}
 use Rattle.std.proofs.lemmas.List.{length-map}
 use Rattle.std.proofs.lemmas.List.Sorted.{sorted_far, length_permutation}
 use Rattle.std.proofs.lemmas.List.MinMax.{ranks_by}
@@ -14,7 +14,7 @@ use Rattle.cq_theory.specs.SchemaData.{SchemaData as Schema}
 use Rattle.cq_theory.specs.Tables.{Tables}
 use Rattle.cq_theory.proofs.Faults.{made_of}
 use Rattle.cq_query.specs.Answers.{tuples, IsTuple}
-use Rattle.cq_query.proofs.Answering.{IsIn, no_member, first, later, cases_in}
+use Rattle.cq_query.proofs.Answering.{IsIn, first, later}
 use Rattle.cq_query.proofs.Holding.{tuple_length}
 use Rattle.cq_eval.specs.Testing.{holds_at, IsTestAt}
 use Rattle.cq_eval.specs.Order.{IsOrder, picked, renamed}
@@ -24,7 +24,6 @@ use Rattle.cq_eval.specs.declared.refusal.EvalRefusal.{EvalRefusal}
 use Rattle.cq_eval.proofs.Counted.{same, one_if, times, times_shuffled, itself, is_same, same_length, is_before, Rises, one_list}
 use Rattle.cq_eval.proofs.Ordered.{filter_rises, in_filter, tuples_rise, tuple_long, is_tuple, tuple_times, to_tuple, from_tuple, filter_times}
 use Rattle.cq_eval.proofs.Renamed.{back_long, forth_long, forth_back, back_forth, tuple_forth, tuple_back, all_hold_same, tested_same}
-use Rattle.cq_eval.proofs.Extended.{tells_more}
 
 -- what a sort makes rises
 sorted_at : (l : List (List ℕ)) → IsSorted (slice_cmp nat_cmp) l → (i j : ℕ) (x y : List ℕ) → i ≤ j → slice_get l i ≡ Some x → slice_get l j ≡ Some y → is_before y x ≡ false

@@ -1,7 +1,7 @@
 -- Variables in no where equation that is still tested have all their rows.
-use Rattle.std.proofs.Common.{ℕ, zero, suc, Bool, true, false, not, cond, List, [], ◌∷◌, ◌++◌, Some, ◌≡◌, ◌<◌, ◌≤◌, ◌+◌, ◌*◌, ◌==◌, ◌||◌, ◌⊎◌, inl, inr, map, filter, take, drop, length, get_or, min, max, suc-mul, mul_assoc, refl, sym, ap, subst, ◌∙◌, arith}
+use Rattle.std.proofs.Common.{ℕ, zero, suc, Bool, true, false, not, cond, List, [], ◌∷◌, ◌++◌, Some, ◌≡◌, ◌<◌, ◌≤◌, ◌+◌, ◌*◌, ◌==◌, ◌||◌, inl, inr, map, filter, take, drop, length, get_or, min, max, suc-mul, mul_assoc, refl, sym, ap, subst, ◌∙◌, arith}
 use Rattle.std.specs.Prelude.{slice_get}
-use Rattle.std.specs.List.{list_all, flat_map}
+use Rattle.std.specs.List.{flat_map}
 use Rattle.std.proofs.lemmas.Bool.{cases_order, ne_eqb}
 use Rattle.std.proofs.lemmas.Nat.{mul-le}
 use Rattle.std.proofs.lemmas.List.{length-append, length-take-le, drop_all}
@@ -15,7 +15,6 @@ use Rattle.cq_query.proofs.Holding.{tuple_length}
 use Rattle.cq_eval.specs.Testing.{holds_at, reach, stage}
 use Rattle.cq_eval.specs.Join.{IsLast, combinations, passes, found_from}
 use Rattle.cq_eval.specs.Refused.{TellsOver}
-use Rattle.cq_eval.specs.declared.refusal.EvalRefusal.{EvalRefusal}
 use Rattle.cq_eval.specs.declared.refusal.EvalRefusal.TheVariants.{TooManyAnswers}
 use Rattle.cq_eval.proofs.Answered.{all_from_each}
 

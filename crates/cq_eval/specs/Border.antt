@@ -29,9 +29,11 @@ module _ (width : ℕ) where
 
   -- none of the where equations that are tested when more variables are bound reads one of the first so many
   abbrev pub IsBorder : List Equation → ℕ → Type 0
-  IsBorder tests bound = (n : ℕ) (e : Equation) → slice_get tests n ≡ Some e → bound < stage width e → bound ≤ first_variable e
+  IsBorder tests bound = (n : ℕ) (e : Equation) → slice_get tests n ≡ Some e → bound < stage width e
+      → bound ≤ first_variable e
 
   -- for each number of bound variables none that is greater than the first variable of an equation that is tested then
   pub record AreLeast (tests : List Equation) (firsts : List ℕ) : Type 0 where
     pub long : length firsts ≡ width + 1
-    pub first : (n : ℕ) (e : Equation) → slice_get tests n ≡ Some e → slice_index firsts (stage width e) ≤ first_variable e
+    pub first : (n : ℕ) (e : Equation) → slice_get tests n ≡ Some e
+        → slice_index firsts (stage width e) ≤ first_variable e

@@ -1,5 +1,6 @@
 -- Lists of rows from which the rows for a new variable are taken.
-use Rattle.std.specs.Prelude.{ℕ, Bool, true, false, List, [], ◌∷◌, ◌++◌, ◌≡◌, ◌<◌, ◌≤◌, ◌⊎◌, Option, Some, All, map, filter, length}
+use Rattle.std.specs.Prelude.{ℕ, Bool, true, false, List, [], ◌∷◌, ◌++◌, ◌≡◌, ◌<◌, ◌≤◌, ◌⊎◌, Option, Some, All, map}
+use Rattle.std.specs.Prelude.{filter, length}
 use Rattle.std.specs.Prelude.{slice_get, slice_index, slice_index_or}
 use Rattle.cq_theory.specs.declared.presentation.Equation.{Equation}
 use Rattle.cq_theory.specs.declared.presentation.Equation.TheVariants.{Ent, Typ}
@@ -46,11 +47,13 @@ other_entity turned (Typ t u) = record { generator = 0; path = [] }
 
 -- the rows that are listed for the other side
 abbrev pub listed_rows : Tables → List ℕ → Equation → TestIndex → List ℕ
-listed_rows M choice (Typ t u) index = rows_of_value index.lists (value_of M (map AtRow choice) (other_side index.turned (Typ t u)))
-listed_rows M choice (Ent t u) index = rows_of_row index.lists (row_of M (map AtRow choice) (other_entity index.turned (Ent t u)))
+listed_rows M choice (Typ t u) index = rows_of_value index.lists
+    (value_of M (map AtRow choice) (other_side index.turned (Typ t u)))
+listed_rows M choice (Ent t u) index = rows_of_row index.lists
+    (row_of M (map AtRow choice) (other_entity index.turned (Ent t u)))
 
--- the side is this attribute of this variable, the other side needs only variables before it, and the attribute has as many cells as there
--- are rows for the variable
+-- the side is this attribute of this variable, the other side needs only variables before it, and the attribute has as
+-- many cells as there are rows for the variable
 pub record IsAttributeSide (M : Tables) (counts : List ℕ) (side other : TypeTerm) (found : ℕ × ℕ) : Type 0 where
   pub term : EntTerm
   pub side_is : side ≡ Att found.1 term
@@ -60,8 +63,8 @@ pub record IsAttributeSide (M : Tables) (counts : List ℕ) (side other : TypeTe
   pub before : reach_of other ≤ found.0
   pub column : length (slice_index_or M.sheet.cells found.1 []) ≡ slice_index counts found.0
 
--- the where equation joins a variable by one attribute to a term over variables before it, and for each value the rows are
--- listed at which it stands among the attribute's cells, of which there are as many as rows for the variable
+-- the where equation joins a variable by one attribute to a term over variables before it, and for each value the rows
+-- are listed at which it stands among the attribute's cells, of which there are as many as rows for the variable
 pub record IsCellIndex (M : Tables) (counts : List ℕ) (e : Equation) (index : TestIndex) : Type 0 where
   pub attribute : ℕ
   pub term : EntTerm
@@ -78,8 +81,8 @@ abbrev pub entity_sides : Bool → EntTerm → EntTerm → Equation
 entity_sides false t u = Ent t u
 entity_sides true t u = Ent u t
 
--- the where equation joins a path from a variable to a term over variables before it, and for each row the rows are listed from
--- which the path leads to it
+-- the where equation joins a path from a variable to a term over variables before it, and for each row the rows are
+-- listed from which the path leads to it
 pub record IsPathIndex (M : Tables) (counts : List ℕ) (e : Equation) (index : TestIndex) : Type 0 where
   pub term : EntTerm
   pub other : EntTerm
@@ -99,8 +102,10 @@ AreIndexes M counts tests indexes =
     (n : ℕ) (e : Equation) (index : TestIndex) → slice_get tests n ≡ Some e → slice_get indexes n ≡ Some (Some index)
     → IsIndex M counts e index
 
--- the rows are among those for the next variable, in order, and have all at which the where equations hold that it completes
-pub record IsCover (M : Tables) (tests : List Equation) (counts bound : List ℕ) (count : ℕ) (rows : List ℕ) : Type 0 where
+-- the rows are among those for the next variable, in order, and have all at which the where equations hold that it
+-- completes
+pub record IsCover (M : Tables) (tests : List Equation) (counts bound : List ℕ) (count : ℕ)
+    (rows : List ℕ) : Type 0 where
   pub same : filter (passes (stage (length counts)) (holds_at M) tests) (map (λ row. bound ++ row ∷ []) rows)
       ≡ filter (passes (stage (length counts)) (holds_at M) tests) (map (λ row. bound ++ row ∷ []) (below count))
   pub within : All (λ row. row < count) rows

@@ -1,5 +1,6 @@
 -- Answers that are found one variable at a time.
-use Rattle.std.specs.Prelude.{ℕ, Bool, not, List, [], ◌∷◌, ◌++◌, ◌≡◌, ◌≤◌, ◌+◌, ◌*◌, ◌==◌, ◌||◌, if◌then◌else◌, Some, map, filter, length}
+use Rattle.std.specs.Prelude.{ℕ, Bool, not, List, [], ◌∷◌, ◌++◌, ◌≡◌, ◌≤◌, ◌+◌, ◌*◌, ◌==◌, ◌||◌, if◌then◌else◌, Some}
+use Rattle.std.specs.Prelude.{map, filter, length}
 use Rattle.std.specs.Prelude.{slice_get}
 use Rattle.std.specs.List.{list_all, flat_map}
 use Rattle.cq_theory.specs.declared.presentation.Equation.{Equation}
@@ -20,17 +21,19 @@ module _ {E : Type 0} (stage_of : E → ℕ) (holds : List ℕ → E → Bool) (
   abbrev pub passes : List ℕ → Bool
   passes rows = passes_at (length rows) rows
 
-  -- the rows that are bound with rows for the other variables, of which these are the counts, where each test holds as soon as
-  -- its rows are bound
+  -- the rows that are bound with rows for the other variables, of which these are the counts, where each test holds as
+  -- soon as its rows are bound
   abbrev pub found : List ℕ → List ℕ → List (List ℕ)
   found [] bound = bound ∷ []
   found (count ∷ counts) bound = flat_map (found counts) (filter passes (map (λ row. bound ++ row ∷ []) (below count)))
 
--- what a search for answers starts from: the where equations, the places of those of each stage, and how many rows there are for
--- each variable
-pub record IsJoin (S : Schema) (M : Tables) (tests : List Equation) (groups : List (List ℕ)) (counts : List ℕ) : Type 0 where
+-- what a search for answers starts from: the where equations, the places of those of each stage, and how many rows
+-- there are for each variable
+pub record IsJoin (S : Schema) (M : Tables) (tests : List Equation) (groups : List (List ℕ))
+    (counts : List ℕ) : Type 0 where
   pub staged : groups ≡ map (positions (map (stage (length counts)) tests)) (below (length counts + 1))
-  pub typed : (rows : List ℕ) → IsTuple rows counts → (n : ℕ) (e : Equation) → slice_get tests n ≡ Some e → IsTestAt S M rows e
+  pub typed : (rows : List ℕ) → IsTuple rows counts → (n : ℕ) (e : Equation) → slice_get tests n ≡ Some e
+      → IsTestAt S M rows e
 
 -- no where equation is tested when more variables are bound than this
 abbrev pub IsLast : List Equation → List ℕ → ℕ → Type 0
@@ -55,5 +58,6 @@ module _ (M : Tables) (tests : List Equation) (counts : List ℕ) where
 -- at any rows for the variables of a block, the sides of its where equations are terms over them
 abbrev pub IsTested : Schema → Tables → Block → Type 0
 IsTested S M block =
-    (rows : List ℕ) → IsTuple rows (map (λ v. count_of M v.1) block.vars) → (n : ℕ) (e : Equation) → slice_get block.tests n ≡ Some e
+    (rows : List ℕ) → IsTuple rows (map (λ v. count_of M v.1) block.vars) → (n : ℕ) (e : Equation)
+    → slice_get block.tests n ≡ Some e
     → IsTestAt S M rows e

@@ -20,11 +20,14 @@ module _ (M : Tables) (tests : List Equation) (counts : List ℕ) (found : List 
   pub record IsKnownAt (bound : ℕ) (stretch : Stretch) : Type 0 where
     pub rises : stretch.start ≤ stretch.end
     pub within : stretch.end ≤ length found
-    pub same : (rows : List ℕ) → length rows ≡ bound → found_from M tests counts (drop bound counts) rows ≡ behind rows (between stretch found)
+    pub same : (rows : List ℕ) → length rows ≡ bound
+        → found_from M tests counts (drop bound counts) rows ≡ behind rows (between stretch found)
 
   -- what is noted is known, and where the search is in vain nothing is found
   pub record AreKnown (known : Known) : Type 0 where
     pub long : length known.borders ≡ length counts
     pub borders : (bound : ℕ) → slice_get known.borders bound ≡ Some true → IsBorder (length counts) tests bound
-    pub noted : (bound : ℕ) (stretch : Stretch) → slice_get known.noted.items bound ≡ Some (Some stretch) → IsKnownAt bound stretch
-    pub vain : (bound : ℕ) (rows : List ℕ) → bound < known.vain → length rows ≡ bound → found_from M tests counts (drop bound counts) rows ≡ []
+    pub noted : (bound : ℕ) (stretch : Stretch) → slice_get known.noted.items bound ≡ Some (Some stretch)
+        → IsKnownAt bound stretch
+    pub vain : (bound : ℕ) (rows : List ℕ) → bound < known.vain → length rows ≡ bound
+        → found_from M tests counts (drop bound counts) rows ≡ []

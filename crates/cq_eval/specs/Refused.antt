@@ -24,7 +24,8 @@ module _ (Q : Query) (M : Tables) where
     pub many : HasMany entity
     pub first : (earlier : ℕ) → earlier < entity → HasMany earlier → ⊥
 
-  -- no entity has, and the tables of eval have over 16,000,000 rows and nulls, or a value of over 1,024 symbols in a cell
+  -- no entity has, and the tables of eval have over 16,000,000 rows and nulls, or a value of over 1,024 symbols in a
+  -- cell
   pub record IsTooLarge : Type 0 where
     pub none : NoneHasMany
     pub tables : Tables

@@ -24,8 +24,10 @@ module _ (M : Tables) (rows : List ℕ) where
 
 -- the sides are terms over variables that stand for these rows
 abbrev pub IsTestAt : Schema → Tables → List ℕ → Equation → Type 0
-IsTestAt S M rows (Ent t u) = (entity : ℕ) × IsEntTermOf S M (map AtRow rows) t entity × IsEntTermOf S M (map AtRow rows) u entity
-IsTestAt S M rows (Typ t u) = (type : ℕ) × IsTypeTermOf S M (map AtRow rows) t type × IsTypeTermOf S M (map AtRow rows) u type
+IsTestAt S M rows (Ent t u) = (entity : ℕ) × IsEntTermOf S M (map AtRow rows) t entity
+    × IsEntTermOf S M (map AtRow rows) u entity
+IsTestAt S M rows (Typ t u) = (type : ℕ) × IsTypeTermOf S M (map AtRow rows) t type
+    × IsTypeTermOf S M (map AtRow rows) u type
 
 -- how many of the first variables a term needs
 abbrev pub reach_of_entity : EntTerm → ℕ

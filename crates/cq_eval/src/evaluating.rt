@@ -1,5 +1,5 @@
 //! The instance of all answers of a query.
-ghost use Rattle.std.specs.Prelude.{ℕ, ◌≡◌, ◌+◌, ◌<◌, ◌≤◌, All, false, IfOk, IfErr, length, map, nat_lt, sum};
+ghost use Rattle.std.specs.Prelude.{◌≡◌, ◌+◌, ◌<◌, ◌≤◌, All, false, IfOk, IfErr, length, map, nat_lt, sum};
 ghost use Rattle.cq_theory.specs.Canonical.{below};
 ghost use Rattle.cq_theory.specs.Tables.{Initial};
 ghost use Rattle.cq_instance.specs.Given.{HasLeastNames, given, is_oversized};

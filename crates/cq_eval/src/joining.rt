@@ -4,27 +4,26 @@ ghost use Rattle.std.specs.Prelude.{length, map, take, drop, slice_get, slice_in
 ghost use Rattle.std.specs.Prelude.{Some};
 ghost use Rattle.std.specs.List.{list_any};
 ghost use Rattle.cq_theory.specs.declared.presentation.Equation.{Equation};
-ghost use Rattle.cq_theory.specs.Tables.{AtRow, value_of};
-ghost use Rattle.cq_instance.specs.Terms.{IsTypeTermOf};
 ghost use Rattle.cq_query.specs.Answers.{IsTuple};
 ghost use Rattle.cq_eval.specs.Join.{IsJoin, IsLast, combinations, test_passes_at, found_from, found_by};
-ghost use Rattle.cq_eval.specs.Index.{AreIndexes, IsCover, rows_of_value, listed_rows};
+ghost use Rattle.cq_eval.specs.Index.{AreIndexes, IsCover};
 ghost use Rattle.cq_eval.specs.Border.{IsBorder};
 ghost use Rattle.cq_eval.specs.Known.{between, AreKnown};
 ghost use Rattle.cq_eval.specs.Made.{answers_with};
-ghost use Rattle.cq_eval.specs.Testing.{IsTestAt, holds_at};
+ghost use Rattle.cq_eval.specs.Testing.{holds_at};
 ghost use Rattle.cq_eval.specs.Refused.{TellsOver};
 
 use crate::choice::Choice;
 use crate::free::{MOST_ANSWERS, is_over};
 use crate::index::TestIndex;
 use crate::known::{Known, Stretch};
+use crate::listed::indexed;
 use crate::refusal::EvalRefusal;
 use crate::rows::Rows;
 use crate::testing::holds;
 use cq_base::Seq;
 use cq_instance::Instance;
-use cq_theory::{Equation, TypeTerm};
+use cq_theory::Equation;
 use std::alloc::{AllocError, Global};
 
 /// How many variables can be bound before the system's stack of 8 MiB would be too small.
@@ -56,50 +55,6 @@ impl Drop for Join<'_> {
             counts: _,
             indexes: _,
         } = self;
-    }
-}
-
-/// The rows that an index lists for the value of a term.
-fn cell_rows<'b>(
-    alloc: Global,
-    instance: &Instance,
-    choice: &Choice,
-    other: &TypeTerm,
-    index: &'b TestIndex,
-) -> Result<Option<&'b [u32]>, AllocError>
-    requires { (type : ℕ) × IsTypeTermOf instance.now.schema instance.now.tables (map AtRow choice.now) other.now type }
-    ensures { IfOk result (λ found. IfSome found (λ rows. rows.now
-        ≡ rows_of_value index.now.lists (value_of instance.now.tables (map AtRow choice.now) other.now))) }
-{
-    let value = instance.value_over(alloc, choice.standings(), other)?;
-    Ok(index.lists.for_value(&value))
-}
-
-/// The rows that an index lists for the other side of its where equation.
-fn indexed<'b>(
-    alloc: Global,
-    instance: &Instance,
-    choice: &Choice,
-    test: &Equation,
-    index: &'b TestIndex,
-) -> Result<Option<&'b [u32]>, AllocError>
-    requires test { IsTestAt instance.now.schema instance.now.tables choice.now test.now }
-    ensures { IfOk result (λ found. IfSome found (λ rows.
-        rows.now ≡ listed_rows instance.now.tables choice.now test.now index.now)) }
-{
-    let standings = choice.standings();
-    match test {
-        Equation::Ent(left, right) => {
-            let row = instance.row_over(standings, if index.turned { left } else { right });
-            Ok(index.lists.for_row(row))
-        }
-        Equation::Typ(left, right) => {
-            if index.turned {
-                cell_rows(alloc, instance, choice, left, index)
-            } else {
-                cell_rows(alloc, instance, choice, right, index)
-            }
-        }
     }
 }
 

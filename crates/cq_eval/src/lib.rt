@@ -5,12 +5,13 @@
 //! `order`, which tests it and numbers the equations by it); where it isn't their own, the answers are put back and
 //! sorted (`sorted`). When a where equation is tested follows from the greatest variable in it (`reaches`); those of
 //! one stage are listed together (`grouping`), so no binding goes over all, and variables that none is left of are
-//! counted before their rows are tried (`free`). Where no equation that is left reads what is bound (`borders`), what is
-//! found is the same behind any rows: it is searched once (`known`), and nothing more where there is none. A where equation that joins a new variable
-//! to earlier ones gives lists of rows (`index`), by an attribute (a `CellIndex`) or by a path of keys (a `KeyIndex`).
-//! The index of an attribute's cells, or of one foreign key, is made once a run and kept for further equations and
-//! entities (`kept`). Answers are kept in a set with places (`table`), by which the columns of keys are filled
-//! (`keys`); `cells` has the columns of attributes, `evaluating` the tables and limits.
+//! counted before their rows are tried (`free`). Where no equation that is left reads what is bound (`borders`), what
+//! is found is the same behind any rows: it is searched once (`known`), and nothing more where there is none. A where
+//! equation that joins a new variable to earlier ones gives lists of rows (`index`), by an attribute (a `CellIndex`) or
+//! by a path of keys (a `KeyIndex`), of which one is taken for the rows that are bound (`listed`). The index of an
+//! attribute's cells, or of one foreign key, is made once a run and kept for further equations and entities (`kept`).
+//! Answers are kept in a set with places (`table`), by which the columns of keys are filled (`keys`); `cells` has the
+//! columns of attributes, `evaluating` the tables and limits.
 #![tactic(auto)]
 
 pub mod answering;
@@ -25,6 +26,7 @@ mod joining;
 mod kept;
 mod keys;
 mod known;
+mod listed;
 mod order;
 mod plan;
 mod reaches;

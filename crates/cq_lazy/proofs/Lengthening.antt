@@ -13,18 +13,18 @@ use Rattle.cq_theory.specs.declared.schema.Edge.{Edge}
 use Rattle.cq_theory.specs.declared.term.EntTerm.{EntTerm}
 use Rattle.cq_theory.specs.declared.term.TypeTerm.{TypeTerm}
 use Rattle.cq_theory.specs.declared.term.TypeTerm.TheVariants as term
-use Rattle.cq_theory.specs.EntTerm.{alone, extended}
+use Rattle.cq_theory.specs.EntTerm.{alone}
 use Rattle.cq_theory.specs.Groups.{places, edge_sources}
-use Rattle.cq_theory.proofs.Every.{Every, Every-from_All, Every-at, Every-from, Every-append, Every-flat_map, Every-map, Every-weaker, from_enumerated}
+use Rattle.cq_theory.proofs.Every.{Every, Every-from_All, Every-at, Every-append, Every-flat_map, Every-map, Every-weaker, from_enumerated}
 use Rattle.cq_theory.proofs.TypeTerms.{fold-Gen, fold-Const, fold-Att, fold-Fun, Each, on_terms}
 use Rattle.cq_blocks.specs.declared.block.Block.{Block}
 use Rattle.cq_query.specs.QueryData.{QueryData as Query}
 use Rattle.cq_query.specs.Puts.{term_or_first, put, put_type, put_type_step, put_equation}
-use Rattle.cq_query.specs.Translation.{variables_at, tests_at, tests_in, terms_or_none, term_or_constant, found_terms, found_term, assigned, attribute_term, along}
+use Rattle.cq_query.specs.Translation.{variables_at, tests_at, tests_in, terms_or_none, term_or_constant, assigned, attribute_term, along}
 use Rattle.cq_query.specs.Duties.{equal_terms}
 use Rattle.cq_compose.specs.Composite.{width, first_of, components, components_of, term_components, translated, translated_step, translated_test, composite_tests, composite_block, composite}
 use Rattle.cq_lazy.specs.declared.lengths.Lengths.{Lengths}
-use Rattle.cq_lazy.specs.Lengths.{path_length, length_step, length_at, IsShortKey, IsShortAttribute, IsShortTest, IsShortBlock, AreLengths}
+use Rattle.cq_lazy.specs.Lengths.{length_step, length_at, IsShortKey, IsShortAttribute, IsShortTest, IsShortBlock, AreLengths}
 
 pub All-from_Every : {X : Type 0} (P : X → Type 0) (xs : List X) → Every P xs → All P xs
 All-from_Every P xs h k d within = Every-at P xs k (get_or xs k d) h (slice_get_read xs (length xs) k (get_or xs k d) refl within (there xs k d within))

@@ -11,7 +11,7 @@ use Rattle.cq_theory.specs.EntTerm as ent
 use Rattle.cq_theory.specs.TypeTerm as typ
 use Rattle.cq_theory.specs.TypeTerm.{symbols_step}
 use Rattle.cq_theory.specs.Presentation.{has_long_side}
-use Rattle.cq_theory.proofs.Every.{Every, Every-from_All, Every-at}
+use Rattle.cq_theory.proofs.Every.{Every, Every-from_All}
 use Rattle.cq_theory.proofs.TypeTerms.{fold-Gen, fold-Const, fold-Att, fold-Fun, Each, on_terms}
 use Rattle.cq_blocks.specs.declared.block.Block.{Block}
 use Rattle.cq_query.specs.QueryData.{QueryData as Query}

@@ -1,5 +1,5 @@
 -- What is known of a query that is made when it is used.
-use Rattle.std.specs.Prelude.{ℕ, List, ◌≡◌, ◌≤◌, Option, IfSome}
+use Rattle.std.specs.Prelude.{ℕ, List, ◌≡◌, Option, IfSome}
 use Rattle.cq_query.specs.IsQuery.{IsQuery}
 use Rattle.cq_lazy.specs.declared.lengths.Lengths.{Lengths}
 use Rattle.cq_lazy.specs.declared.plan.Plan.{Plan}

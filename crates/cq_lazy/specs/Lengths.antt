@@ -10,8 +10,8 @@ use Rattle.cq_blocks.specs.declared.block.Block.{Block}
 use Rattle.cq_query.specs.QueryData.{QueryData as Query}
 use Rattle.cq_lazy.specs.declared.lengths.Lengths.{Lengths}
 
--- The length of a term over a schema, where what stands for a foreign key follows `keys` keys, and what stands for an attribute has
--- `symbols` symbols, in which a variable occurs `leaves` times.
+-- The length of a term over a schema, where what stands for a foreign key follows `keys` keys, and what stands for an
+-- attribute has `symbols` symbols, in which a variable occurs `leaves` times.
 module _ (m : Lengths) where
   abbrev pub path_length : List ℕ → ℕ
   path_length path = m.keys * length path
@@ -35,8 +35,8 @@ abbrev pub IsShortTest : Lengths → ℕ → Equation → Type 0
 IsShortTest m most (Ent t u) = (path_length m t.path + 1 ≤ most) × (path_length m u.path + 1 ≤ most)
 IsShortTest m most (Typ t u) = (length_at m 0 t ≤ most) × (length_at m 0 u ≤ most)
 
--- With lengths m for its source, what a query has for its target's keys and attributes has lengths n, and no where equation is longer than
--- `most`.
+-- With lengths m for its source, what a query has for its target's keys and attributes has lengths n, and no where
+-- equation is longer than `most`.
 module _ (m n : Lengths) where
   abbrev pub IsShortKey : EntTerm → Type 0
   IsShortKey t = path_length m t.path ≤ n.keys

@@ -1,5 +1,5 @@
 //! The lengths of terms, where keys and attributes stand for terms of these lengths. What is over 1,024 isn't told.
-ghost use Rattle.std.specs.Prelude.{ℕ, ◌≡◌, ◌+◌, ◌*◌, ◌≤◌, IfSome, length};
+ghost use Rattle.std.specs.Prelude.{ℕ, ◌≡◌, ◌+◌, ◌*◌, ◌≤◌, IfSome};
 ghost use Rattle.cq_lazy.specs.Lengths.{path_length as length_of_path, length_at};
 
 use crate::lengths::Lengths;

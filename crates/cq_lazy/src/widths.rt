@@ -1,5 +1,5 @@
 //! How many variables the blocks of a query have, and those of a composite, without making it.
-ghost use Rattle.std.specs.Prelude.{ℕ, ◌≡◌, ◌+◌, IfOk, length, map, nat_lt};
+ghost use Rattle.std.specs.Prelude.{◌≡◌, ◌+◌, IfOk, length, map, nat_lt};
 ghost use Rattle.std.specs.List.{list_any};
 ghost use Rattle.cq_lazy.specs.Plan.{query_of};
 ghost use Rattle.cq_lazy.specs.Widths.{capped, weight_of, weighed, widths_of};

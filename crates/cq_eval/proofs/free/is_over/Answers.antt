@@ -1,4 +1,4 @@
-use Rattle.std.proofs.Common.{ℕ, ◌-◌, ◌^◌, ◌*◌, ◌<◌, drop, min, ap, ◌∙◌, arith}
+use Rattle.std.proofs.Common.{◌-◌, ◌^◌, ◌*◌, ◌<◌, drop, min, ap, ◌∙◌, arith}
 use Rattle.std.proofs.lemmas.Bool.{ltb-true}
 use Rattle.cq_eval.specs.Join.{combinations}
 use Rattle.cq_eval.proofs.Untested.{step_more, over}

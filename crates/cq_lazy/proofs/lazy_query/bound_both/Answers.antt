@@ -1,4 +1,4 @@
-use Rattle.std.proofs.Common.{◌≡◌, sym, ap, ◌∙◌}
+use Rattle.std.proofs.Common.{◌≡◌, ap, ◌∙◌}
 use Rattle.cq_query.specs.QueryData.{QueryData as Query}
 use Rattle.cq_compose.specs.Composite.{composite}
 use Rattle.cq_lazy.specs.declared.lengths.Lengths.{Lengths}

@@ -3,7 +3,6 @@ use Rattle.cq_query.specs.QueryData.{QueryData as Query}
 use Rattle.cq_query.specs.IsQuery.{IsQuery}
 use Rattle.cq_compose.specs.Composite.{composite, is_large}
 use Rattle.cq_compose.proofs.Composed.{composite_is_query}
-use Rattle.cq_lazy.specs.declared.plan.Plan.{Plan}
 use Rattle.cq_lazy.specs.Plan.{IsPlan, query_of}
 use Rattle.cq_lazy.specs.Lengths.{AreLengths, plain}
 use Rattle.cq_lazy.specs.Widths.{widths_of}

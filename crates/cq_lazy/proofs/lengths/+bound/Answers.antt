@@ -1,6 +1,5 @@
 use Rattle.std.proofs.Common.{◌≡◌, sym, ap, ◌∙◌}
 use Rattle.cq_query.specs.QueryData.{QueryData as Query}
-use Rattle.cq_lazy.specs.declared.plan.Plan.{Plan}
 use Rattle.cq_lazy.specs.Plan.{query_of}
 use Rattle.cq_compose.specs.Composite.{composite}
 use Rattle.cq_lazy.proofs.Lengthening.{bounded_twice}

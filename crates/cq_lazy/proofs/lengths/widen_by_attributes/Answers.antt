@@ -1,5 +1,4 @@
 use Rattle.std.proofs.Common.{subst}
-use Rattle.std.specs.Prelude.{All}
 use Rattle.cq_lazy.specs.declared.lengths.Lengths.{Lengths}
 use Rattle.cq_lazy.specs.Lengths.{IsShortAttribute}
 use Rattle.cq_lazy.proofs.Widening.{attribute_wider, wider_none, wider_more, wider_all}

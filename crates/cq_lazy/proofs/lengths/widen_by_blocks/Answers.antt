@@ -1,5 +1,4 @@
 use Rattle.std.proofs.Common.{subst}
-use Rattle.std.specs.Prelude.{All}
 use Rattle.cq_lazy.specs.declared.lengths.Lengths.{Lengths}
 use Rattle.cq_lazy.specs.Lengths.{IsShortBlock}
 use Rattle.cq_lazy.proofs.Widening.{block_wider, wider_none, wider_more, wider_all}

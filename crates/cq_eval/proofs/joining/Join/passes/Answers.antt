@@ -1,4 +1,3 @@
-use Rattle.std.proofs.Common.{ℕ, List}
 use Rattle.cq_eval.proofs.Staged.{met_more, all_met, one_not, place_within}
 use Rattle.cq_eval.proofs.joining.Join.passes.Goals as goal
 

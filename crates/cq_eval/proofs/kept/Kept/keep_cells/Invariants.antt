@@ -1,4 +1,4 @@
-use Rattle.std.proofs.Common.{◌≤◌, All, length}
+use Rattle.std.proofs.Common.{◌≤◌, length}
 use Rattle.cq_theory.specs.Tables.{Tables}
 use Rattle.cq_eval.specs.Kept.{AreKept}
 use Rattle.cq_eval.proofs.kept.Kept.keep_cells.Given as goal

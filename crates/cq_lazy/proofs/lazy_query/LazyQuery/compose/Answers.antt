@@ -3,7 +3,7 @@ use Rattle.std.specs.List.{list_any}
 use Rattle.cq_query.specs.QueryData.{QueryData as Query}
 use Rattle.cq_query.specs.IsQuery.{IsQuery}
 use Rattle.cq_query.specs.Duties.{Sound}
-use Rattle.cq_compose.specs.Composite.{composite, is_large}
+use Rattle.cq_compose.specs.Composite.{composite}
 use Rattle.cq_compose.proofs.MadeBlocks.{if_ok}
 use Rattle.cq_compose.proofs.SoundComposites.{composite_sound}
 use Rattle.cq_lazy.specs.Plan.{query_of}
