@@ -98,7 +98,7 @@ impl Gluing {
 
     /// The presentation, whose generators are named `g1`, `g2` and so on. `TooLarge` is answered exactly where a side
     /// of an equation has over 1,024 symbols, and `Memory` for want of memory.
-    fn into_presentation(self, alloc: Global) -> Result<Presentation, SizeRefusal>
+    pub(crate) fn into_presentation(self, alloc: Global) -> Result<Presentation, SizeRefusal>
         requires { length self.sorts.items ≤ 16000000 }
         ensures accepted { IfOk result (λ _. is_oversized (presented self.sorts.items self.equations.items) ≡ false) }
         ensures made { IfOk result (λ made. made ≡ presented self.sorts.items self.equations.items) }

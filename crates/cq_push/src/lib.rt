@@ -2,7 +2,8 @@
 //!
 //! Presentations are glued part by part (`gluing`). A `Gluing` holds the sorts of the generators so far and the
 //! equations, and each further presentation is appended with its generators behind those (`shifting`). Coproducts and
-//! pushouts end in one call, which tests the limit on terms, names the generators and builds.
+//! pushouts end in one call, which tests the limit on terms, names the generators and builds; the presentation of a pushout
+//! is also made alone.
 #![tactic(auto)]
 
 pub mod coproducts;
@@ -13,4 +14,4 @@ pub mod pushouts;
 mod shifting;
 
 pub use coproducts::coproduct;
-pub use pushouts::pushout;
+pub use pushouts::{pushout, pushout_presentation};

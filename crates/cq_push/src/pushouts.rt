@@ -1,5 +1,5 @@
 //! Pushouts.
-ghost use Rattle.std.specs.Prelude.{◌≡◌, ◌≤◌, ◌<◌, ◌+◌, ◌++◌, ◌⊎◌, ◌∷◌, [], IfOk, IfErr, OnOk, Err, length};
+ghost use Rattle.std.specs.Prelude.{◌≡◌, ◌≤◌, ◌<◌, ◌+◌, ◌++◌, ◌⊎◌, ◌∷◌, [], IfOk, IfErr, OnOk, Err, length, true};
 ghost use Rattle.cq_rows.specs.Saturated.{NoneCloses, SomeWide};
 ghost use Rattle.cq_theory.specs.declared.constant.Con.{Con as AnyCon};
 ghost use Rattle.cq_theory.specs.declared.constant.Con.TheVariants.{Named};
@@ -71,6 +71,35 @@ pub fn pushout(
     };
     let schema = start.schema().clone()?;
     gluing.build(alloc, schema, depth)
+}
+
+/// The presentation of which `pushout` makes the model: those of two instances, `left` and `right`, side by side, with one
+/// equation for each generator of the instance from which a transform goes to either. `TooLarge` is answered exactly
+/// where it would have over 16,000,000 generators or a term of over 1,024 symbols, and `Memory` for want of memory.
+pub fn pushout_presentation(
+    alloc: Global,
+    first: &Transform,
+    second: &Transform,
+    left: &Instance,
+    right: &Instance,
+) -> Result<Presentation, SizeRefusal>
+    requires { length first.now.images ≡ length second.now.images }
+    ensures made { IfOk result (λ made.
+        made ≡ pushout_of first.now second.now left.now.presentation right.now.presentation) }
+    ensures refused { IfErr result (λ refusal. (refusal ≡ SizeRefusal.Memory)
+        ⊎ ((refusal ≡ SizeRefusal.TooLarge)
+        × (is_oversized (pushout_of first.now second.now left.now.presentation right.now.presentation) ≡ true))) }
+{
+    match glue(
+        alloc,
+        first.images.as_slice(),
+        second.images.as_slice(),
+        left.presentation(),
+        right.presentation(),
+    ) {
+        Ok(gluing) => gluing.into_presentation(alloc),
+        Err(refusal) => Err(refusal),
+    }
 }
 
 /// Two presentations beside one another, where each image on the left equals its fellow on the right. `TooLarge` is
