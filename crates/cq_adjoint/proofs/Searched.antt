@@ -28,6 +28,12 @@ module _ {X : Type 0} (f : X → List ℕ) (xs : List X) (rows : List ℕ) where
       let at : slice_get (map f xs) i ≡ Some rows = get-map f xs i there.0 there.1 ∙ ap (λ l. Some l) same in
       once i (place_of (map f xs) rows) rows at (place_found (map f xs) i rows at)
 
+  -- where these rows stand, that is the place
+  pub known_at : (i : ℕ) (x : X) → slice_get xs i ≡ Some x → f x ≡ rows → StandOnce (map f xs) → i ≡ place_of (map f xs) rows
+  known_at i x at same once =
+      let there : slice_get (map f xs) i ≡ Some rows = get-map f xs i x at ∙ ap (λ l. Some l) same in
+      once i (place_of (map f xs) rows) rows there (place_found (map f xs) i rows there)
+
   falls_nowhere : DoRise (map f xs) → IsNonDecreasingBy (λ x. ordering_index (slice_cmp nat_cmp (f x) rows)) xs
   falls_nowhere rises i j d less within =
       let lower : get_or (map f xs) i (f d) ≡ f (get_or xs i d) = get_or-map f xs i d (f d) (omega (arith, less, within)) in

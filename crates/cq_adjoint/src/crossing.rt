@@ -118,13 +118,15 @@ fn first_copy(crossing: &Crossing, entity: u32, row: u32) -> u32
     copy_at(query, crossing.starts, entity, row)
 }
 
-/// The generator of the answer that has these rows, in an instance of the answers at these places.
+/// The generator of the answer that has these rows, in an instance of the answers at these places, of which `near` is
+/// tried first.
 pub(crate) fn answer_term(
     alloc: Global,
     evaluated: &Instance,
     places: &[Places<'_>],
     entity: u32,
     rows: Vec<u32>,
+    near: u32,
 ) -> Result<EntTerm, AllocError>
     requires entity { entity < length places.now }
     requires few { length (answers_at places.now entity) < 2 ^ 32 }
@@ -135,7 +137,7 @@ pub(crate) fn answer_term(
 {
     evaluated.is_instance();
     let answers = places_at(places, entity);
-    let place = answers.place_of(&rows);
+    let place = answers.place_of(&rows, near);
     copy_entity_term(alloc, evaluated.name_of(entity, place))
 }
 
@@ -157,7 +159,7 @@ fn row_image(alloc: Global, crossing: &Crossing, entity: u32, row: u32) -> Resul
     evaluated.is_instance();
     let first = first_copy(crossing, entity, row);
     let rows = sent_rows(alloc, crossing, entity, first)?;
-    let name = answer_term(alloc, evaluated, crossing.places, entity, rows)?;
+    let name = answer_term(alloc, evaluated, crossing.places, entity, rows, row)?;
     Ok(Image::Row(name))
 }
 

@@ -131,7 +131,7 @@ fn answer_image(
     there.is_instance();
     let answers = places_at(evaluating.from, entity);
     let rows = sent_answer(alloc, evaluating, entity, answers.at(row))?;
-    let name = answer_term(alloc, there, evaluating.places, entity, rows)?;
+    let name = answer_term(alloc, there, evaluating.places, entity, rows, row)?;
     Ok(Image::Row(name))
 }
 

@@ -1,5 +1,5 @@
 //! The places of answers.
-ghost use Rattle.std.specs.Prelude.{◌≡◌, ◌<◌, ◌^◌, [], All, IfOk, Some, length, map, slice_get, slice_index_or};
+ghost use Rattle.std.specs.Prelude.{◌≡◌, ◌<◌, ◌^◌, [], true, All, IfOk, Some, length, map, slice_get, slice_index_or};
 ghost use Rattle.cq_adjoint.specs.Copies.{place_of as place_among, AreInOrder};
 
 use std::alloc::{AllocError, Global};
@@ -39,11 +39,25 @@ impl<'a> Places<'a> {
         self.answers[place as usize].as_slice()
     }
 
-    /// The place of an answer, and 0 of a list that is none.
-    pub(crate) fn place_of(&self, rows: &Vec<u32>) -> u32
+    /// Whether the answer at a place has these rows.
+    fn stands_at(&self, place: u32, rows: &[u32]) -> bool
+        ensures { result ≡ true → place ≡ place_among self.now rows.now }
+    {
+        match self.answers.get(place as usize) {
+            Some(answer) => answer.as_slice() == rows,
+            None => false,
+        }
+    }
+
+    /// The place of an answer, and 0 of a list that is none. Since much keeps its place where it moves, `near` is tried
+    /// before the others are searched.
+    pub(crate) fn place_of(&self, rows: &Vec<u32>, near: u32) -> u32
         requires { length self.now < 2 ^ 32 }
         ensures { result ≡ place_among self.now rows.now.items }
     {
+        if self.stands_at(near, rows.as_slice()) {
+            return near;
+        }
         match self.answers.binary_search(rows) {
             Ok(place) => place as u32,
             Err(_) => 0,

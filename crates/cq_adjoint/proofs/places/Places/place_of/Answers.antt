@@ -3,6 +3,9 @@ use Rattle.cq_adjoint.specs.Copies.{place_of}
 use Rattle.cq_adjoint.proofs.Searched.{found_at, found_nowhere}
 use Rattle.cq_adjoint.proofs.places.Places.place_of.Goals as goal
 
+pub returns-then-stands_at : goal.returns-then-stands_at
+returns-then-stands_at c = c.stands_at.ensures c.if-stands_at.true ∙ ap (place_of c.args.self.now) c.as_slice.ensures.value
+
 pub returns-in-Ok : goal.returns-in-Ok
 returns-in-Ok c =
     let f : Vec ℕ Global → List ℕ = λ rows. rows.items in
