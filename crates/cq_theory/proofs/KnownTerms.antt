@@ -140,6 +140,20 @@ module _ (S : Schema) (names : List Name) (sorts : List Sort) where
   of_one_sort (Some a) None h = cc
   of_one_sort (Some a) (Some b) h = (a, b, refl, refl)
 
+  pub equation_fault-unsorted : (e : Raw × Raw) → are_of_one_sort (raw_sort S names sorts e.0) (raw_sort S names sorts e.1) ≡ false
+      → equation_fault S names sorts e
+      ≡ Some (if has_unknown S names e.0 || has_unknown S names e.1 then Unknown else (if has_wrong_count S e.0 || has_wrong_count S e.1 then WrongCount else WrongSort))
+  equation_fault-unsorted e h =
+      at_tests (has_unknown S names e.0 || has_unknown S names e.1) (has_wrong_count S e.0 || has_wrong_count S e.1)
+      (are_of_one_sort (raw_sort S names sorts e.0) (raw_sort S names sorts e.1)) _ h
+    where
+      at_tests : (u w n : Bool) (other : Option TermRefusal) → n ≡ false
+          → (if u then Some Unknown else (if w then Some WrongCount else (if not n then Some WrongSort else other)))
+          ≡ Some (if u then Unknown else (if w then WrongCount else WrongSort))
+      at_tests true w n other h' = refl
+      at_tests false true n other h' = refl
+      at_tests false false n other h' = ap (λ t. if not t then Some WrongSort else other) h'
+
   pub equation_fault-sorted : (e : Raw × Raw) → are_of_one_sort (raw_sort S names sorts e.0) (raw_sort S names sorts e.1) ≡ true
       → (if has_reserved S e.0 || has_reserved S e.1 then Some Reserved else (if is_too_large e.0 || is_too_large e.1 then Some TooLarge else None))
       ≡ equation_fault S names sorts e

@@ -39,3 +39,4 @@ pub mod Depths
 pub mod Finite
 pub mod Grouped
 pub mod Beginning
+pub mod TypedTerms

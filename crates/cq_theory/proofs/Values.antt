@@ -59,3 +59,8 @@ after_commas_more f vs i d within =
     ∙ ap after_commas (map-append f (take i vs) (get_or vs i d ∷ []))
     ∙ after_commas-append (map f (take i vs)) (f (get_or vs i d) ∷ [])
     ∙ ap (λ l. after_commas (map f (take i vs)) ++ l) (append-nil (codes ", " ++ f (get_or vs i d)))
+
+-- a list after four appends
+pub four_pieces : (start a b c d one two three four : List ℕ) → one ≡ start ++ a → two ≡ one ++ b → three ≡ two ++ c → four ≡ three ++ d → four ≡ start ++ (a ++ b ++ c ++ d)
+four_pieces start a b c d one two three four h i j k =
+    k ∙ ap (λ l. l ++ d) (j ∙ ap (λ l. l ++ c) (i ∙ ap (λ l. l ++ b) h ∙ append_assoc start a b) ∙ append_assoc start (a ++ b) c) ∙ append_assoc start (a ++ b ++ c) d

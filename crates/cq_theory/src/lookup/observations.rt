@@ -1,6 +1,8 @@
 //! The observation equations of a schema's parts.
 ghost use Rattle.std.specs.Prelude.{◌≡◌, ◌+◌, ◌<◌, ◌^◌, ◌⊎◌, ◌∷◌, [], IfOk, IfErr, Some, None, length, map, option_map};
+ghost use Rattle.cq_theory.specs.Declaring.{number_or_zero};
 ghost use Rattle.cq_theory.specs.Resolve.{or_else, first_fault, in_part};
+ghost use Rattle.cq_theory.specs.Resolved.{resolved, type_term_in};
 ghost use Rattle.cq_theory.specs.SchemaParts.{source_of as entity_from, is_variable as variable_itself};
 ghost use Rattle.cq_theory.specs.SchemaParts.{is_variable_alone as variable_alone, source_at, first_found};
 ghost use Rattle.cq_theory.specs.SchemaParts.{applied_source, variable_entity as entity_of_variable};
@@ -17,6 +19,7 @@ use crate::lookup::{Symbol, TermRefusal, TheoryRefusal};
 use crate::parts::ObsPart;
 use crate::presentation::Sort;
 use crate::schema::{ObsEq, Schema};
+use crate::term::TypeTerm;
 use cq_base::{Name, Names, Raw};
 use std::alloc::{AllocError, Global};
 
@@ -184,6 +187,31 @@ fn fault_over(schema: &Schema, names: &Names, part: &ObsPart) -> Option<TermRefu
     None
 }
 
+fn entity_or_first(entity: Option<u32>) -> u32
+    ensures { result ≡ number_or_zero entity }
+{
+    match entity {
+        Some(entity) => entity,
+        None => 0,
+    }
+}
+
+/// The side, over a variable of this entity.
+fn build_side(
+    alloc: Global,
+    schema: &Schema,
+    names: &Names,
+    entity: u32,
+    side: &Raw,
+) -> Result<TypeTerm, AllocError>
+    ensures { IfOk result (λ made. made ≡ type_term_in (resolved schema.now names.now (Sort.Entity entity ∷ [])
+        side.now)) }
+{
+    let sorts = [Sort::Entity(entity)];
+    let term = build(alloc, schema, names, &sorts, side)?;
+    Ok(type_term(term))
+}
+
 /// The observation equation, whose variable's entity is there where it breaks no rule.
 fn build_over(
     alloc: Global,
@@ -193,17 +221,13 @@ fn build_over(
 ) -> Result<ObsEq, AllocError>
     ensures { IfOk result (λ made. made ≡ made_observation_over schema.now names.now part.now) }
 {
-    let entity = match variable_entity(schema, part) {
-        Some(entity) => entity,
-        None => 0,
-    };
-    let sorts = [Sort::Entity(entity)];
-    let left = build(alloc, schema, names, &sorts, &part.left)?;
-    let right = build(alloc, schema, names, &sorts, &part.right)?;
+    let entity = entity_or_first(variable_entity(schema, part));
+    let left = build_side(alloc, schema, names, entity, &part.left)?;
+    let right = build_side(alloc, schema, names, entity, &part.right)?;
     Ok(ObsEq {
         entity,
-        left: type_term(left),
-        right: type_term(right),
+        left,
+        right,
     })
 }
 

@@ -5,9 +5,10 @@ ghost use Rattle.cq_theory.specs.EntTerm.{extended};
 ghost use Rattle.cq_theory.specs.declared.constant.Con.TheVariants.{Named};
 ghost use Rattle.cq_theory.specs.Sorts.{followed};
 ghost use Rattle.cq_theory.specs.Resolve.{constant_of, constant_sort, text_constant, text_sort, word_constant};
-ghost use Rattle.cq_theory.specs.Resolve.{word_sort, symbol_of, symbol_sort, raw_sort, are_plain_of, entity_in, only};
-ghost use Rattle.cq_theory.specs.Resolved.{resolved, type_term_in, first_entity_term, constant_term, word_term};
-ghost use Rattle.cq_theory.specs.Resolved.{symbol_term};
+ghost use Rattle.cq_theory.specs.Resolve.{word_sort, symbol_of, symbol_sort, raw_sort, are_plain_of, is_plain_of};
+ghost use Rattle.cq_theory.specs.Resolve.{entity_in, only};
+ghost use Rattle.cq_theory.specs.Resolved.{resolved, type_term_in, entity_term_in, first_entity_term};
+ghost use Rattle.cq_theory.specs.Resolved.{constant_term, word_term, symbol_term};
 
 use crate::constant::Con;
 use crate::lookup::Symbol;
@@ -127,6 +128,37 @@ fn typed_attribute(
     }
 }
 
+/// The term of an entity, with the entity.
+fn of_entity(made: Option<(Term, Sort)>) -> Option<(EntTerm, u32)>
+    ensures { result ≡ option_and_then (λ m. option_map (λ entity. (entity_term_in m.0, entity))
+        (entity_in (Some m.1))) made }
+{
+    match made {
+        Some((term, sort)) => match entity_of_sort(Some(sort)) {
+            Some(entity) => Some((entity_term(term), entity)),
+            None => None,
+        },
+        None => None,
+    }
+}
+
+/// The term, where it is of this type.
+fn of_type(made: Option<(Term, Sort)>, kind: u32) -> Option<TypeTerm>
+    ensures { result ≡ option_and_then (λ m. (if is_plain_of (Some m.1) kind then Some (type_term_in m.0)
+        else None)) made }
+{
+    match made {
+        Some((term, sort)) => {
+            if is_plain_sort(Some(sort), kind) {
+                Some(type_term(term))
+            } else {
+                None
+            }
+        }
+        None => None,
+    }
+}
+
 /// The term with its sort, where its names, counts and sorts are right.
 #[cycle(typed)]
 pub(crate) fn typed_term(
@@ -203,13 +235,8 @@ fn typed_only(
         (entity_in (only (map (raw_sort schema.now names.now sorts.now) args.now)))) }
 {
     let [arg] = args else { return Ok(None) };
-    let Some((term, sort)) = typed_term(alloc, schema, names, sorts, arg)? else {
-        return Ok(None);
-    };
-    match entity_of_sort(Some(sort)) {
-        Some(entity) => Ok(Some((entity_term(term), entity))),
-        None => Ok(None),
-    }
+    let made = typed_term(alloc, schema, names, sorts, arg)?;
+    Ok(of_entity(made))
 }
 
 /// The arguments, where they have these types.
@@ -231,13 +258,11 @@ fn typed_args(
     }
     let mut terms = Vec::with_capacity(alloc, args.len())?;
     for (i, arg) in args.iter().enumerate() {
-        let Some((term, sort)) = typed_term(alloc, schema, names, sorts, arg)? else {
+        let made = typed_term(alloc, schema, names, sorts, arg)?;
+        let Some(term) = of_type(made, types[i]) else {
             return Ok(None);
         };
-        if !is_plain_sort(Some(sort), types[i]) {
-            return Ok(None);
-        }
-        terms.push(type_term(term))?;
+        terms.push(term)?;
     }
     Ok(Some(Seq::from_vec(terms)))
 }
