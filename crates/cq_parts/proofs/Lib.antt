@@ -1,2 +1,3 @@
+mod Appended
 pub mod Counts
 pub mod QueryCounts

@@ -167,9 +167,17 @@ fn push_assigns(
     ensures { OnOk result (parts.new.items ≡ parts.old.items ++ map (assign_clause block key.now) binds.now) }
 {
     for bind in binds {
-        let raw = copy_raw(alloc, &bind.term.raw)?;
-        let assign = Clause::Assign(key.clone()?, bind.name.clone()?, raw);
-        parts.push((block, assign))?;
+        parts.push((block, assignment(alloc, key, bind)?))?;
     }
     Ok(())
+}
+
+/// The clause of a term that a foreign key assigns.
+fn assignment(alloc: Global, key: &Name, bind: &Bind) -> Result<Clause, AllocError>
+    ensures { IfOk result (λ clause. clause ≡ Clause.Assign key.now bind.now.name bind.now.term.raw) }
+{
+    let key = key.clone()?;
+    let name = bind.name.clone()?;
+    let raw = copy_raw(alloc, &bind.term.raw)?;
+    Ok(Clause::Assign(key, name, raw))
 }

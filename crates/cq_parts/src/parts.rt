@@ -307,12 +307,10 @@ impl Holds<AttImage> for Name {
     ghost part_for = { attribute_part };
 
     fn held_part(&self, alloc: Global, image: &AttImage) -> Result<ArrowPart, AllocError> {
-        let sent = attribute_image(alloc, &image.image)?;
-        Ok(ArrowPart {
-            block: self.clone()?,
-            name: image.name.clone()?,
-            image: sent,
-        })
+        let block = self.clone()?;
+        let name = image.name.clone()?;
+        let image = attribute_image(alloc, &image.image)?;
+        Ok(ArrowPart { block, name, image })
     }
 }
 
