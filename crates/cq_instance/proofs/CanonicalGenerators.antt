@@ -15,6 +15,7 @@ use Rattle.cq_theory.specs.Tables.{Tables, Meaning, AtRow, AtValue, Assignment, 
 use Rattle.cq_theory.specs.Canonical.{below, named, row_generator, null_generator, row_term, row_sorts, canonical, canonical_assignment}
 use Rattle.cq_theory.proofs.Every.{at_range}
 use Rattle.cq_instance.proofs.Lists.{get-append, get-append_front, get-map, get-map_from}
+use Rattle.cq_instance.proofs.TypedTerms.{entity_at_some, type_at_some}
 use Rattle.cq_instance.proofs.CanonicalPlaces.{split, get-behind, get-replicate, from_replicate, get-enumerated, HaveSizes, placed, size_of_blocks, from_placed}
 
 abbrev numbered : ℕ × Sort → Name × Sort
@@ -38,22 +39,6 @@ sort_from n (Some sort) g h = let same : named_sort n sort ≡ g = cc in ap (λ 
 type_from : (n : ℕ) (o : Option ℕ) → type_at (option_map (named_sort n) (option_map Plain o)) ≡ o
 type_from n None = refl
 type_from n (Some type) = refl
-
-entity_at_some : (o : Option (Name × Sort)) (e : ℕ) → entity_at o ≡ Some e → (g : Name × Sort) × (o ≡ Some g) × (g.1 ≡ Entity e)
-entity_at_some None e h = cc
-entity_at_some (Some g) e h = (g, refl, go g.1 h)
-  where
-    go : (sort : Sort) → entity_at (Some (g.0, sort)) ≡ Some e → sort ≡ Entity e
-    go (Plain n) h = cc
-    go (Entity n) h = let same : n ≡ e = cc in ap Entity same
-
-type_at_some : (o : Option (Name × Sort)) (n : ℕ) → type_at o ≡ Some n → (g : Name × Sort) × (o ≡ Some g) × (g.1 ≡ Plain n)
-type_at_some None n h = cc
-type_at_some (Some g) n h = (g, refl, go g.1 h)
-  where
-    go : (sort : Sort) → type_at (Some (g.0, sort)) ≡ Some n → sort ≡ Plain n
-    go (Plain m) h = let same : m ≡ n = cc in ap Plain same
-    go (Entity m) h = cc
 
 module _ (S : Schema) (M : Tables) (same : length M.sheet.counts ≡ length S.entities) where
   abbrev counts : List ℕ

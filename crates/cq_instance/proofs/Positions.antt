@@ -1,11 +1,12 @@
 -- Lists of the places at which numbers stand.
-use Rattle.std.proofs.Common.{ℕ, suc, true, false, List, [], ◌∷◌, ◌++◌, ◌≡◌, ◌≢◌, ◌<◌, ◌+◌, ◌==◌, if◌then◌else◌, inl, inr, map, take, length, get_or, slice_set, refl, sym, ap, ◌∙◌, arith, eq-eqb}
-use Rattle.std.proofs.lemmas.Bool.{cases_eq, ne_eqb}
-use Rattle.std.proofs.lemmas.List.{append-nil, get_or-set_same, get_or-set_other, length-set, take_more, length-take-le}
-use Rattle.std.proofs.lemmas.List.FromFn.{fill_by_all, length-map-range_with_len, get_or-map-range_with_len}
+use Rattle.std.proofs.Common.{ℕ, true, false, List, [], ◌∷◌, ◌++◌, ◌≡◌, ◌<◌, ◌+◌, ◌==◌, if◌then◌else◌, map, take, length, get_or, slice_set, refl, sym, ap, ◌∙◌, arith, eq-eqb}
+use Rattle.std.proofs.lemmas.Bool.{ne_eqb}
+use Rattle.std.proofs.lemmas.List.{append-nil, take_more, length-take-le}
+use Rattle.std.proofs.lemmas.List.FromFn.{length-map-range_with_len, get_or-map-range_with_len}
 use Rattle.std.specs.Prelude.{Result, Ok, Err, IfOk}
 use Rattle.cq_theory.specs.Canonical.{below}
 use Rattle.cq_theory.specs.Groups.{positions_from, positions}
+pub use Rattle.cq_theory.proofs.Grouped.{set-map_below, positions-append}
 
 -- lists for numbers below as many as there are
 pub own_length : {X : Type 0} (f : ℕ → X) (n : ℕ) (lists : List X) → lists ≡ map f (below n) → lists ≡ map f (below (length lists))
@@ -21,40 +22,6 @@ module _ (x : ℕ) (xs : List ℕ) (e : ℕ) where
 
   pub positions_other : (x == e) ≡ false → (s : ℕ) → positions_from s (x ∷ xs) e ≡ positions_from (s + 1) xs e
   positions_other h s = ap (λ b. if b then s ∷ positions_from (s + 1) xs e else positions_from (s + 1) xs e) h
-
-positions_from-append : (s : ℕ) (xs : List ℕ) (x e : ℕ) → positions_from s (xs ++ x ∷ []) e ≡ positions_from s xs e ++ (if x == e then (s + length xs) ∷ [] else [])
-positions_from-append s [] x e =
-    let here : s ≡ s + 0 = omega arith in
-    ap (λ m. if x == e then m ∷ [] else []) here
-positions_from-append s (y ∷ ys) x e =
-    let there : s + 1 + length ys ≡ s + suc (length ys) = omega arith in
-    let rest : positions_from (s + 1) (ys ++ x ∷ []) e ≡ positions_from (s + 1) ys e ++ (if x == e then (s + suc (length ys)) ∷ [] else []) =
-    positions_from-append (s + 1) ys x e ∙ ap (λ m. positions_from (s + 1) ys e ++ (if x == e then m ∷ [] else [])) there in
-    elim (cases_eq y e) [
-      | inl same ↦
-          let alike : (y == e) ≡ true = eq-eqb y e same in
-          positions_same y (ys ++ x ∷ []) e alike s ∙ ap (λ l. s ∷ l) rest ∙ ap (λ l. l ++ (if x == e then (s + suc (length ys)) ∷ [] else [])) (sym (positions_same y ys e alike s))
-      | inr other ↦
-          let unlike : (y == e) ≡ false = ne_eqb y e other in
-          positions_other y (ys ++ x ∷ []) e unlike s ∙ rest ∙ ap (λ l. l ++ (if x == e then (s + suc (length ys)) ∷ [] else [])) (sym (positions_other y ys e unlike s))
-    ]
-
--- one more member
-pub positions-append : (xs : List ℕ) (x e : ℕ) → positions (xs ++ x ∷ []) e ≡ positions xs e ++ (if x == e then length xs ∷ [] else [])
-positions-append xs x e =
-    let here : 0 + length xs ≡ length xs = omega arith in
-    positions_from-append 0 xs x e ∙ ap (λ m. positions xs e ++ (if x == e then m ∷ [] else [])) here
-
--- a write at one number turns what f gives below n into what g gives
-pub set-map_below : {X : Type 0} (f g : ℕ → X) (n i : ℕ) (x : X) → i < n → x ≡ g i → ((k : ℕ) → k ≢ i → f k ≡ g k) → slice_set (map f (below n)) i x ≡ map g (below n)
-set-map_below f g n i x within here others =
-    let size : length (map f (below n)) ≡ n = length-map-range_with_len f 0 n in
-    fill_by_all g (slice_set (map f (below n)) i x) n x (length-set (map f (below n)) i x ∙ size) (λ k below_n. elim (cases_eq k i) [
-      | inl same ↦
-          let inside : i < length (map f (below n)) = omega arith in
-          ap (λ m. get_or (slice_set (map f (below n)) i x) m x) same ∙ get_or-set_same (map f (below n)) i x x inside ∙ here ∙ ap g (sym same)
-      | inr other ↦ get_or-set_other (map f (below n)) i k x x other ∙ get_or-map-range_with_len f 0 n k k x below_n (omega arith) ∙ others k other
-    ])
 
 -- a number is put at the end of its group
 pub grouped_more : (count n member : ℕ) (members : List ℕ) (groups : List (List ℕ)) (group : List ℕ) → groups ≡ map (positions (take n members)) (below count) → n < length members

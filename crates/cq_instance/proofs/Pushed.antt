@@ -1,8 +1,8 @@
 -- What loops append, one step on: over the numbers below a count.
-use Rattle.std.proofs.Common.{ℕ, zero, suc, List, [], ◌∷◌, ◌++◌, ◌≡◌, ◌<◌, ◌≤◌, ◌+◌, map, length, slice_index, sym, ap, ◌∙◌, append_assoc, arith}
+use Rattle.std.proofs.Common.{ℕ, zero, suc, List, [], ◌∷◌, ◌++◌, ◌≡◌, ◌<◌, ◌≤◌, ◌+◌, map, take, length, get_or, slice_index, sym, ap, ◌∙◌, append_assoc, arith}
 use Rattle.std.specs.Prelude.{replicate, sum}
 use Rattle.std.specs.List.{range_with_len, flat_map}
-use Rattle.std.proofs.lemmas.List.{append-nil, map-append, replicate_more}
+use Rattle.std.proofs.lemmas.List.{append-nil, map-append, replicate_more, take_more}
 use Rattle.std.proofs.lemmas.List.Sums.{sum_by_more, sum_by_more_le}
 use Rattle.std.proofs.lemmas.List.FromFn.{map-range_with_len_more}
 use Rattle.std.proofs.lemmas.Grind.{flat_map-append}
@@ -29,6 +29,13 @@ pushed_below f before old new n are is =
     let last : flat_map f (below (n + 1)) ≡ flat_map f (below n) ++ f n =
     ap (flat_map f) (below_more n) ∙ flat_map-append f (below n) (n ∷ []) ∙ ap (λ l. flat_map f (below n) ++ l) (append-nil (f n)) in
     is ∙ ap (λ l. l ++ f n) are ∙ append_assoc before (flat_map f (below n)) (f n) ∙ ap (λ l. before ++ l) (sym last)
+
+-- one more member of a list, of each of which f gives one
+pub mapped_more : {X Y : Type 0} (f : X → Y) (xs : List X) (i : ℕ) (d : X) (before old new : List Y) (y : Y) → i < length xs → old ≡ before ++ map f (take i xs) → y ≡ f (get_or xs i d) → new ≡ old ++ y ∷ []
+    → new ≡ before ++ map f (take (i + 1) xs)
+mapped_more f xs i d before old new y within are one is =
+    is ∙ (λ k. are k ++ one k ∷ []) ∙ append_assoc before (map f (take i xs)) (f (get_or xs i d) ∷ [])
+    ∙ ap (λ l. before ++ l) (sym (map-append f (take i xs) (get_or xs i d ∷ [])) ∙ sym (ap (map f) (take_more xs i d within)))
 
 -- one more of the same
 pub replicated_more : {X : Type 0} (x : X) (before old new : List X) (n : ℕ) → old ≡ before ++ replicate n x → new ≡ old ++ x ∷ [] → new ≡ before ++ replicate (n + 1) x

@@ -1,5 +1,5 @@
 -- Loops over consecutive numbers.
-use Rattle.std.proofs.Common.{ℕ, zero, suc, List, [], ◌∷◌, ◌++◌, ◌≡◌, ◌+◌, map, replicate, refl, sym, ap, ◌∙◌, arith}
+use Rattle.std.proofs.Common.{ℕ, zero, suc, List, [], ◌∷◌, ◌++◌, ◌≡◌, ◌+◌, map, ap, ◌∙◌, arith}
 use Rattle.std.specs.List.{range_with_len}
 use Rattle.std.proofs.lemmas.List.{map-append}
 use Rattle.cq_theory.specs.Canonical.{below}
@@ -17,9 +17,3 @@ below_more n =
 
 pub map_below_more : {X : Type 0} (f : ℕ → X) (n : ℕ) → map f (below (n + 1)) ≡ map f (below n) ++ f n ∷ []
 map_below_more f n = ap (map f) (below_more n) ∙ map-append f (below n) (n ∷ [])
-
-pub replicate_more : {X : Type 0} (n : ℕ) (x : X) → replicate (n + 1) x ≡ replicate n x ++ x ∷ []
-replicate_more zero x = refl
-replicate_more (suc n) x =
-    let one : suc n + 1 ≡ suc (n + 1) = omega arith in
-    ap (λ m. replicate m x) one ∙ ap (λ l. x ∷ l) (replicate_more n x)

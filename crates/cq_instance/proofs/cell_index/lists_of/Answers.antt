@@ -1,7 +1,8 @@
 use Rattle.std.proofs.Common.{ℕ, List, Vec, Global, [], ◌∷◌, ◌++◌, if◌then◌else◌, map, length, sym, ap, ◌∙◌}
-use Rattle.std.proofs.lemmas.List.{length-map}
+use Rattle.std.proofs.lemmas.List.{length-map, take_all}
 use Rattle.std.proofs.lemmas.List.FromFn.{length-map-range_with_len}
 use Rattle.cq_theory.specs.declared.value.Value.{Value}
+use Rattle.cq_instance.specs.CellRows.{rows_with}
 use Rattle.cq_instance.specs.SameValue.{same_value}
 use Rattle.cq_instance.specs.declared.cell_index.ValueRows.{ValueRows}
 use Rattle.cq_instance.proofs.IndexedRows.{no_rows, rows_with_more}
@@ -26,3 +27,6 @@ loop-row-preserved c =
           ∙ ap (λ (l : List ℕ). l ++ (if same_value cell v then row ∷ [] else [])) (c.loop-row.invariant.rows v)
           ∙ sym (rows_with_more column row cell cell c.loop-row-test.true c.index-column-row.is v);
     }
+
+pub returns : goal.returns
+returns c = λ v. c.loop-row.invariant.rows v ∙ ap (λ (l : List Value). rows_with l v) (take_all c.loop-row.row c.args.column.now c.loop-row-test.false)

@@ -1,13 +1,16 @@
-use Rattle.std.proofs.Common.{ℕ, List, ◌≡◌, ◌<◌, map, length, get_or, sym, ap, subst, ◌∙◌, arith}
+use Rattle.std.proofs.Common.{ℕ, List, ◌≡◌, ◌<◌, ◌≤◌, map, length, get_or, sym, ap, subst, ◌∙◌, arith}
 use Rattle.std.specs.Prelude.{slice_index_or}
-use Rattle.std.proofs.lemmas.List.{length-map}
+use Rattle.std.specs.List.{filter_map, enumerate_from}
+use Rattle.std.proofs.lemmas.List.{length-map, take_all}
 use Rattle.cq_base.specs.declared.name.Name.{Name}
 use Rattle.cq_theory.specs.declared.presentation.Presentation.{Presentation}
 use Rattle.cq_theory.specs.declared.presentation.Sort.{Sort}
+use Rattle.cq_theory.specs.Listed.{generator_node}
 use Rattle.cq_theory.specs.Sorts.{Generators}
 use Rattle.cq_theory.specs.Tables.{Assignment, AtRow}
 use Rattle.cq_instance.specs.declared.standing.Standing.{Standing}
 use Rattle.cq_instance.specs.InstanceData.{InstanceData}
+use Rattle.cq_instance.specs.Learning.{learned_from}
 use Rattle.cq_instance.specs.Standing.{meaning}
 use Rattle.cq_instance.proofs.CellsLearnt.{entity_learned, type_learned}
 use Rattle.cq_instance.proofs.OnWay.{get_or-map}
@@ -35,3 +38,14 @@ loop-number-preserved c =
           entity_learned i n g c.args.known.now.items c.loop-number.known.items c.match-generator.known.items within is c.loop-number.invariant w.in-Entity.field-0 w.in-Entity.is
           (ap (λ known. known.items) w.known-is)
     ]
+
+pub returns : goal.returns
+returns c =
+    let i : InstanceData = c.args.instance.now in
+    let n : ℕ = c.loop-number.number in
+    let items_are : c.as_slice-generator-items.result.now ≡ i.presentation.generators =
+    c.as_slice-generator-items.ensures ∙ ap (λ (p : Presentation). p.generators) c.presentation.ensures.presentation in
+    let end : length i.presentation.generators ≤ n = subst (λ (l : Generators). length l ≤ n) items_are c.loop-number-test.false in
+    c.loop-number.invariant
+    ∙ ap (λ (l : Generators). learned_from i c.args.known.now.items (filter_map (generator_node i.schema i.presentation i.names) (enumerate_from 0 l)))
+    (take_all n i.presentation.generators end)

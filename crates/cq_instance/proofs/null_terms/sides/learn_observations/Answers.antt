@@ -1,8 +1,11 @@
-use Rattle.std.proofs.Common.{◌≡◌, ◌<◌, length, ap, subst, ◌∙◌, arith}
+use Rattle.std.proofs.Common.{ℕ, ◌≡◌, ◌<◌, length, ap, subst, ◌∙◌, arith}
+use Rattle.std.specs.List.{flat_map}
+use Rattle.cq_theory.specs.Canonical.{below}
 use Rattle.cq_theory.specs.SchemaData.{SchemaData as Schema}
 use Rattle.cq_theory.specs.Groups.{obs_eq_sources, AreGroups}
 use Rattle.cq_theory.specs.Listed.{observation_nodes}
 use Rattle.cq_instance.specs.InstanceData.{InstanceData}
+use Rattle.cq_instance.specs.Learning.{learned_from}
 use Rattle.cq_instance.proofs.CellsLearnt.{group_count, group_found}
 use Rattle.cq_instance.proofs.Learnt.{learned_below}
 use Rattle.cq_instance.proofs.null_terms.sides.learn_observations.Goals as goal
@@ -30,3 +33,10 @@ pub loop-entity-preserved : goal.loop-entity-preserved
 loop-entity-preserved c =
     let i : InstanceData = c.args.instance.now in
     learned_below i (observation_nodes i.schema i.presentation i.names) c.loop-entity.entity c.args.known.now.items c.loop-entity.known.items c.learn_entity.new.known.items c.loop-entity.invariant c.in_ok-learn_entity.ensures
+
+pub returns : goal.returns
+returns c =
+    let i : InstanceData = c.args.instance.now in
+    let end : c.behind-schema.inside.entities ≡ i.schema.entities = ap (λ (s : Schema). s.entities) (c.behind-schema.view_is ∙ c.deref-3.ensures ∙ c.schema-schema.ensures.schema) in
+    let all : c.loop-entity.entity ≡ length i.schema.entities = omega (arith, c.loop-entity-test.false, c.loop-entity.auto.entity-end, c.len-entity-end.ensures, ap length end) in
+    c.loop-entity.invariant ∙ ap (λ (n : ℕ). learned_from i c.args.known.now.items (flat_map (observation_nodes i.schema i.presentation i.names) (below n))) all
