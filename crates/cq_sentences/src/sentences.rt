@@ -155,7 +155,7 @@ fn said_of_parts(code: Code) -> Said
     match code {
         Code::Duplicate => say(
             "The name # stands already in its table.",
-            "rename one of the two: types and entities share one table, and functions, foreign keys and attributes another.",
+            "rename one of the two, or leave out an image that is given twice: types and entities share one table, and functions, foreign keys and attributes another.",
         ),
         Code::Unknown => say(
             "The name # isn't declared where it may stand here.",
