@@ -3,9 +3,10 @@ ghost use Rattle.std.specs.Prelude.{◌≡◌, ◌<◌, ◌^◌, IfOk};
 ghost use Rattle.cq_clash.specs.Clash.{Tells};
 ghost use Rattle.cq_parts.specs.Few.{part_count};
 ghost use Rattle.cq_stating.specs.Environment.{AreSettled, environment_of};
-ghost use Rattle.cq_stating.specs.Posing.{IsPosed};
+ghost use Rattle.cq_stating.specs.Environment.{transform_meant};
+ghost use Rattle.cq_stating.specs.Posing.{AreSpan, IsPosed};
 
-use crate::parts::{Asked, push_image, push_own, push_parts};
+use crate::parts::{Asked, push_glued, push_image, push_own, push_parts};
 use crate::writing::source_of;
 use cq_base::Name;
 use cq_conflict::{Constants, Rest};
@@ -13,7 +14,8 @@ use cq_instance::Instance;
 use cq_io::Folder;
 use cq_lazy::LazyQuery;
 use cq_mapping::Mapping;
-use cq_stating::{Environment, ProgramRefusal, Statement, read_stated, state};
+use cq_push::pushout_presentation;
+use cq_stating::{Environment, NamedTransform, ProgramRefusal, Statement, read_stated, state};
 use cq_syntax::{Body, Decl, InstanceExp};
 use cq_theory::{Presentation, Schema, SizeRefusal};
 use std::alloc::{AllocError, Global};
@@ -82,6 +84,7 @@ fn push_posed<F: Folder>(
         Statement::Coeval(name, query, instance) => {
             push_coeval(&told, name, query, instance, folder, text)
         }
+        Statement::Pushout(left, right) => push_pushout(&told, left, right, folder, text),
         _ => Ok(false),
     }
 }
@@ -160,6 +163,32 @@ fn push_coeval<F: Folder>(
         Ok(presentation) => {
             let asked = told.asked(name, &query.source, &presentation);
             push_parts(&asked, &[], Rest::Rows(&operand.name), folder, text)
+        }
+        Err(SizeRefusal::Memory) => Err(AllocError),
+        Err(SizeRefusal::TooLarge) => Ok(false),
+    }
+}
+
+/// Tells of the instances where two transforms end, glued along the instance where both start.
+fn push_pushout<F: Folder>(
+    told: &Told,
+    left: &NamedTransform,
+    right: &NamedTransform,
+    folder: &mut F,
+    text: &mut Vec<u8>,
+) -> Result<bool, AllocError>
+    requires { AreSpan (transform_meant left.now) (transform_meant right.now) }
+    ensures files { (F.state folder.new).files ≡ (F.state folder.old).files }
+    ensures told { IfOk result (Tells told.now.constants.least.now told.now.constants.greater.now text.old.items
+        text.new.items) }
+{
+    let lefts: &Instance = &left.ends.finish.instance;
+    let rights: &Instance = &right.ends.finish.instance;
+    match pushout_presentation(told.alloc, &left.transform, &right.transform, lefts, rights) {
+        Ok(presentation) => {
+            let start = &left.ends.start;
+            let asked = told.asked(&start.schema, start.instance.schema(), &presentation);
+            push_glued(&asked, &left.ends, &right.ends, folder, text)
         }
         Err(SizeRefusal::Memory) => Err(AllocError),
         Err(SizeRefusal::TooLarge) => Ok(false),

@@ -7,6 +7,7 @@ use cq_base::Name;
 use cq_conflict::{Constants, Explained, Part, Rest, Source, push_conflict};
 use cq_instance::Instance;
 use cq_io::Folder;
+use cq_stating::NamedEnds;
 use cq_syntax::Decl;
 use cq_theory::{Presentation, Schema};
 use std::alloc::{AllocError, Global};
@@ -56,6 +57,27 @@ pub fn push_image<F: Folder>(
 {
     let parts = [part_of(asked, operand, instance)];
     push_parts(asked, &parts, Rest::None, folder, text)
+}
+
+/// Tells of a presentation whose equations are those of the instances where two transforms end, and then one for each
+/// generator of the instance where both start.
+pub fn push_glued<F: Folder>(
+    asked: &Asked,
+    left: &NamedEnds,
+    right: &NamedEnds,
+    folder: &mut F,
+    text: &mut Vec<u8>,
+) -> Result<bool, AllocError>
+    ensures files { (F.state folder.new).files ≡ (F.state folder.old).files }
+    ensures told { IfOk result (Tells asked.now.constants.least.now asked.now.constants.greater.now text.old.items
+        text.new.items) }
+{
+    let parts = [
+        part_of(asked, &left.target, &left.finish.instance),
+        part_of(asked, &right.target, &right.finish.instance),
+    ];
+    let images = Rest::Images(&left.source, left.start.instance.presentation());
+    push_parts(asked, &parts, images, folder, text)
 }
 
 /// Tells of a presentation that has these parts, and what is behind them.

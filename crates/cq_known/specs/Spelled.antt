@@ -1,5 +1,5 @@
 -- Names among the tokens of a file.
-use Rattle.std.specs.Prelude.{◌==◌, ◌&&◌, ◌||◌, ℕ, Bool, List, Option, Some, None, find, is_some, nat_eq, nat_lt, not, option_and_then, option_map, position}
+use Rattle.std.specs.Prelude.{◌==◌, ◌&&◌, ◌||◌, ℕ, Bool, List, Option, Some, None, find, is_some, nat_eq, nat_lt, not, option_and_then, option_map, position, slice_get, ◌≡◌}
 use Rattle.std.specs.Cmp.Lexicographic.{pointwise}
 use Rattle.cq_base.specs.declared.name.Name.{Name}
 use Rattle.cq_base.specs.declared.place.Place.{Place}
@@ -37,3 +37,10 @@ place_and_number names token = option_map (λ (number : ℕ). (token.place, numb
 -- the same of the first token from a place on that spells one of the names
 abbrev pub first_spelled : List Token → Place → List Name → Option (Place × ℕ)
 first_spelled tokens from names = option_and_then (place_and_number names) (find (spells_from from names) tokens)
+
+-- the place is that of the first token from another one on that spells one of some names, and this is the name
+pub record IsSpelledFrom (tokens : List Token) (from place : Place) (name : Name) : Type 0 where
+  pub names : List Name
+  pub number : ℕ
+  pub first : first_spelled tokens from names ≡ Some (place, number)
+  pub is_name : slice_get names number ≡ Some name

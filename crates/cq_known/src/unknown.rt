@@ -1,4 +1,7 @@
 //! The name of a part that isn't declared where it may stand.
+ghost use Rattle.std.specs.Prelude.{◌≡◌, IfOk, IfSome};
+ghost use Rattle.cq_known.specs.Spelled.{IsSpelledFrom};
+
 use crate::literals::look_at;
 use crate::role::{Known, Use};
 use crate::spelled::first_spelled;
@@ -25,7 +28,10 @@ pub fn unknown_in_part(
     body: &Body,
     tokens: &[Token],
     place: Place,
-) -> Result<Option<Unknown>, AllocError> {
+) -> Result<Option<Unknown>, AllocError>
+    ensures { IfOk result (λ found. IfSome found (λ unknown.
+        IsSpelledFrom tokens.now place unknown.place unknown.name)) }
+{
     let look = look_at(alloc, env, body, place)?;
     let known = look.known.as_slice();
     let names = unknown_names(alloc, look.uses.as_slice(), known)?;

@@ -1,12 +1,15 @@
 //! The rules of declarations.
-ghost use Rattle.std.specs.Prelude.{◌≡◌, ◌<◌, ◌≤◌, ◌^◌};
+ghost use Rattle.std.specs.Prelude.{◌≡◌, ◌<◌, ◌≤◌, ◌^◌, IfOk, IfSome, MatchOption};
+ghost use Rattle.cq_known.specs.Spelled.{IsSpelledFrom};
 ghost use Rattle.cq_parts.specs.Few.{part_count};
 ghost use Rattle.cq_stating.specs.Environment.{AreSettled, environment_of};
+ghost use Rattle.cq_told.specs.Explained.{HasDerived, IsShownOf};
 
 use crate::case::Case;
 use crate::codes::code_of;
-use crate::details::append_details;
+use crate::details::details_of;
 use crate::page::{append_remedy, append_sentence, append_where, has_remedy};
+use crate::telling::{Telling, one_text};
 use crate::texts::{append_name, append_number, name_text, number_text, quoted_text};
 use cq_base::{Name, Place};
 use cq_io::Folder;
@@ -16,40 +19,98 @@ use cq_sentences::Code;
 use cq_stating::Reason;
 use std::alloc::{AllocError, Global};
 
-/// Appends why a declaration is refused.
-pub fn append_broken<F: Folder>(
+/// What is told of a declaration that breaks a rule.
+pub fn broken_telling<F: Folder>(
     case: Case<'_>,
     reason: &Reason,
     folder: &mut F,
-    out: &mut Vec<u8>,
-) -> Result<(), AllocError>
+) -> Result<Telling, AllocError>
     requires few { part_count case.decl.now.body < 2 ^ 32 }
     requires settled { AreSettled (environment_of case.env.now.names.entries) }
     requires depth { case.depth ≤ 64 }
-    ensures { (F.state folder.new).files ≡ (F.state folder.old).files }
+    ensures files { (F.state folder.new).files ≡ (F.state folder.old).files }
+    ensures place { IfOk result (λ telling. IsShownOf case.entry.book.page.tokens.now reason.now case.entry.place
+        telling.place) }
+    ensures derived { IfOk result (λ telling. HasDerived reason.now telling.words.items) }
 {
-    match reason {
-        Reason::NameTaken => append_taken(case, out)?,
-        Reason::NameUnknown => append_unknown_name(case, out)?,
-        Reason::WrongKind => append_wrong_kind(case, out)?,
-        Reason::WrongSchema => append_named(case, Code::WrongSchema, out)?,
-        Reason::WrongOperand => append_named(case, Code::WrongOperand, out)?,
-        Reason::Duplicate => append_named(case, Code::Duplicate, out)?,
-        Reason::Unknown => append_unknown(case, out)?,
-        _ => append_plain(case, reason, out)?,
-    }
-    let mut details = Vec::new(case.book.alloc);
-    append_details(case, reason, folder, &mut details)?;
-    out.extend_from_slice(details.as_slice())?;
-    if has_remedy(details.as_slice()) {
-        return Ok(());
-    }
-    append_remedy(code_of(reason).remedy(), out)
+    let unknown = unknown_name(case, reason)?;
+    let place = shown_place(case.place, &unknown);
+    let front = rule_words(case, reason, place, &unknown)?;
+    let details = details_of(case, reason, folder)?;
+    let remedy = remedy_words(case.book.alloc, reason, details.as_slice())?;
+    let words = one_text(front, details.as_slice(), remedy.as_slice())?;
+    Ok(Telling { place, words })
 }
 
-/// Appends the place, and a sentence with the texts that the reason has.
+/// The name that isn't declared, where this is the reason, and the name is found.
+fn unknown_name(case: Case<'_>, reason: &Reason) -> Result<Option<Unknown>, AllocError>
+    ensures reason { IfOk result (λ found. IfSome found (λ _. reason.now ≡ Reason.Unknown)) }
+    ensures place { IfOk result (λ found. IfSome found (λ unknown.
+        IsSpelledFrom case.entry.book.page.tokens.now case.entry.place unknown.place unknown.name)) }
+{
+    match reason {
+        Reason::Unknown => unknown_in_part(
+            case.book.alloc,
+            case.env,
+            &case.decl.body,
+            case.book.page.tokens,
+            case.place,
+        ),
+        _ => Ok(None),
+    }
+}
+
+/// The place of the name that isn't declared, if there is one, and otherwise that of the rule.
+fn shown_place(place: Place, unknown: &Option<Unknown>) -> Place
+    ensures { MatchOption unknown.now (result ≡ place) (λ found. result ≡ found.place) }
+{
+    match unknown {
+        Some(found) => found.place,
+        None => place,
+    }
+}
+
+/// In which declaration the place stands, and the sentence of the rule.
+fn rule_words(
+    case: Case<'_>,
+    reason: &Reason,
+    place: Place,
+    unknown: &Option<Unknown>,
+) -> Result<Vec<u8>, AllocError> {
+    let mut out = Vec::new(case.book.alloc);
+    append_where(place, case.decl, &mut out)?;
+    match unknown {
+        Some(unknown) => append_unknown(case, unknown, &mut out)?,
+        None => append_rule(case, reason, &mut out)?,
+    }
+    Ok(out)
+}
+
+/// What there is to mend, unless the details say so.
+fn remedy_words(alloc: Global, reason: &Reason, details: &[u8]) -> Result<Vec<u8>, AllocError> {
+    let mut out = Vec::new(alloc);
+    if !has_remedy(details) {
+        append_remedy(code_of(reason).remedy(), &mut out)?;
+    }
+    Ok(out)
+}
+
+/// Appends the sentence of the rule, and what is known of its names.
+fn append_rule(case: Case<'_>, reason: &Reason, out: &mut Vec<u8>) -> Result<(), AllocError> {
+    match reason {
+        Reason::NameTaken => append_taken(case, out),
+        Reason::NameUnknown => append_unknown_name(case, out),
+        Reason::WrongKind => append_wrong_kind(case, out),
+        Reason::WrongSchema => append_named(case, Code::WrongSchema, out),
+        Reason::WrongOperand => append_named(case, Code::WrongOperand, out),
+        Reason::Duplicate => append_named(case, Code::Duplicate, out),
+        Reason::Unknown => append_named(case, Code::Unknown, out),
+        _ => append_plain(case, reason, out),
+    }
+}
+
+/// Appends a sentence with the texts that the reason has.
 fn append_plain(case: Case<'_>, reason: &Reason, out: &mut Vec<u8>) -> Result<(), AllocError> {
-    append_where(case.book, case.place, case.decl, out)?;
     let texts = texts_of(case, reason)?;
     append_texts(case.book.alloc, code_of(reason), texts.as_slice(), out)
 }
@@ -128,7 +189,6 @@ fn file_texts(alloc: Global, reason: &Reason) -> Result<Vec<Vec<u8>>, AllocError
 
 /// Appends that the declared name is taken, and where it is declared.
 fn append_taken(case: Case<'_>, out: &mut Vec<u8>) -> Result<(), AllocError> {
-    append_where(case.book, case.place, case.decl, out)?;
     let texts = one(
         case.book.alloc,
         name_text(case.book.alloc, &case.decl.name)?,
@@ -171,7 +231,6 @@ fn append_wrong_kind(case: Case<'_>, out: &mut Vec<u8>) -> Result<(), AllocError
     let Some((name, wanted)) = wanted_at(&case.decl.body, case.place) else {
         return append_named(case, Code::WrongKind, out);
     };
-    append_where(case.book, case.place, case.decl, out)?;
     let alloc = case.book.alloc;
     let kind = match known_as(case.env, name) {
         Some(kind) => kind.words(),
@@ -183,9 +242,8 @@ fn append_wrong_kind(case: Case<'_>, out: &mut Vec<u8>) -> Result<(), AllocError
     append_texts(alloc, Code::WrongKind, texts.as_slice(), out)
 }
 
-/// Appends the place, and a sentence with the name that stands there.
+/// Appends a sentence with the name that stands at the place.
 fn append_named(case: Case<'_>, code: Code, out: &mut Vec<u8>) -> Result<(), AllocError> {
-    append_where(case.book, case.place, case.decl, out)?;
     let texts = one(case.book.alloc, name_at(case)?)?;
     append_texts(case.book.alloc, code, texts.as_slice(), out)
 }
@@ -213,27 +271,8 @@ fn token_text(case: Case<'_>, token: &Token) -> Result<Vec<u8>, AllocError> {
     }
 }
 
-/// Appends which name of a part isn't declared, with the caret under this very name, and the nearest that is.
-fn append_unknown(case: Case<'_>, out: &mut Vec<u8>) -> Result<(), AllocError> {
-    let found = unknown_in_part(
-        case.book.alloc,
-        case.env,
-        &case.decl.body,
-        case.book.page.tokens,
-        case.place,
-    )?;
-    match &found {
-        Some(unknown) => append_unknown_at(case, unknown, out),
-        None => append_named(case, Code::Unknown, out),
-    }
-}
-
-fn append_unknown_at(
-    case: Case<'_>,
-    unknown: &Unknown,
-    out: &mut Vec<u8>,
-) -> Result<(), AllocError> {
-    append_where(case.book, unknown.place, case.decl, out)?;
+/// Appends which name of a part isn't declared, and the nearest that is.
+fn append_unknown(case: Case<'_>, unknown: &Unknown, out: &mut Vec<u8>) -> Result<(), AllocError> {
     let texts = one(case.book.alloc, name_text(case.book.alloc, &unknown.name)?)?;
     append_texts(case.book.alloc, Code::Unknown, texts.as_slice(), out)?;
     append_near(&unknown.near, out)

@@ -1,7 +1,9 @@
 //! What more is known of a rule that is broken.
-ghost use Rattle.std.specs.Prelude.{◌≡◌, ◌<◌, ◌≤◌, ◌^◌};
+ghost use Rattle.std.specs.Prelude.{◌≡◌, ◌<◌, ◌≤◌, ◌^◌, ◌⊎◌, [], IfOk};
+ghost use Rattle.cq_clash.specs.Clash.{TellsClash};
 ghost use Rattle.cq_parts.specs.Few.{part_count};
 ghost use Rattle.cq_stating.specs.Environment.{AreSettled, environment_of};
+ghost use Rattle.cq_told.specs.Explained.{IsDerived};
 
 use crate::case::Case;
 use crate::folders::append_folder_faults;
@@ -11,8 +13,68 @@ use cq_io::Folder;
 use cq_stating::Reason;
 use std::alloc::AllocError;
 
-/// Appends what more is known.
-pub fn append_details<F: Folder>(
+/// What more is known.
+pub fn details_of<F: Folder>(
+    case: Case<'_>,
+    reason: &Reason,
+    folder: &mut F,
+) -> Result<Vec<u8>, AllocError>
+    requires few { part_count case.decl.now.body < 2 ^ 32 }
+    requires settled { AreSettled (environment_of case.env.now.names.entries) }
+    requires depth { case.depth ≤ 64 }
+    ensures files { (F.state folder.new).files ≡ (F.state folder.old).files }
+    ensures derived { IfOk result (λ lines. IsDerived reason.now lines.items) }
+{
+    match reason {
+        Reason::Inconsistent(least, greater) => {
+            conflict_lines(case, least.as_slice(), greater.as_slice(), folder)
+        }
+        _ => other_lines(case, reason, folder),
+    }
+}
+
+/// Why two constants become equal, if a derivation is found.
+fn conflict_lines<F: Folder>(
+    case: Case<'_>,
+    least: &[u8],
+    greater: &[u8],
+    folder: &mut F,
+) -> Result<Vec<u8>, AllocError>
+    requires few { part_count case.decl.now.body < 2 ^ 32 }
+    requires settled { AreSettled (environment_of case.env.now.names.entries) }
+    ensures files { (F.state folder.new).files ≡ (F.state folder.old).files }
+    ensures derived { IfOk result (λ lines. TellsClash least.now greater.now [] lines.items
+        ⊎ (lines.items ≡ [])) }
+{
+    let declared = Declared {
+        env: case.env,
+        decls: case.book.program.decls.as_slice(),
+        decl: case.decl,
+    };
+    let constants = Constants { least, greater };
+    let mut lines = Vec::new(case.book.alloc);
+    let _is_told = push_clash(case.book.alloc, &declared, &constants, folder, &mut lines)?;
+    Ok(lines)
+}
+
+/// What more is known of the other rules.
+fn other_lines<F: Folder>(
+    case: Case<'_>,
+    reason: &Reason,
+    folder: &mut F,
+) -> Result<Vec<u8>, AllocError>
+    requires few { part_count case.decl.now.body < 2 ^ 32 }
+    requires settled { AreSettled (environment_of case.env.now.names.entries) }
+    requires depth { case.depth ≤ 64 }
+    ensures files { (F.state folder.new).files ≡ (F.state folder.old).files }
+{
+    let mut lines = Vec::new(case.book.alloc);
+    append_details(case, reason, folder, &mut lines)?;
+    Ok(lines)
+}
+
+/// Appends what more is known: the faults of a folder, or why a limit is passed or an equation isn't kept.
+fn append_details<F: Folder>(
     case: Case<'_>,
     reason: &Reason,
     folder: &mut F,
@@ -30,9 +92,6 @@ pub fn append_details<F: Folder>(
         | Reason::DoubleId(_, _)
         | Reason::NoSuchId(_, _, _)
         | Reason::ManyRecords => append_folder_faults(case, folder, out),
-        Reason::Inconsistent(least, greater) => {
-            append_conflict(case, least.as_slice(), greater.as_slice(), folder, out)
-        }
         Reason::NotPreserved(_)
         | Reason::DutyDepth(_)
         | Reason::DutyRows(_)
@@ -41,26 +100,4 @@ pub fn append_details<F: Folder>(
         | Reason::TooManyRows => append_limit(case, reason, folder, out),
         _ => Ok(()),
     }
-}
-
-/// Appends why two constants become equal, if a derivation is found.
-fn append_conflict<F: Folder>(
-    case: Case<'_>,
-    least: &[u8],
-    greater: &[u8],
-    folder: &mut F,
-    out: &mut Vec<u8>,
-) -> Result<(), AllocError>
-    requires few { part_count case.decl.now.body < 2 ^ 32 }
-    requires settled { AreSettled (environment_of case.env.now.names.entries) }
-    ensures { (F.state folder.new).files ≡ (F.state folder.old).files }
-{
-    let declared = Declared {
-        env: case.env,
-        decls: case.book.program.decls.as_slice(),
-        decl: case.decl,
-    };
-    let constants = Constants { least, greater };
-    let _is_told = push_clash(case.book.alloc, &declared, &constants, folder, out)?;
-    Ok(())
 }

@@ -1,9 +1,7 @@
 //! A file that is explained, and what is appended of it.
-use crate::case::Book;
 use crate::texts::{append_name, append_number};
 use cq_base::Place;
 use cq_lex::Token;
-use cq_place::append_place;
 use cq_sentences::{Code, append_filled};
 use cq_syntax::{Body, Decl};
 use std::alloc::AllocError;
@@ -61,14 +59,8 @@ pub fn has_remedy(lines: &[u8]) -> bool {
         .any(|line| line.starts_with(MEND))
 }
 
-/// Appends the line at a place with its caret, and in which declaration it stands, where this begins on another line.
-pub fn append_where(
-    book: Book<'_>,
-    place: Place,
-    decl: &Decl,
-    out: &mut Vec<u8>,
-) -> Result<(), AllocError> {
-    append_place(book.page.text, place, out)?;
+/// Appends in which declaration a place stands, where this begins on another line.
+pub fn append_where(place: Place, decl: &Decl, out: &mut Vec<u8>) -> Result<(), AllocError> {
     if place.line == decl.place.line {
         return Ok(());
     }

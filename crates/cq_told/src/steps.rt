@@ -1,20 +1,22 @@
 //! The steps at which a file is refused: reading it, its tokens, its grammar, its declarations.
-ghost use Rattle.std.specs.Prelude.{◌≡◌, ◌≤◌, ◌^◌, length};
+ghost use Rattle.std.specs.Prelude.{◌≡◌, ◌<◌, ◌≤◌, ◌^◌, IfOk, IsErr, MatchOption, Some, length, slice_get};
 ghost use Rattle.cq_lex.specs.Spans.{EndsOnce};
-ghost use Rattle.cq_parts.specs.Few.{HasFewParts};
+ghost use Rattle.cq_parts.specs.Few.{HasFewParts, part_count};
 ghost use Rattle.cq_stating.specs.Environment.{AreSettled, environment_of};
+ghost use Rattle.cq_stopped.specs.Stop.{MeetRules};
+ghost use Rattle.cq_syntax.specs.declared.program.Decl.{Decl as AnyDecl};
+ghost use Rattle.cq_told.specs.Explained.{AreMet, Explains, ExplainsText, IsMet, IsProgramFault, IsTextFault};
+ghost use Rattle.cq_told.specs.Explained.{IsGrammaticalPlace, IsLexicalPlace, IsTokenFault, IsToldOf};
 
-use crate::broken::append_broken;
+use crate::broken::broken_telling;
 use crate::case::{Book, Case};
 use crate::codes::unread_of;
-use crate::page::{Page, append_remedy, append_where};
-use crate::texts::quoted_text;
-use cq_base::Place;
+use crate::page::{Page, append_remedy};
+use crate::telling::{Telling, shown, telling_at, telling_at_token};
 use cq_io::{Folder, ReadRefusal};
-use cq_lex::{LexRefusal, Token, lex};
+use cq_lex::{LexRefusal, lex};
 use cq_parse::{ParseRefusal, parse};
 use cq_parts::has_few_parts;
-use cq_place::append_place;
 use cq_sentences::{Code, Unread, append_filled};
 use cq_stating::ReadCause;
 use cq_stopped::{Fault, Stop, stop_of};
@@ -24,7 +26,8 @@ use std::alloc::{AllocError, Global};
 /// The most bytes of a program file: 8 MiB.
 const FILE_LIMIT: u64 = 8388608;
 
-/// Why the file of a name is refused, with models made to a depth: nothing, where it isn't.
+/// Why the file of a name is refused, with models made to a depth: the line at the place of its first fault, under it a
+/// caret, and then in words what is wrong and what there is to mend. Nothing, where it isn't refused.
 pub fn explanation<F: Folder>(
     alloc: Global,
     file: &str,
@@ -32,15 +35,29 @@ pub fn explanation<F: Folder>(
     folder: &mut F,
 ) -> Result<Vec<u8>, AllocError>
     requires { depth ≤ 64 }
-    ensures { (F.state folder.new).files ≡ (F.state folder.old).files }
+    ensures files { (F.state folder.new).files ≡ (F.state folder.old).files }
+    ensures told { IfOk result (λ out. Explains depth (F.state folder.old) file.now out.items) }
+{
+    match folder.read(file, FILE_LIMIT) {
+        Ok(text) => text_explanation(alloc, text.as_slice(), depth, folder),
+        Err(refusal) => unread_explanation(alloc, refusal, file),
+    }
+}
+
+/// That a file isn't read.
+fn unread_explanation(
+    alloc: Global,
+    refusal: ReadRefusal,
+    file: &str,
+) -> Result<Vec<u8>, AllocError>
+    ensures { refusal ≡ ReadRefusal.Memory → IsErr result }
 {
     let mut out = Vec::new(alloc);
-    match folder.read(file, FILE_LIMIT) {
-        Ok(text) => append_text(alloc, text.as_slice(), depth, folder, &mut out)?,
-        Err(ReadRefusal::Absent) => append_unread(Unread::Absent, file, &mut out)?,
-        Err(ReadRefusal::TooLong) => append_unread(Unread::TooLong, file, &mut out)?,
-        Err(ReadRefusal::Failed) => append_unread(Unread::Failed, file, &mut out)?,
-        Err(ReadRefusal::Memory) => return Err(AllocError),
+    match refusal {
+        ReadRefusal::Absent => append_unread(Unread::Absent, file, &mut out)?,
+        ReadRefusal::TooLong => append_unread(Unread::TooLong, file, &mut out)?,
+        ReadRefusal::Failed => append_unread(Unread::Failed, file, &mut out)?,
+        ReadRefusal::Memory => return Err(AllocError),
     }
     Ok(out)
 }
@@ -53,148 +70,180 @@ fn append_unread(unread: Unread, file: &str, out: &mut Vec<u8>) -> Result<(), Al
     append_remedy(unread.remedy(), out)
 }
 
-/// Appends why a text is refused.
-fn append_text<F: Folder>(
+/// Why a text is refused.
+fn text_explanation<F: Folder>(
     alloc: Global,
     text: &[u8],
     depth: u32,
     folder: &mut F,
-    out: &mut Vec<u8>,
-) -> Result<(), AllocError>
+) -> Result<Vec<u8>, AllocError>
     requires length { length text.now ≤ 2 ^ 23 }
     requires depth { depth ≤ 64 }
-    ensures { (F.state folder.new).files ≡ (F.state folder.old).files }
+    ensures files { (F.state folder.new).files ≡ (F.state folder.old).files }
+    ensures told { IfOk result (λ out. ExplainsText depth (F.state folder.old).files text.now out.items) }
 {
-    match lex(alloc, text) {
-        Ok(tokens) => append_tokens(alloc, text, tokens.as_slice(), depth, folder, out),
-        Err(refusal) => append_lexical(text, refusal, out),
+    let found = text_telling(alloc, text, depth, folder)?;
+    match &found {
+        Some(telling) => shown(alloc, text, telling),
+        None => Ok(Vec::new(alloc)),
     }
 }
 
-/// Appends why a text has no tokens.
-fn append_lexical(text: &[u8], refusal: LexRefusal, out: &mut Vec<u8>) -> Result<(), AllocError> {
+/// What is told of a text, if it breaks a rule.
+fn text_telling<F: Folder>(
+    alloc: Global,
+    text: &[u8],
+    depth: u32,
+    folder: &mut F,
+) -> Result<Option<Telling>, AllocError>
+    requires length { length text.now ≤ 2 ^ 23 }
+    requires depth { depth ≤ 64 }
+    ensures files { (F.state folder.new).files ≡ (F.state folder.old).files }
+    ensures told { IfOk result (λ found. MatchOption found (IsMet depth (F.state folder.old).files text.now)
+        (λ telling. IsTextFault depth (F.state folder.old).files text.now telling.place telling.words.items)) }
+{
+    match lex(alloc, text) {
+        Ok(tokens) => {
+            let tokens = tokens.as_slice();
+            tokens_telling(alloc, Page { text, tokens }, depth, folder)
+        }
+        Err(refusal) => {
+            let telling = lexical_telling(alloc, refusal)?;
+            Ok(Some(telling))
+        }
+    }
+}
+
+/// What is told of a text that has no tokens.
+fn lexical_telling(alloc: Global, refusal: LexRefusal) -> Result<Telling, AllocError>
+    ensures { IfOk result (λ telling. IsLexicalPlace refusal telling.place) }
+{
     match refusal {
-        LexRefusal::BadByte(place) => append_at(text, place, Code::BadByte, out),
-        LexRefusal::OpenText(place) => append_at(text, place, Code::OpenText, out),
-        LexRefusal::OpenComment(place) => append_at(text, place, Code::OpenComment, out),
-        LexRefusal::LongName(place) => append_at(text, place, Code::LongName, out),
+        LexRefusal::BadByte(place) => telling_at(alloc, place, Code::BadByte),
+        LexRefusal::OpenText(place) => telling_at(alloc, place, Code::OpenText),
+        LexRefusal::OpenComment(place) => telling_at(alloc, place, Code::OpenComment),
+        LexRefusal::LongName(place) => telling_at(alloc, place, Code::LongName),
         LexRefusal::Memory => Err(AllocError),
     }
 }
 
-/// Appends a place, the sentence of its code, and what there is to mend.
-fn append_at(text: &[u8], place: Place, code: Code, out: &mut Vec<u8>) -> Result<(), AllocError> {
-    append_place(text, place, out)?;
-    append_filled(code.sentence(), &[], out)?;
-    out.extend_from_slice(b"\n")?;
-    append_remedy(code.remedy(), out)
-}
-
-/// Appends why tokens are refused.
-fn append_tokens<F: Folder>(
+/// What is told of tokens, if they are no program within the limits, or one that breaks a rule.
+fn tokens_telling<F: Folder>(
     alloc: Global,
-    text: &[u8],
-    tokens: &[Token],
+    page: Page<'_>,
     depth: u32,
     folder: &mut F,
-    out: &mut Vec<u8>,
-) -> Result<(), AllocError>
-    requires end { EndsOnce tokens.now }
+) -> Result<Option<Telling>, AllocError>
+    requires end { EndsOnce page.tokens.now }
     requires depth { depth ≤ 64 }
-    ensures { (F.state folder.new).files ≡ (F.state folder.old).files }
+    ensures files { (F.state folder.new).files ≡ (F.state folder.old).files }
+    ensures told { IfOk result (λ found. MatchOption found (AreMet depth (F.state folder.old).files page.entry.tokens.now)
+        (λ telling. IsTokenFault depth (F.state folder.old).files page.entry.tokens.now telling.place
+        telling.words.items)) }
 {
-    let page = Page { text, tokens };
-    match parse(alloc, tokens) {
+    match parse(alloc, page.tokens) {
         Ok(program) => {
-            let book = Book {
-                alloc,
-                page,
-                program: &program,
-            };
-            append_program(book, depth, folder, out)
+            let program = &program;
+            program_telling(
+                Book {
+                    alloc,
+                    page,
+                    program,
+                },
+                depth,
+                folder,
+            )
         }
-        Err(refusal) => append_grammatical(alloc, page, refusal, out),
+        Err(refusal) => {
+            let telling = grammatical_telling(alloc, page, refusal)?;
+            Ok(Some(telling))
+        }
     }
 }
 
-/// Appends why tokens are no program within the limits.
-fn append_grammatical(
+/// What is told of tokens that are no program within the limits.
+fn grammatical_telling(
     alloc: Global,
     page: Page<'_>,
     refusal: ParseRefusal,
-    out: &mut Vec<u8>,
-) -> Result<(), AllocError> {
+) -> Result<Telling, AllocError>
+    ensures { IfOk result (λ telling. IsGrammaticalPlace refusal telling.place) }
+{
     match refusal {
-        ParseRefusal::Syntax(place) => append_token(alloc, page, place, Code::Syntax, out),
-        ParseRefusal::TooDeep(place) => append_token(alloc, page, place, Code::TooDeep, out),
+        ParseRefusal::Syntax(place) => telling_at_token(alloc, page, place, Code::Syntax),
+        ParseRefusal::TooDeep(place) => telling_at_token(alloc, page, place, Code::TooDeep),
         ParseRefusal::Unsupported(place, _) => {
-            append_token(alloc, page, place, Code::Unsupported, out)
+            telling_at_token(alloc, page, place, Code::Unsupported)
         }
-        ParseRefusal::BadOption(place) => append_token(alloc, page, place, Code::BadOption, out),
+        ParseRefusal::BadOption(place) => telling_at_token(alloc, page, place, Code::BadOption),
         ParseRefusal::Memory => Err(AllocError),
     }
 }
 
-/// Appends a place, the sentence of its code with the token that stands there, and what there is to mend.
-fn append_token(
-    alloc: Global,
-    page: Page<'_>,
-    place: Place,
-    code: Code,
-    out: &mut Vec<u8>,
-) -> Result<(), AllocError> {
-    append_place(page.text, place, out)?;
-    let spelling = match page.token_at(place) {
-        Some(token) => page.spelling(token),
-        None => b"",
-    };
-    let text = if spelling.is_empty() {
-        Vec::from_slice(alloc, b"the end of the file")?
-    } else {
-        quoted_text(alloc, spelling)?
-    };
-    append_filled(code.sentence(), &[text.as_slice()], out)?;
-    out.extend_from_slice(b"\n")?;
-    append_remedy(code.remedy(), out)
-}
-
-/// Appends why a program is refused.
-fn append_program<F: Folder>(
+/// What is told of a program that breaks a rule.
+fn program_telling<F: Folder>(
     book: Book<'_>,
     depth: u32,
     folder: &mut F,
-    out: &mut Vec<u8>,
-) -> Result<(), AllocError>
+) -> Result<Option<Telling>, AllocError>
     requires { depth ≤ 64 }
-    ensures { (F.state folder.new).files ≡ (F.state folder.old).files }
+    ensures files { (F.state folder.new).files ≡ (F.state folder.old).files }
+    ensures told { IfOk result (λ found. MatchOption found
+        (MeetRules (F.state folder.old).files book.entry.program.now)
+        (λ telling. IsProgramFault depth (F.state folder.old).files book.entry.page.tokens.now book.entry.program.now
+        telling.place telling.words.items)) }
 {
     if !has_few_parts(book.program) {
         return Err(AllocError);
     }
-    match stop_of(book.alloc, book.program, folder, depth)? {
-        Some(stop) => append_stop(book, &stop, depth, folder, out),
-        None => Ok(()),
+    let found = stop_of(book.alloc, book.program, folder, depth)?;
+    match &found {
+        Some(stop) => {
+            let telling = stop_telling(book, stop, depth, folder)?;
+            Ok(Some(telling))
+        }
+        None => Ok(None),
     }
 }
 
-/// Appends what is wrong with the declaration at which a program stops.
-fn append_stop<F: Folder>(
+/// What is told of the declaration at which a program stops.
+fn stop_telling<F: Folder>(
     book: Book<'_>,
     stop: &Stop,
     depth: u32,
     folder: &mut F,
-    out: &mut Vec<u8>,
-) -> Result<(), AllocError>
+) -> Result<Telling, AllocError>
     requires few { HasFewParts book.program.now }
     requires settled { AreSettled (environment_of stop.now.env.names.entries) }
     requires depth { depth ≤ 64 }
-    ensures { (F.state folder.new).files ≡ (F.state folder.old).files }
+    ensures files { (F.state folder.new).files ≡ (F.state folder.old).files }
+    ensures told { (decl : AnyDecl) → slice_get book.entry.program.now.decls stop.now.number ≡ Some decl
+        → IfOk result (λ telling. IsToldOf book.entry.page.tokens.now decl stop.now.fault telling.place
+        telling.words.items) }
 {
     let decls = book.program.decls.as_slice();
+    // The number is that of a declaration.
     if stop.number >= decls.len() {
-        return Ok(());
+        return Err(AllocError);
     }
-    let decl = &decls[stop.number];
+    fault_telling(book, &decls[stop.number], stop, depth, folder)
+}
+
+/// What is told of a fault of a declaration.
+fn fault_telling<F: Folder>(
+    book: Book<'_>,
+    decl: &Decl,
+    stop: &Stop,
+    depth: u32,
+    folder: &mut F,
+) -> Result<Telling, AllocError>
+    requires few { part_count decl.now.body < 2 ^ 32 }
+    requires settled { AreSettled (environment_of stop.now.env.names.entries) }
+    requires depth { depth ≤ 64 }
+    ensures files { (F.state folder.new).files ≡ (F.state folder.old).files }
+    ensures told { IfOk result (λ telling. IsToldOf book.entry.page.tokens.now decl.now stop.now.fault telling.place
+        telling.words.items) }
+{
     match &stop.fault {
         Fault::Broken(place, reason) => {
             let case = Case {
@@ -204,20 +253,25 @@ fn append_stop<F: Folder>(
                 depth,
                 place: *place,
             };
-            append_broken(case, reason, folder, out)
+            broken_telling(case, reason, folder)
         }
-        Fault::Unread(file, cause) => append_lacking(book, decl, file.as_str(), *cause, out),
+        Fault::Unread(file, cause) => lacking_telling(book.alloc, decl, file.as_str(), *cause),
     }
 }
 
-/// Appends that a file that a declaration reads isn't read.
-fn append_lacking(
-    book: Book<'_>,
+/// That a file that a declaration reads isn't read.
+fn lacking_telling(
+    alloc: Global,
     decl: &Decl,
     file: &str,
     cause: ReadCause,
-    out: &mut Vec<u8>,
-) -> Result<(), AllocError> {
-    append_where(book, decl.place, decl, out)?;
-    append_unread(unread_of(cause), file, out)
+) -> Result<Telling, AllocError>
+    ensures { IfOk result (λ telling. telling.place ≡ decl.now.place) }
+{
+    let mut words = Vec::new(alloc);
+    append_unread(unread_of(cause), file, &mut words)?;
+    Ok(Telling {
+        place: decl.place,
+        words,
+    })
 }

@@ -1,0 +1,11 @@
+use Rattle.cq_told.specs.Explained.{no_tokens}
+use Rattle.cq_told.proofs.Claims.{tokens_ok}
+use Rattle.cq_told.proofs.steps.text_telling.Goals as goal
+
+pub returns-in-Ok-clause-told : goal.returns-in-Ok-clause-told
+returns-in-Ok-clause-told g c =
+    tokens_ok c.args.depth (g.F.Folder.state c.args.folder.now).files c.args.text.now c.in-Ok.tokens.items c.as_slice-tokens.result.now
+    c.tokens_telling.result c.in-Ok.ensures.ok c.as_slice-tokens.ensures.value c.tokens_telling.ensures.told
+
+pub returns-in_ok-telling-in-Err-clause-told : goal.returns-in_ok-telling-in-Err-clause-told
+returns-in_ok-telling-in-Err-clause-told g c = no_tokens c.in-Err.refusal c.in-Err.ensures.refused c.in_ok-telling-in-Err.ensures

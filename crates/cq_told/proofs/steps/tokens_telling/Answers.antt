@@ -1,0 +1,11 @@
+use Rattle.cq_told.specs.Explained.{no_tree}
+use Rattle.cq_told.proofs.Claims.{program_ok}
+use Rattle.cq_told.proofs.steps.tokens_telling.Goals as goal
+
+pub returns-in-Ok-clause-told : goal.returns-in-Ok-clause-told
+returns-in-Ok-clause-told g c =
+    program_ok c.args.depth (g.F.Folder.state c.args.folder.now).files c.args.page.tokens.now c.in-Ok.program c.program_telling.result
+    c.in-Ok.ensures.ok c.program_telling.ensures.told
+
+pub returns-in_ok-telling-in-Err-clause-told : goal.returns-in_ok-telling-in-Err-clause-told
+returns-in_ok-telling-in-Err-clause-told g c = no_tree c.in-Err.refusal c.in-Err.ensures.refused c.in_ok-telling-in-Err.ensures
