@@ -160,14 +160,7 @@ pub fn append_rule(
 pub fn append_entry_rule(column: u32, field: &[u8], out: &mut Vec<u8>) -> Result<(), AllocError> {
     append_quoted(field, out)?;
     append(&[b" means nothing there.\n"], out)?;
-    append_entry_column(column, out)?;
-    append(
-        &[
-            b"  An export writes this file: take it from there as it is, or import the folder by import_csv,",
-            b" which doesn't read it.\n",
-        ],
-        out,
-    )
+    append_entry_column(column, out)
 }
 
 fn append_entry_column(column: u32, out: &mut Vec<u8>) -> Result<(), AllocError> {

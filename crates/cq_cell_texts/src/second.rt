@@ -1,6 +1,7 @@
 //! The first fault of a folder of the second format, with its file of nulls and entries.
 ghost use Rattle.std.specs.Prelude.{◌≡◌};
 
+use crate::bytes::append;
 use crate::folder::{append_file_faults, append_report, is_of_file};
 use crate::sheet::Sheet;
 use cq_base::Name;
@@ -9,6 +10,10 @@ use cq_import::{CsvRefusal, import2};
 use cq_io::Folder;
 use cq_theory::Schema;
 use std::alloc::{AllocError, Global};
+
+/// What there is to mend in the file of the nulls and the entries, in place of what the code says of other files.
+const MEND_ENTRIES: &[u8] =
+    b"To mend it: take this file from an export as it is, or import the folder by import_csv, which doesn't read it.\n";
 
 /// A fault of a file, which is named.
 #[derive(Drop)]
@@ -141,6 +146,7 @@ fn append_entries<F: Folder>(
         is_entries: true,
     };
     append_file_faults(&sheet, 0, &[fault_of(refused, 0)], out)?;
+    append(&[MEND_ENTRIES], out)?;
     Ok(())
 }
 
