@@ -3,6 +3,7 @@
 #![tactic(auto)]
 
 mod bytes;
+mod entries;
 mod folder;
 mod header;
 mod numbers;
