@@ -220,7 +220,7 @@ fn append_unknown_name(case: Case<'_>, out: &mut Vec<u8>) -> Result<(), AllocErr
     match wanted_at(&case.decl.body, case.place) {
         Some((name, wanted)) => {
             let near = near_used(case.book.alloc, case.env, name, wanted)?;
-            append_near(&near, out)
+            append_meant(near.as_ref(), out)
         }
         None => Ok(()),
     }
@@ -275,18 +275,5 @@ fn token_text(case: Case<'_>, token: &Token) -> Result<Vec<u8>, AllocError> {
 fn append_unknown(case: Case<'_>, unknown: &Unknown, out: &mut Vec<u8>) -> Result<(), AllocError> {
     let texts = one(case.book.alloc, name_text(case.book.alloc, &unknown.name)?)?;
     append_texts(case.book.alloc, Code::Unknown, texts.as_slice(), out)?;
-    append_near(&unknown.near, out)
-}
-
-/// Appends a name that may have been meant, if there is one.
-fn append_near(near: &Option<Name>, out: &mut Vec<u8>) -> Result<(), AllocError> {
-    match near {
-        Some(name) => {
-            out.extend_from_slice(b"  Is ")?;
-            append_name(name, out)?;
-            out.extend_from_slice(b" meant?\n")?;
-            Ok(())
-        }
-        None => Ok(()),
-    }
+    append_meant(unknown.near.as_ref(), out)
 }

@@ -13,6 +13,7 @@ mod codes;
 mod details;
 mod folders;
 mod limits;
+mod near;
 mod page;
 mod posed;
 mod steps;

@@ -1,24 +1,19 @@
 //! A file that isn't there, and the nearest of those that stand beside it.
-use crate::page::append_remedy;
 use crate::texts::append_name;
 use cq_base::{Name, NameRefusal};
 use cq_io::Listing;
 use cq_near::nearest;
-use cq_sentences::{Unread, append_filled};
 use std::alloc::{AllocError, Global};
 
-/// Appends that a file isn't there, and the nearest of those beside it.
-pub fn append_absent<F: Listing>(
+/// Appends the nearest of the paths beside this one, if one is near.
+pub fn append_beside<F: Listing>(
     alloc: Global,
     file: &str,
     folder: &F,
     out: &mut Vec<u8>,
 ) -> Result<(), AllocError> {
-    append_filled(Unread::Absent.sentence(), &[file.as_bytes()], out)?;
-    out.extend_from_slice(b"\n")?;
     let paths = folder.paths_beside(file)?;
-    append_nearest(alloc, file, paths.as_slice(), out)?;
-    append_remedy(Unread::Absent.remedy(), out)
+    append_nearest(alloc, file, paths.as_slice(), out)
 }
 
 /// Appends the nearest of some paths, if one is near.

@@ -11,9 +11,10 @@ ghost use Rattle.cq_told.specs.Explained.{IsGrammaticalPlace, IsLexicalPlace, Is
 use crate::broken::broken_telling;
 use crate::case::{Book, Case};
 use crate::codes::unread_of;
+use crate::near::append_beside;
 use crate::page::{Page, append_remedy};
 use crate::telling::{Telling, shown, telling_at, telling_at_token};
-use cq_io::{Folder, ReadRefusal};
+use cq_io::{Folder, Listing, ReadRefusal};
 use cq_lex::{LexRefusal, lex};
 use cq_parse::{ParseRefusal, parse};
 use cq_parts::has_few_parts;
@@ -28,7 +29,7 @@ const FILE_LIMIT: u64 = 8388608;
 
 /// Why the file of a name is refused, with models made to a depth: the line at the place of its first fault, under it a
 /// caret, and then in words what is wrong and what there is to mend. Nothing, where it isn't refused.
-pub fn explanation<F: Folder>(
+pub fn explanation<F: Folder + Listing>(
     alloc: Global,
     file: &str,
     depth: u32,
@@ -40,38 +41,48 @@ pub fn explanation<F: Folder>(
 {
     match folder.read(file, FILE_LIMIT) {
         Ok(text) => text_explanation(alloc, text.as_slice(), depth, folder),
-        Err(refusal) => unread_explanation(alloc, refusal, file),
+        Err(refusal) => unread_explanation(alloc, refusal, file, folder),
     }
 }
 
 /// That a file isn't read.
-fn unread_explanation(
+fn unread_explanation<F: Listing>(
     alloc: Global,
     refusal: ReadRefusal,
     file: &str,
+    folder: &F,
 ) -> Result<Vec<u8>, AllocError>
     ensures { refusal ≡ ReadRefusal.Memory → IsErr result }
 {
     let mut out = Vec::new(alloc);
     match refusal {
-        ReadRefusal::Absent => append_unread(Unread::Absent, file, &mut out)?,
-        ReadRefusal::TooLong => append_unread(Unread::TooLong, file, &mut out)?,
-        ReadRefusal::Failed => append_unread(Unread::Failed, file, &mut out)?,
+        ReadRefusal::Absent => append_unread(alloc, Unread::Absent, file, folder, &mut out)?,
+        ReadRefusal::TooLong => append_unread(alloc, Unread::TooLong, file, folder, &mut out)?,
+        ReadRefusal::Failed => append_unread(alloc, Unread::Failed, file, folder, &mut out)?,
         ReadRefusal::Memory => return Err(AllocError),
     }
     Ok(out)
 }
 
-/// Appends that a file isn't read.
-fn append_unread(unread: Unread, file: &str, out: &mut Vec<u8>) -> Result<(), AllocError> {
-    let name = file.as_bytes();
-    append_filled(unread.sentence(), &[name], out)?;
+/// Appends that a file isn't read, and of one that isn't there the nearest that is.
+fn append_unread<F: Listing>(
+    alloc: Global,
+    unread: Unread,
+    file: &str,
+    folder: &F,
+    out: &mut Vec<u8>,
+) -> Result<(), AllocError> {
+    append_filled(unread.sentence(), &[file.as_bytes()], out)?;
     out.extend_from_slice(b"\n")?;
+    match unread {
+        Unread::Absent => append_beside(alloc, file, folder, out)?,
+        Unread::TooLong | Unread::Failed => {}
+    }
     append_remedy(unread.remedy(), out)
 }
 
 /// Why a text is refused.
-fn text_explanation<F: Folder>(
+fn text_explanation<F: Folder + Listing>(
     alloc: Global,
     text: &[u8],
     depth: u32,
@@ -90,7 +101,7 @@ fn text_explanation<F: Folder>(
 }
 
 /// What is told of a text, if it breaks a rule.
-fn text_telling<F: Folder>(
+fn text_telling<F: Folder + Listing>(
     alloc: Global,
     text: &[u8],
     depth: u32,
@@ -128,7 +139,7 @@ fn lexical_telling(alloc: Global, refusal: LexRefusal) -> Result<Telling, AllocE
 }
 
 /// What is told of tokens, if they are no program within the limits, or one that breaks a rule.
-fn tokens_telling<F: Folder>(
+fn tokens_telling<F: Folder + Listing>(
     alloc: Global,
     page: Page<'_>,
     depth: u32,
@@ -181,7 +192,7 @@ fn grammatical_telling(
 }
 
 /// What is told of a program that breaks a rule.
-fn program_telling<F: Folder>(
+fn program_telling<F: Folder + Listing>(
     book: Book<'_>,
     depth: u32,
     folder: &mut F,
@@ -207,7 +218,7 @@ fn program_telling<F: Folder>(
 }
 
 /// What is told of the declaration at which a program stops.
-fn stop_telling<F: Folder>(
+fn stop_telling<F: Folder + Listing>(
     book: Book<'_>,
     stop: &Stop,
     depth: u32,
@@ -230,7 +241,7 @@ fn stop_telling<F: Folder>(
 }
 
 /// What is told of a fault of a declaration.
-fn fault_telling<F: Folder>(
+fn fault_telling<F: Folder + Listing>(
     book: Book<'_>,
     decl: &Decl,
     stop: &Stop,
@@ -255,21 +266,24 @@ fn fault_telling<F: Folder>(
             };
             broken_telling(case, reason, folder)
         }
-        Fault::Unread(file, cause) => lacking_telling(book.alloc, decl, file.as_str(), *cause),
+        Fault::Unread(file, cause) => {
+            lacking_telling(book.alloc, decl, file.as_str(), *cause, folder)
+        }
     }
 }
 
 /// That a file that a declaration reads isn't read.
-fn lacking_telling(
+fn lacking_telling<F: Listing>(
     alloc: Global,
     decl: &Decl,
     file: &str,
     cause: ReadCause,
+    folder: &F,
 ) -> Result<Telling, AllocError>
     ensures { IfOk result (λ telling. telling.place ≡ decl.now.place) }
 {
     let mut words = Vec::new(alloc);
-    append_unread(unread_of(cause), file, &mut words)?;
+    append_unread(alloc, unread_of(cause), file, folder, &mut words)?;
     Ok(Telling {
         place: decl.place,
         words,
