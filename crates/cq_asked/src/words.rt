@@ -34,8 +34,8 @@ fn push_copy(alloc: Global, words: &mut Vec<String>, word: &String) -> Result<()
     Ok(())
 }
 
-/// The file and the depth of a run's words, with `run` in front of them. Words that ask for no run, or choose a format in
-/// which is exported, give None.
+/// The file and the depth of a run's words, with `run` in front of them. Words that ask for no run, or choose a format
+/// in which is exported, give None.
 pub fn read_run_words<'a>(
     alloc: Global,
     words: &'a [String],

@@ -9,8 +9,8 @@ use std::alloc::{AllocError, Global};
 /// The most faults that are told.
 pub const MOST_FAULTS: usize = 100;
 
-/// The first fault that an import tells of the text, and those of the other records, each by itself, in order. What a record
-/// says of labels is not compared with the others but for this first fault.
+/// The first fault that an import tells of the text, and those of the other records, each by itself, in order. What a
+/// record says of labels is not compared with the others but for this first fault.
 pub fn entry_faults(
     alloc: Global,
     typeside: &Typeside,

@@ -241,8 +241,8 @@ fn append_entries<F: Folder>(
 }
 
 /// Reads the files of a folder that has a file of nulls and entries too, and appends the faults of the entities' files,
-/// each read by itself. Where there are none, these are told: the first fault of an import, those of the other records of
-/// the same file of nulls and entries, and those of cells that are faults whatever labels are given.
+/// each read by itself. Where there are none, these are told: the first fault of an import, those of the other records
+/// of the same file of nulls and entries, and those of cells that are faults whatever labels are given.
 pub fn append_folder2<F: Folder>(
     alloc: Global,
     folder: &mut F,

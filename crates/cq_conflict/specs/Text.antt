@@ -22,7 +22,8 @@ module _ (S : Schema) (P : Presentation) where
     abbrev pub line_of : ℕ × Told → List ℕ
     line_of numbered =
         with_end
-        (codes "  " ++ ordinal numbered.0 ++ codes ". " ++ step_text (slice_get steps numbered.1.step) ++ codes "    " ++ note_at notes numbered.0)
+        (codes "  " ++ ordinal numbered.0 ++ codes ". " ++ step_text (slice_get steps numbered.1.step)
+        ++ codes "    " ++ note_at notes numbered.0)
 
     abbrev pub told_lines : List Told → List ℕ
     told_lines told = flat_map line_of (enumerate_from 0 told)

@@ -130,8 +130,8 @@ fn add_part<F: Folder>(
     Ok(())
 }
 
-/// The generators for whose records the files of a part are read: those of all told equations, where the part is what is
-/// explained, and else those of its own equations that are given.
+/// The generators for whose records the files of a part are read: those of all told equations, where the part is what
+/// is explained, and else those of its own equations that are given.
 fn wanted_of_part(
     alloc: Global,
     telling: &Telling,

@@ -3,8 +3,8 @@ use cq_base::Name;
 use cq_syntax::{InstanceLit, SchemaLit};
 use cq_theory::{Presentation, Schema};
 
-/// Where the equations of one presentation are written: in a literal of the text, in the cells of the files of a folder,
-/// in the rows of tables that an operation made, or nowhere that is known.
+/// Where the equations of one presentation are written: in a literal of the text, in the cells of the files of a
+/// folder, in the rows of tables that an operation made, or nowhere that is known.
 #[derive(Clone, Copy)]
 pub enum Source<'a> {
     Literal(&'a InstanceLit),
@@ -47,8 +47,8 @@ pub struct Rules<'a> {
     pub literal: Option<&'a SchemaLit>,
 }
 
-/// What is explained: steps of a derivation over a presentation, whose equations are those of the parts, or their images,
-/// one part behind the other, and then the rest.
+/// What is explained: steps of a derivation over a presentation, whose equations are those of the parts, or their
+/// images, one part behind the other, and then the rest.
 #[derive(Clone, Copy)]
 pub struct Explained<'a> {
     pub schema: &'a Schema,

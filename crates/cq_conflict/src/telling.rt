@@ -70,8 +70,8 @@ fn push_lines<F: Folder>(
     text: &mut Vec<u8>,
 ) -> Result<(), AllocError>
     ensures files { (F.state folder.new).files ≡ (F.state folder.old).files }
-    ensures told { OnOk result (TellsLines telling.now.explained.now.schema.now telling.now.steps.now telling.now.told.now
-        text.old.items text.new.items) }
+    ensures told { OnOk result (TellsLines telling.now.explained.now.schema.now telling.now.steps.now
+        telling.now.told.now text.old.items text.new.items) }
 {
     let Found { lines, labels } = find_parts(alloc, telling, folder)?;
     let presentation = shown_for(alloc, telling, labels)?;

@@ -45,7 +45,8 @@ pub record IsStepFrom (m : Content) (from x : Member) : Type 0 where
   pub named : x.name ≡ one_further from.name key
 
 -- the rows to which the first k keys lead from a member's row are reached, and each new member is such a row
-pub record ExpandsTo (m : Content) (from : Member) (k : ℕ) (old : List Member) (marks : List Bool) (new : List Member) (marks' : List Bool) : Type 0 where
+pub record ExpandsTo (m : Content) (from : Member) (k : ℕ)
+    (old : List Member) (marks : List Bool) (new : List Member) (marks' : List Bool) : Type 0 where
   pub marked : length marks' ≡ length marks
   pub kept : (r : ℕ) → IsReached marks r → IsReached marks' r
   pub members : (r : ℕ) → IsIn old r → IsIn new r
@@ -60,7 +61,8 @@ Expands m from old marks new marks' = ExpandsTo m from (length (keys_of m)) old 
 pub record IsNextOf (m : Content) (n : ℕ) (old : List Member) (marks : List Bool) (new : List Member) (marks' : List Bool) : Type 0 where
   pub marked : length marks' ≡ length marks
   pub kept : (r : ℕ) → IsReached marks r → IsReached marks' r
-  pub steps : (i : ℕ) (x : Member) → slice_get new i ≡ Some x → (j : ℕ) × (from : Member) × (slice_get old j ≡ Some from) × IsStepFrom m from x
+  pub steps : (i : ℕ) (x : Member) → slice_get new i ≡ Some x
+      → (j : ℕ) × (from : Member) × (slice_get old j ≡ Some from) × IsStepFrom m from x
   pub listed : (r : ℕ) → IsReached marks' r → IsReached marks r ⊎ IsIn new r
   pub cells : (j key s : ℕ) (from : Member) → j < n → slice_get old j ≡ Some from → cell_of m from.row key ≡ Some s → IsReached marks' s
 

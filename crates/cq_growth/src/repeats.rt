@@ -18,7 +18,8 @@ fn twice_at_end(path: &[u32], count: usize) -> Option<&[u32]>
 
 /// The fewest keys, at least one, that a path repeats at its end: it ends with them twice, and with no fewer ones.
 pub fn repeated_keys(path: &[u32]) -> Option<&[u32]>
-    ensures { MatchOption result ((block : List ℕ) → IsTwice path.now block → ⊥) (λ block. IsShortest path.now block.now) }
+    ensures { MatchOption result ((block : List ℕ) → IsTwice path.now block → ⊥)
+        (λ block. IsShortest path.now block.now) }
 {
     for count in 1..path.len() / 2 + 1 {
         if let Some(block) = twice_at_end(path, count) {

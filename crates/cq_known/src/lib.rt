@@ -3,8 +3,8 @@
 //! A *use* is a name that something names, with the *role* in which it does (`role`). What a part of a literal names is
 //! looked at literal by literal (`literals`, its terms in `terms`), over the names that may stand there: those of the
 //! literal itself and of what its declaration uses (`scope`). The uses of which no name is known are told apart, the
-//! first of them is sought among the tokens (`spelled`), and the nearest known name beside it (`unknown`). The names that
-//! a declaration uses as a whole, of schemas and the like, are in `used`.
+//! first of them is sought among the tokens (`spelled`), and the nearest known name beside it (`unknown`). The names
+//! that a declaration uses as a whole, of schemas and the like, are in `used`.
 #![tactic(auto)]
 
 mod literals;

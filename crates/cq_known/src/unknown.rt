@@ -20,8 +20,8 @@ pub struct Unknown {
     pub near: Option<Name>,
 }
 
-/// The first name of the part at a place, in the order of the text, that isn't declared where it may stand, at the place
-/// that `first_spelled` gives. None: each is declared, or the body is no literal.
+/// The first name of the part at a place, in the order of the text, that isn't declared where it may stand, at the
+/// place that `first_spelled` gives. None: each is declared, or the body is no literal.
 pub fn unknown_in_part(
     alloc: Global,
     env: &Environment,

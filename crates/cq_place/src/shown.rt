@@ -2,7 +2,8 @@
 ghost use Rattle.std.specs.Prelude.{◌≡◌, ◌++◌, ◌+◌, ◌-◌, ◌<◌, ◌≤◌, OnOk, decimal, drop, length, take};
 ghost use Rattle.std.specs.List.{prefix_len};
 ghost use Rattle.cq_place.specs.Lines.{before_column, from_column};
-ghost use Rattle.cq_place.specs.Shown.{back_shown, first_part, front_end, front_mark, inside_len, is_inside, last_part, lower};
+ghost use Rattle.cq_place.specs.Shown.{back_shown, first_part, front_end, front_mark, inside_len, is_inside};
+ghost use Rattle.cq_place.specs.Shown.{last_part, lower};
 ghost use Rattle.cq_place.specs.Shown.{shown_at, upper};
 
 use crate::lines::line_of;

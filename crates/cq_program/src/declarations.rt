@@ -104,8 +104,8 @@ fn declare_all<F: Folder>(
     Ok(env)
 }
 
-/// Adds the name of a declaration, with what it stands for, or tells the first rule that it breaks; then each name stands
-/// for what it stood for.
+/// Adds the name of a declaration, with what it stands for, or tells the first rule that it breaks; then each name
+/// stands for what it stood for.
 pub fn declare<F: Folder>(
     alloc: Global,
     env: &mut Environment,

@@ -2,8 +2,8 @@
 //!
 //! Presentations are glued part by part (`gluing`). A `Gluing` holds the sorts of the generators so far and the
 //! equations, and each further presentation is appended with its generators behind those (`shifting`). Coproducts and
-//! pushouts end in one call, which tests the limit on terms, names the generators and builds; the presentation of a pushout
-//! is also made alone.
+//! pushouts end in one call, which tests the limit on terms, names the generators and builds; the presentation of a
+//! pushout is also made alone.
 #![tactic(auto)]
 
 pub mod coproducts;

@@ -73,9 +73,10 @@ pub fn pushout(
     gluing.build(alloc, schema, depth)
 }
 
-/// The presentation of which `pushout` makes the model: those of two instances, `left` and `right`, side by side, with one
-/// equation for each generator of the instance from which a transform goes to either. `TooLarge` is answered exactly
-/// where it would have over 16,000,000 generators or a term of over 1,024 symbols, and `Memory` for want of memory.
+/// The presentation of which `pushout` makes the model: those of two instances, `left` and `right`, side by side, with
+/// one equation for each generator of the instance from which a transform goes to either. `TooLarge` is answered
+/// exactly where it would have over 16,000,000 generators or a term of over 1,024 symbols, and `Memory` for want of
+/// memory.
 pub fn pushout_presentation(
     alloc: Global,
     first: &Transform,

@@ -16,8 +16,8 @@ pub fn append_filled(sentence: &str, texts: &[&[u8]], out: &mut Vec<u8>) -> Resu
     Ok(())
 }
 
-/// Appends a byte of a sentence, or in its place the first of the texts behind those that are used, and answers how many
-/// are then used.
+/// Appends a byte of a sentence, or in its place the first of the texts behind those that are used, and answers how
+/// many are then used.
 fn append_byte(
     byte: u8,
     texts: &[&[u8]],

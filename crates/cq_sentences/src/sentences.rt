@@ -1,5 +1,5 @@
-//! What is said of each code: one sentence, and what there is to mend, to follow the words `To mend it:`. A `#` stands for
-//! a name or a number that is filled in.
+//! What is said of each code: one sentence, and what there is to mend, to follow the words `To mend it:`. A `#` stands
+//! for a name or a number that is filled in.
 //!
 //! The codes are told apart by their tens, as the table of refusals in `docs/LANGUAGE.md` has them. `docs/sentences.py`
 //! compares this file with the sentences there.

@@ -4,8 +4,8 @@
 //! A declaration is stated over an *environment* (`environment`): the declared names with what each stands for, in a
 //! table. `state` (`stating`) tests that its name is new, and then checks its form, the names that it uses (`used`) and
 //! its parts (`posing`, and form by form `colimits`, `queries`, `moves`, `gluing`, `transforms`, `movements`). By which
-//! operation an instance was declared is kept with its name (`moved`), for transforms that go along. A composed query is
-//! made when a declaration first uses it, and kept (`making`). What is left is a
+//! operation an instance was declared is kept with its name (`moved`), for transforms that go along. A composed query
+//! is made when a declaration first uses it, and kept (`making`). What is left is a
 //! *statement*: a theory, a mapping or a query whose duties are to be derived, a presentation whose model is to be
 //! made, instances that are to be moved or glued, or a transform; or it is a folder of files, and `read_stated` reads
 //! them (`cq_import`) and gives the presentation that they pose. The parts of a literal are copied from the tree once,

@@ -133,8 +133,8 @@ enum Way {
     Fails(TermRefusal),
 }
 
-/// Foreign keys, with and without the names of entities between them; an attribute, and an entity, alone; an entity that
-/// isn't where the path has come, an attribute before the end, and a name that isn't declared.
+/// Foreign keys, with and without the names of entities between them; an attribute, and an entity, alone; an entity
+/// that isn't where the path has come, an attribute before the end, and a name that isn't declared.
 static PATHS: [(&[&str], Way); 7] = [
     (
         &["worksIn", "secretary"],

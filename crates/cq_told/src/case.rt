@@ -13,8 +13,8 @@ pub struct Book<'a> {
     pub program: &'a Program,
 }
 
-/// A declaration of a file that breaks a rule at a place, over the names that are declared before it, with models made to
-/// a depth.
+/// A declaration of a file that breaks a rule at a place, over the names that are declared before it, with models made
+/// to a depth.
 #[derive(Clone, Copy)]
 pub struct Case<'a> {
     pub book: Book<'a>,

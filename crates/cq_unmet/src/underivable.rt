@@ -22,9 +22,9 @@ pub fn append_duty(out: &mut Vec<u8>, schema: &Schema, asked: &Asked) -> Result<
     Ok(())
 }
 
-/// Appends the two rows, by their least names, or the two values in which the sides of a duty differ in the model of its
-/// presentation, which is made of rows up to a depth of at most 64. Nothing is appended where there is no such model,
-/// and where the duty is derivable.
+/// Appends the two rows, by their least names, or the two values in which the sides of a duty differ in the model of
+/// its presentation, which is made of rows up to a depth of at most 64. Nothing is appended where there is no such
+/// model, and where the duty is derivable.
 pub fn append_underivable(
     alloc: Global,
     out: &mut Vec<u8>,

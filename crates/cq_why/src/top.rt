@@ -10,10 +10,10 @@ use cq_io::{Folder, Listing, Sink};
 use cq_run::Status;
 use std::alloc::Global;
 
-/// Says why the file is refused that the words name: writes the line that a run of `cqlrun` with these words would write,
-/// or `accepted`, and then, of a file that is refused or not read, what is wrong and what there is to mend. The status is
-/// that of the run. Words that name no file get the text that `clap` has for them, with the status of such a run. All is
-/// made in memory before the first byte is written: for want of memory nothing is.
+/// Says why the file is refused that the words name: writes the line that a run of `cqlrun` with these words would
+/// write, or `accepted`, and then, of a file that is refused or not read, what is wrong and what there is to mend. The
+/// status is that of the run. Words that name no file get the text that `clap` has for them, with the status of such a
+/// run. All is made in memory before the first byte is written: for want of memory nothing is.
 ///
 /// What each status says stands with the clause `gives`; what follows the line is free, but for what the crates below
 /// `cq_told` say of it.

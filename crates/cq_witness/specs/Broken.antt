@@ -20,7 +20,8 @@ module _ (source target : Name) (i j : InstanceData) where
   -- the equation of the one instance, by its number from 0, and its image in the other
   abbrev pub kept_text : ℕ → Equation → Equation → List ℕ
   kept_text n equation image =
-      words phrase.Equation ++ ordinal n ++ words phrase.Of ++ named_text source i equation ++ words phrase.Image ++ named_text target j image
+      words phrase.Equation ++ ordinal n ++ words phrase.Of ++ named_text source i equation
+      ++ words phrase.Image ++ named_text target j image
 
 -- The equation with this number, from 0, is told with its image by the parts, and the two rows or values to which the image's sides
 -- lead. Nothing is told where there is no such equation, and where the parts are too many.

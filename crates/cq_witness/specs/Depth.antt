@@ -46,7 +46,8 @@ module _ (S : Schema) where
   -- the path equation that ends this
   abbrev pub rule_text : List ℕ → List ℕ
   rule_text block =
-      words phrase.Indent ++ equation_text S (over S (path_source S.keys block)) (path_equation (block ++ block) block) ++ words phrase.LineEnd
+      words phrase.Indent ++ equation_text S (over S (path_source S.keys block)) (path_equation (block ++ block) block)
+      ++ words phrase.LineEnd
 
   -- what there is to mend where keys are repeated, and where none are
   abbrev pub end_text : Presentation → EntTerm → List ℕ

@@ -3,7 +3,8 @@ ghost use Rattle.std.specs.Prelude.{List, ℕ, ◌≡◌, ◌≤◌, ◌++◌, E
 ghost use Rattle.cq_rows.specs.Saturated.{IsSaturated, SomeWide};
 ghost use Rattle.cq_rows.specs.declared.grow.RowsRefusal.TheVariants.{TooManyRows};
 ghost use Rattle.cq_theory.specs.Presentation.{IsPresentation};
-ghost use Rattle.cq_witness.specs.Depth.{edge_source, end_text, first_key as first_key_of, first_step as step_of_term, new_text, other_text};
+ghost use Rattle.cq_witness.specs.Depth.{edge_source, end_text, first_key as first_key_of};
+ghost use Rattle.cq_witness.specs.Depth.{first_step as step_of_term, new_text, other_text};
 ghost use Rattle.cq_witness.specs.Depth.{path_source as source_of_path, repeat_text, rule_text, IsTermTold};
 ghost use Rattle.cq_witness.specs.Depth.{TellsDepth};
 

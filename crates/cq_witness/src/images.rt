@@ -1,5 +1,6 @@
 //! The images of generators by the parts of a transform, and the image of an equation by them.
-ghost use Rattle.std.specs.Prelude.{◌≡◌, ◌≤◌, ◌<◌, IfOk, MatchOption, length, option_and_then, option_copied, slice_get};
+ghost use Rattle.std.specs.Prelude.{◌≡◌, ◌≤◌, ◌<◌, IfOk, MatchOption, length, option_and_then, option_copied};
+ghost use Rattle.std.specs.Prelude.{slice_get};
 ghost use Rattle.cq_base.specs.Names.{number_of};
 ghost use Rattle.cq_scope.specs.Firsts.{AreFirstsOf};
 ghost use Rattle.cq_terms.specs.Generators.{names_of, sorts_of};

@@ -66,8 +66,8 @@ impl Look {
         }
     }
 
-    /// The image of a transform at a place: the instance where it starts is what it is given for, and its terms are over
-    /// that where it ends.
+    /// The image of a transform at a place: the instance where it starts is what it is given for, and its terms are
+    /// over that where it ends.
     pub fn at_transform(
         &mut self,
         env: &Environment,
