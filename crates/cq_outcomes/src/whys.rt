@@ -10,7 +10,7 @@
 use crate::case::{ended, files_of, told_by, words_of};
 use crate::entry::{Entry, Part, cut};
 use crate::tally::Tally;
-use cq_io::{Folder, MemFolder, MemSink, Sink};
+use cq_io::{Folder, Listing, MemFolder, MemSink, Sink};
 use cq_run::Status;
 use cq_why::why;
 use std::alloc::{AllocError, Global};
@@ -41,7 +41,7 @@ fn came(alloc: Global, entry: Entry<'_>) -> Result<String, AllocError> {
 }
 
 /// Tells why, and answers the status. Its caller sees no clause: it only compares what is told.
-pub fn tell<F: Folder, K: Sink>(
+pub fn tell<F: Folder + Listing, K: Sink>(
     alloc: Global,
     words: &[String],
     folder: &mut F,
