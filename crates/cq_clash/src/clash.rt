@@ -10,7 +10,7 @@ use crate::parts::{Asked, push_glued, push_image, push_own, push_parts};
 use crate::writing::source_of;
 use cq_base::Name;
 use cq_conflict::{Constants, Rest};
-use cq_instance::Instance;
+use cq_instance::{Instance, Transform};
 use cq_io::Folder;
 use cq_lazy::LazyQuery;
 use cq_mapping::Mapping;
@@ -182,9 +182,11 @@ fn push_pushout<F: Folder>(
     ensures told { IfOk result (Tells told.now.constants.least.now told.now.constants.greater.now text.old.items
         text.new.items) }
 {
+    let first: &Transform = &left.transform;
+    let second: &Transform = &right.transform;
     let lefts: &Instance = &left.ends.finish.instance;
     let rights: &Instance = &right.ends.finish.instance;
-    match pushout_presentation(told.alloc, &left.transform, &right.transform, lefts, rights) {
+    match pushout_presentation(told.alloc, first, second, lefts, rights) {
         Ok(presentation) => {
             let start = &left.ends.start;
             let asked = told.asked(&start.schema, start.instance.schema(), &presentation);
