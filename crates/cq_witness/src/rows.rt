@@ -1,14 +1,11 @@
 //! Which rows are too many.
 ghost use Rattle.std.specs.Prelude.{ℕ, ◌≡◌, ◌≤◌, ◌++◌, OnOk, length, slice_get};
 ghost use Rattle.cq_tables.specs.Content.{entities_of, IsWhole};
-ghost use Rattle.cq_growth.specs.Limits.{IsLastWithin};
 ghost use Rattle.cq_text.specs.Transcript.{name_or_empty};
 ghost use Rattle.cq_theory.specs.Presentation.{IsPresentation};
-ghost use Rattle.cq_theory.specs.declared.presentation.Presentation.{Presentation as Presented};
-ghost use Rattle.cq_witness.specs.Rows.{count_text, most_text, next_text, TellsRows};
+ghost use Rattle.cq_witness.specs.Rows.{count_text, most_text, wide_text, TellsRows, TellsWithin};
 
 use crate::phrases::{Phrase, append_phrase};
-use cq_explain::push_ordinal;
 use cq_growth::{Growth, Most, Within, last_within, most_rows};
 use cq_text::push_number;
 use cq_theory::{Presentation, Schema};
@@ -55,17 +52,12 @@ fn append_most(
     Ok(())
 }
 
-/// Appends that the rows are too many at the next depth, and what there is to mend.
-fn append_next(
-    out: &mut Vec<u8>,
-    schema: &Schema,
-    depth: u32,
-    most: &Most,
-) -> Result<(), AllocError>
-    ensures { OnOk result (out.new.items ≡ out.old.items ++ next_text schema.now depth most.now) }
+/// Appends that the rows are too many at a depth, and what there is to mend.
+fn append_wide(out: &mut Vec<u8>, schema: &Schema, wide: u32, most: &Most) -> Result<(), AllocError>
+    ensures { OnOk result (out.new.items ≡ out.old.items ++ wide_text schema.now wide most.now) }
 {
     append_phrase(out, Phrase::WithDepth)?;
-    push_ordinal(depth as u64, out)?;
+    push_number(u64::from(wide), out)?;
     append_phrase(out, Phrase::TooMany)?;
     append_entity(out, schema, most.entity)?;
     append_phrase(out, Phrase::Split)?;
@@ -80,29 +72,30 @@ fn entity_count(schema: &Schema) -> u32
     schema.entities.len() as u32
 }
 
-/// Appends the last depth at which rows are not too many, with the entity that has most.
+/// Appends a depth at which rows are not too many, with the entity that has most, and one at which they are.
 fn append_within(
     alloc: Global,
     out: &mut Vec<u8>,
     schema: &Schema,
     within: &Within,
+    wide: u32,
 ) -> Result<(), AllocError>
     requires whole { IsWhole within.now.rows.tables }
     requires entities { entities_of within.now.rows.tables ≡ length schema.now.entities }
-    ensures { OnOk result ((P : Presented) (depth : ℕ) → IsLastWithin schema.now P depth within.now
-        → TellsRows schema.now P depth out.old.items out.new.items) }
+    ensures { OnOk result (TellsWithin schema.now within.now wide out.old.items out.new.items) }
 {
     let entities = entity_count(schema);
     let Some(most) = most_rows(alloc, &within.rows.tables, entities)? else {
         return Ok(());
     };
     append_most(out, schema, within.depth, &most)?;
-    append_next(out, schema, within.depth, &most)?;
+    append_wide(out, schema, wide, &most)?;
     Ok(())
 }
 
 /// Appends how the rows of a presentation become too many up to a depth, of at most 64: the entity that has most at the
-/// last depth at which they aren't, and how many. Nothing is appended where they are at no depth too many.
+/// last depth at which they aren't, and how many; or at an earlier one, where the rows of the next would take too much
+/// memory. Nothing is appended where they are at no depth too many.
 pub fn append_rows(
     alloc: Global,
     out: &mut Vec<u8>,
@@ -118,7 +111,11 @@ pub fn append_rows(
     match &grown {
         Growth::Kept => Ok(()),
         Growth::Passed(within) => {
-            append_within(alloc, out, schema, within)?;
+            append_within(alloc, out, schema, within, within.depth + 1)?;
+            Ok(())
+        }
+        Growth::Later(within) => {
+            append_within(alloc, out, schema, within, depth)?;
             Ok(())
         }
         Growth::AtOnce => {

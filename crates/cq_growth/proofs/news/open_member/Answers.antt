@@ -1,1 +1,0 @@
-use Rattle.cq_growth.proofs.news.open_member.Goals as goal

@@ -1,6 +1,6 @@
 use Rattle.std.proofs.Common.{refl, subst}
 use Rattle.cq_growth.specs.Limits.{TellsGrowth}
-use Rattle.cq_witness.specs.Rows.{at_once, kept}
+use Rattle.cq_witness.specs.Rows.{at_once, kept, later, passed}
 use Rattle.cq_witness.proofs.rows.append_rows.Goals as goal
 
 pub returns-in-Kept : goal.returns-in-Kept
@@ -16,7 +16,17 @@ append_within-requires c =
 pub returns-in-Passed : goal.returns-in-Passed
 returns-in-Passed c =
     let last = subst (TellsGrowth c.args.schema.now c.args.presentation.now c.args.depth) c.in-Passed.is c.in_ok-grown.ensures in
-    c.in_ok-append_within-in-Passed.ensures c.args.presentation.now c.args.depth last
+    passed c.in-Passed.within last c.in_ok-append_within-in-Passed.ensures
+
+pub append_within-requires-in-Later : goal.append_within-requires-in-Later
+append_within-requires-in-Later c =
+    let last = subst (TellsGrowth c.args.schema.now c.args.presentation.now c.args.depth) c.in-Later.is c.in_ok-grown.ensures in
+    record { whole = last.rows.whole; entities = last.rows.entities }
+
+pub returns-in-Later : goal.returns-in-Later
+returns-in-Later c =
+    let last = subst (TellsGrowth c.args.schema.now c.args.presentation.now c.args.depth) c.in-Later.is c.in_ok-grown.ensures in
+    later c.in-Later.within last c.in_ok-append_within-in-Later.ensures
 
 pub returns : goal.returns
 returns c =

@@ -1,5 +1,4 @@
 use Rattle.std.proofs.Common.{◌++◌, refl, sym, ◌∙◌}
-use Rattle.cq_theory.specs.Tables.{row_of}
 use Rattle.cq_witness.specs.Sides.{rows, names_text}
 use Rattle.cq_witness.proofs.Meant.{same_row}
 use Rattle.cq_witness.proofs.sides.append_rows.Goals as goal
