@@ -15,6 +15,9 @@ mod terms;
 mod unknown;
 mod used;
 
+pub use literals::{joined_name, schema_of};
+pub use role::Kind;
 pub use spelled::first_spelled;
+pub use terms::has_spot;
 pub use unknown::{Unknown, unknown_in_part};
 pub use used::{Wanted, kind_of, known_as, near_used, wanted_at};

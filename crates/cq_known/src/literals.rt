@@ -8,6 +8,7 @@ use cq_base::Place;
 use cq_stating::Environment;
 use cq_syntax::{Body, InstanceExp, MappingExp, QueryExp, SchemaExp, TransformExp};
 use std::alloc::{AllocError, Global};
+pub use theories::{joined_name, schema_of};
 
 /// The uses of the part at a place, where the body of a declaration is a literal, over the names that are known there.
 pub fn look_at(

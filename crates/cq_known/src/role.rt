@@ -16,6 +16,22 @@ pub enum Kind {
     Part,
 }
 
+impl Kind {
+    /// The kind in words, with its article.
+    pub fn words(self) -> &'static str {
+        match self {
+            Kind::Type => "a type",
+            Kind::Entity => "an entity",
+            Kind::Key => "a foreign key",
+            Kind::Attribute => "an attribute",
+            Kind::Function => "a function",
+            Kind::Generator => "a generator or a variable",
+            Kind::Constant => "a constant",
+            Kind::Part => "a schema that is joined",
+        }
+    }
+}
+
 /// On which side of a mapping, query or transform: where its terms and images are, or what it is given for. Other
 /// literals have one side.
 #[derive(Clone, Copy, Debug, PartialEq, Eq)]

@@ -8,10 +8,11 @@ ghost use Rattle.cq_told.specs.Explained.{HasDerived, IsShownOf};
 use crate::case::Case;
 use crate::codes::code_of;
 use crate::details::details_of;
+use crate::misfits::{append_double_name, append_miscounted, append_missorted};
 use crate::near::append_meant;
-use crate::page::{append_remedy, append_sentence, append_where, has_remedy};
+use crate::page::{append_line, append_remedy, append_where, has_remedy};
 use crate::telling::{Telling, one_text};
-use crate::texts::{append_number, name_text, number_text, quoted_text};
+use crate::texts::{append_number, name_text, number_text, one, quoted_text, three, two};
 use cq_base::{Name, Place};
 use cq_io::Folder;
 use cq_known::{Unknown, known_as, near_used, unknown_in_part, wanted_at};
@@ -106,7 +107,20 @@ fn append_rule(case: Case<'_>, reason: &Reason, out: &mut Vec<u8>) -> Result<(),
         Reason::WrongOperand => append_named(case, Code::WrongOperand, out),
         Reason::Duplicate => append_named(case, Code::Duplicate, out),
         Reason::Unknown => append_named(case, Code::Unknown, out),
-        _ => append_plain(case, reason, out),
+        _ => {
+            append_plain(case, reason, out)?;
+            append_misfit(case, reason, out)
+        }
+    }
+}
+
+/// Appends what of the part doesn't fit, or would stand twice, where this is the reason.
+fn append_misfit(case: Case<'_>, reason: &Reason, out: &mut Vec<u8>) -> Result<(), AllocError> {
+    match reason {
+        Reason::WrongCount => append_miscounted(case, out),
+        Reason::WrongSort => append_missorted(case, out),
+        Reason::NameClash(first, second) => append_double_name(case, *first, *second, out),
+        _ => Ok(()),
     }
 }
 
@@ -123,11 +137,7 @@ pub fn append_texts(
     texts: &[Vec<u8>],
     out: &mut Vec<u8>,
 ) -> Result<(), AllocError> {
-    let mut slices = Vec::new(alloc);
-    for text in texts {
-        slices.push(text.as_slice())?;
-    }
-    append_sentence(code, slices.as_slice(), out)
+    append_line(alloc, code.sentence(), texts, out)
 }
 
 /// The texts of a reason, as its sentence names them.
@@ -161,14 +171,6 @@ fn numbers(alloc: Global, first: u64, second: u64) -> Result<Vec<Vec<u8>>, Alloc
     two(alloc, first, second)
 }
 
-fn one(alloc: Global, text: Vec<u8>) -> Result<Vec<Vec<u8>>, AllocError> {
-    Ok(vec![in alloc; text]?)
-}
-
-fn two(alloc: Global, first: Vec<u8>, second: Vec<u8>) -> Result<Vec<Vec<u8>>, AllocError> {
-    Ok(vec![in alloc; first, second]?)
-}
-
 /// The texts of a reason that is told of a file: a record, a column and the file, as far as there are some.
 fn file_texts(alloc: Global, reason: &Reason) -> Result<Vec<Vec<u8>>, AllocError> {
     match reason {
@@ -182,7 +184,7 @@ fn file_texts(alloc: Global, reason: &Reason) -> Result<Vec<Vec<u8>>, AllocError
             let record = number_text(alloc, u64::from(*record))?;
             let column = number_text(alloc, u64::from(*column))?;
             let file = Vec::from_slice(alloc, file.as_slice())?;
-            Ok(vec![in alloc; record, column, file]?)
+            three(alloc, record, column, file)
         }
         _ => Ok(Vec::new(alloc)),
     }
@@ -239,7 +241,7 @@ fn append_wrong_kind(case: Case<'_>, out: &mut Vec<u8>) -> Result<(), AllocError
     };
     let kind = Vec::from_slice(alloc, kind.as_bytes())?;
     let wanted = Vec::from_slice(alloc, wanted.words().as_bytes())?;
-    let texts = vec![in alloc; name_text(alloc, name)?, kind, wanted]?;
+    let texts = three(alloc, name_text(alloc, name)?, kind, wanted)?;
     append_texts(alloc, Code::WrongKind, texts.as_slice(), out)
 }
 

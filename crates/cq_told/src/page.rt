@@ -4,7 +4,7 @@ use cq_base::Place;
 use cq_lex::Token;
 use cq_sentences::{Code, append_filled};
 use cq_syntax::{Body, Decl};
-use std::alloc::AllocError;
+use std::alloc::{AllocError, Global};
 
 /// The bytes and the tokens of a file.
 #[derive(Clone, Copy)]
@@ -37,6 +37,22 @@ impl<'a> Page<'a> {
 /// Appends the sentence of a code with its texts, in a line.
 pub fn append_sentence(code: Code, texts: &[&[u8]], out: &mut Vec<u8>) -> Result<(), AllocError> {
     append_filled(code.sentence(), texts, out)?;
+    out.extend_from_slice(b"\n")?;
+    Ok(())
+}
+
+/// Appends a line with these texts in the place of each `#`.
+pub fn append_line(
+    alloc: Global,
+    line: &str,
+    texts: &[Vec<u8>],
+    out: &mut Vec<u8>,
+) -> Result<(), AllocError> {
+    let mut slices = Vec::new(alloc);
+    for text in texts {
+        slices.push(text.as_slice())?;
+    }
+    append_filled(line, slices.as_slice(), out)?;
     out.extend_from_slice(b"\n")?;
     Ok(())
 }

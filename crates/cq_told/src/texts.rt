@@ -32,3 +32,23 @@ pub fn quoted_text(alloc: Global, bytes: &[u8]) -> Result<Vec<u8>, AllocError> {
     push_quoted(bytes, &mut text)?;
     Ok(text)
 }
+
+/// A list of one text.
+pub fn one(alloc: Global, text: Vec<u8>) -> Result<Vec<Vec<u8>>, AllocError> {
+    Ok(vec![in alloc; text]?)
+}
+
+/// A list of two texts.
+pub fn two(alloc: Global, first: Vec<u8>, second: Vec<u8>) -> Result<Vec<Vec<u8>>, AllocError> {
+    Ok(vec![in alloc; first, second]?)
+}
+
+/// A list of three texts.
+pub fn three(
+    alloc: Global,
+    first: Vec<u8>,
+    second: Vec<u8>,
+    third: Vec<u8>,
+) -> Result<Vec<Vec<u8>>, AllocError> {
+    Ok(vec![in alloc; first, second, third]?)
+}

@@ -147,11 +147,9 @@ impl Look {
         part: &Name,
         name: &Name,
     ) -> Result<(), AllocError> {
-        let text = format!(in alloc; "{}_{}", part.as_str(), name.as_str())?;
-        match Name::new(alloc, text.as_str()) {
-            Ok(joined) => self.know(Side::Terms, kind, &joined),
-            Err(NameRefusal::Long) => Ok(()),
-            Err(NameRefusal::Memory) => Err(AllocError),
+        match joined_name(alloc, part, name)? {
+            Some(joined) => self.know(Side::Terms, kind, &joined),
+            None => Ok(()),
         }
     }
 
@@ -165,6 +163,16 @@ impl Look {
             }
         }
         Ok(())
+    }
+}
+
+/// The joined name of an entity, a foreign key or an attribute of a part, unless it is too long.
+pub fn joined_name(alloc: Global, part: &Name, name: &Name) -> Result<Option<Name>, AllocError> {
+    let text = format!(in alloc; "{}_{}", part.as_str(), name.as_str())?;
+    match Name::new(alloc, text.as_str()) {
+        Ok(joined) => Ok(Some(joined)),
+        Err(NameRefusal::Long) => Ok(None),
+        Err(NameRefusal::Memory) => Err(AllocError),
     }
 }
 
