@@ -6,11 +6,14 @@
 PROGRAM is by default crates/cqlrun/out/cqlrun, which `./cqlrun` builds. Each file has up to 8 MiB, the most that is read, at its
 full size, and a tenth and a hundredth of it else; with words, only files in whose names one of them stands. For each it prints
 how the run ends, the bytes, the processor seconds (the best of three runs), the ratio to the size before, and the peak memory.
+Behind them it measures texts that some way to place them takes to be alike, beside other texts of their length.
 Its status is 1 where a run of a full size takes over 30 seconds or 4 GiB, where one takes over twelve times what a tenth of it takes
-(times below 20 ms count as 20), or where a run does not end as it should. Literals alone are exported, since 50,000 files, one
+(times below 20 ms count as 20), where texts that are alike take over 1.3 times as long as others, or where a run does not end as it
+should. Literals alone are exported, since 50,000 files, one
 for each entity, are the system's work more than the program's. For the same reason the files stand in memory, in /dev/shm,
 where there is that: with 100,000 of them in one folder of a disk, the run takes up to thrice as long.
 """
+import itertools
 import math
 import os
 import pathlib
@@ -285,27 +288,98 @@ def twins(n, one, other):
     return ["".join(other if number >> bit & 1 else one for bit in range(17)) for number in range(n)]
 
 
+def by_sum(n):
+    """Texts that are alike where they are placed by 31 times what stands before and the next byte."""
+    return twins(n, "Aa", "BB")
+
+
+def by_no_sum(n):
+    return twins(n, "Aa", "bC")
+
+
+def fold(state, block):
+    """What the default hasher of the library makes of a block of sixteen bytes."""
+    first, second = (int.from_bytes(block[at : at + 8], "little") for at in (0, 8))
+    product = (first ^ state) * (second ^ 0x9E37_79B9_7F4A_7C15)
+    return (product ^ product >> 64) & 2**64 - 1
+
+
+def colliding_front():
+    """Twenty-four letters and digits, behind which any eight give one number by the default hasher of the library: what it has made
+    of the first sixteen is what the next eight are, and so it goes on with 0."""
+    for number in itertools.count():
+        front = f"n{number:0>15}".encode()
+        state = fold(0x243F_6A88_85A3_08D3 + 32, front).to_bytes(8, "little")
+        if state.isalnum() and state.isascii():
+            return (front + state).decode()
+
+
+def by_fold(n):
+    """Names that are alike for the default hasher of the library."""
+    front = colliding_front()
+    return [f"{front}{number:0>8}" for number in range(n)]
+
+
+def by_no_fold(n):
+    front = "n" + "0" * 23
+    return [f"{front}{number:0>8}" for number in range(n)]
+
+
+TEXTS = "typeside T = literal { types s literals s functions g : s -> s }\n"
+ROWS = "schema S = literal : T { entities E attributes x : E -> s }\n"
+
+
 def joined(texts):
     """A query of the pairs of rows with one text, of which each row has its own."""
     cells = " ".join(f'x(e{number}) = "{text}"' for number, text in enumerate(texts))
-    return (
-        "typeside T = literal { types s literals s }\nschema S = literal : T { entities E attributes x : E -> s }\n"
-        "schema R = literal : T { entities P }\n"
-        "query Q = literal : S -> R { entity P -> { from y z : E where x(y) = x(z) } }\n"
-        + instance(names("e", len(texts)) + " : E", cells)
-        + "instance J = eval Q I\n"
-    )
+    query = "schema R = literal : T { entities P }\nquery Q = literal : S -> R { entity P -> { from y z : E where x(y) = x(z) } }\n"
+    return TEXTS + ROWS + query + instance(names("e", len(texts)) + " : E", cells) + "instance J = eval Q I\n", {}
 
 
-# (`Aa` and `BB` give one number where texts are placed by 31 times what stands before and the next byte)
-@file("texts that a sum of bytes places alike, joined", 131_072, "instance I")
-def alike(n):
-    return even(joined(twins(n, "Aa", "BB")))
+def entries(texts):
+    """A function at each text, and a transform that looks each of them up."""
+    cells = " ".join(f'g("{text}") = "{number}"' for number, text in enumerate(texts))
+    again = "transform H = literal : I -> I { generators e -> e }\n"
+    return TEXTS + ROWS + instance("e : E", f'x(e) = "a" {cells}') + again, {}
 
 
-@file("other texts of this length, joined", 131_072, "instance I")
-def unlike(n):
-    return even(joined(twins(n, "Aa", "bC")))
+def ids(texts):
+    """A folder with a record for each text as its id, whose foreign key is the next."""
+    lines = "".join(f"{text},{texts[number - 1]}\n" for number, text in enumerate(texts))
+    program = TEXTS + 'schema S = literal : T { entities E foreign_keys k : E -> E }\ninstance I = import_csv "data" : S\n'
+    return program, {"data/E.csv": "id,k\n" + lines}
+
+
+def closed(texts):
+    """A closure in which each text is made equal to a cell twice."""
+    cells = " ".join(f'x(e{number}) = "{text}" "{text}" = x(e{number})' for number, text in enumerate(texts))
+    return TEXTS + ROWS + instance(names("e", len(texts)) + " : E", cells), {}
+
+
+def generated(texts):
+    """Generators of these names, each with an equation."""
+    rows = " ".join(f"{text}.k = {text}" for text in texts)
+    keyed = "schema S = literal : T { entities E foreign_keys k : E -> E }\n"
+    return TEXTS + keyed + instance(" ".join(texts) + " : E", rows), {}
+
+
+def summed(texts):
+    """Twenty colimits of a schema with entities of these names."""
+    parts = f"schema S = literal : T {{ entities {' '.join(texts)} }}\nschema R = literal : T {{ entities E }}\n"
+    return TEXTS + parts + "".join(f"schema_colimit C{k} = quotient S + R : T {{ }}\n" for k in range(20)), {}
+
+
+# What is made of texts, the texts that are alike, others of their length, how many, and how the run ends.
+PAIRS = {
+    "joined by a query": (joined, by_sum, by_no_sum, 131_072, "instance I"),
+    "as arguments of entries": (entries, by_sum, by_no_sum, 131_072, "instance I"),
+    "as ids and keys of a CSV file": (ids, by_sum, by_no_sum, 131_072, "instance I"),
+    "as ids and keys of a CSV file, by the default hasher": (ids, by_fold, by_no_fold, 131_072, "instance I"),
+    "in a closure": (closed, by_sum, by_no_sum, 65_536, "instance I"),
+    "as names of generators": (generated, by_sum, by_no_sum, 65_536, "instance I"),
+    "as names of generators, by the default hasher": (generated, by_fold, by_no_fold, 65_536, "instance I"),
+    "as names in colimits, by the default hasher": (summed, by_fold, by_no_fold, 16_384, ""),
+}
 
 
 def run(program, folder, wanted):
@@ -321,11 +395,14 @@ def run(program, folder, wanted):
     return usage.ru_utime + usage.ru_stime, usage.ru_maxrss * 1024
 
 
-def measure(program, text, ends):
-    """Seconds and peak memory of the best of three runs, whose output begins so."""
+def measure(program, text, ends, files={}):
+    """Seconds and peak memory of the best of three runs over these files, whose output begins so."""
     best = None
     with tempfile.TemporaryDirectory(dir=MEMORY if os.path.isdir(MEMORY) else None) as folder:
-        pathlib.Path(folder, "p.cql").write_text(text)
+        for name, content in {"p.cql": text, **files}.items():
+            path = pathlib.Path(folder, name)
+            path.parent.mkdir(exist_ok=True)
+            path.write_text(content)
         for _ in range(3):
             found = run(program, folder, 1 if ends.startswith("refused") else 0)
             best = found if best is None else min(best, found)
@@ -336,6 +413,37 @@ def measure(program, text, ends):
     if not line.startswith(ends):
         sys.exit(f"a line that begins with {ends!r} was due: {line!r}")
     return best, line
+
+
+def compare(program, wanted):
+    """Measures texts that are alike beside others, and gives the names of those that take over 1.3 times as long, or over twelve
+    times a tenth."""
+    steep = []
+    print("\n| Texts that are alike | number | seconds | time, of a tenth | of other texts | peak memory, MiB |")
+    print("|---|---|---|---|---|---|")
+    for name, (make, alike, others, count, ends) in PAIRS.items():
+        if wanted and not any(word in name for word in wanted):
+            continue
+        before = None
+        for part in (64, 10, 1):
+            n = count // part
+            (seconds, peak), _ = measure(program, *ended(make(alike(n)), ends))
+            (other, _), _ = measure(program, *ended(make(others(n)), ends))
+            ratio = max(seconds, 0.02) / max(before, 0.02) if before else 0
+            beside = max(seconds, 0.02) / max(other, 0.02)
+            before = seconds
+            if beside > 1.3 or part == 1 and ratio > 12:
+                steep.append(f"{name} ({n:,})")
+            shown = f"{ratio:.1f}" if part == 1 else ""
+            print(f"| {name} | {n:,} | {seconds:.3f} | {shown} | {beside:.2f} | {peak / 2**20:.0f} |", flush=True)
+    return steep
+
+
+def ended(made, ends):
+    text, files = made
+    if len(text.encode()) > LIMIT:
+        sys.exit(f"{len(text.encode())} bytes are too many")
+    return text, ends, files
 
 
 def main():
@@ -359,6 +467,7 @@ def main():
                 steep.append(name)
             shown = f"{ratio:.1f}" if ratio else ""
             print(f"| {name} | {size:,} | {seconds:.3f} | {shown} | {peak / 2**20:.0f} | {line[:24]} |", flush=True)
+    steep += compare(program, wanted)
     print(f"\n{len(steep)} too steep: {', '.join(steep)}")
     sys.exit(1 if steep else 0)
 

@@ -10,35 +10,42 @@ ghost use Rattle.std.specs.Cmp.{partial_equiv_from_equiv};
 ghost use Rattle.std.specs.Cmp.Rules.{hashing};
 ghost use Rattle.std.proofs.Common.{rules};
 
+use crate::hashing::Hashing;
 use std::alloc::{AllocError, AllocFailed, Global};
 use std::cmp::Ordering;
 use std::hash::{Hash, Hasher};
 use std::marker::Model;
-use std::rc::RcSlice;
+use std::rc::Rc;
 
 /// The most bytes of a name.
 pub const LONGEST: usize = 255;
 
+/// A text of its own, or that of a whole file, with the key by which tables of its names hash.
+#[derive(Drop)]
+pub(crate) struct Text {
+    pub(crate) bytes: Vec<u8>,
+    pub(crate) key: u64,
+}
+
 /// A text of at most 255 bytes of UTF-8, which copies share. Contracts see it as its bytes.
 #[derive(Drop)]
 pub struct Name {
-    // A text of its own, or that of a whole file; the name begins at `from`.
-    shared: RcSlice<u8>,
+    // The name begins at `from`.
+    shared: Rc<Text>,
     from: u32,
     len: u8,
 }
 
 impl Model for Name {
     ghost use Rattle.std.specs.Prelude.{ℕ, List, length, take, drop, ◌≤◌, ◌+◌};
-    ghost use Rattle.std.specs.Rc.{rc_slice_items};
     ghost use Rattle.std.specs.Str.{IsUtf8};
 
     ghost Value = { List ℕ };
 
-    ghost view = { λ name. take name.len (drop name.from (rc_slice_items name.shared)) };
+    ghost view = { λ name. take name.len (drop name.from name.shared.value.bytes.items) };
 
-    ghost invariant = { λ name. (name.from + name.len ≤ length (rc_slice_items name.shared))
-        × IsUtf8 (take name.len (drop name.from (rc_slice_items name.shared))) };
+    ghost invariant = { λ name. (name.from + name.len ≤ length name.shared.value.bytes.items)
+        × IsUtf8 (take name.len (drop name.from name.shared.value.bytes.items)) };
 }
 
 /// Why a text could not be made a name.
@@ -75,20 +82,43 @@ impl Name {
         ensures ok { IfOk result (λ name. name ≡ text.now) }
         ensures long { (result ≡ Err NameRefusal.Long) ↔ (LONGEST < length text.now) }
     {
+        Name::with_key(alloc, text, 0)
+    }
+
+    /// The name that this text is, for tables that hash by the key of another name, from which it was made.
+    pub fn made_of(alloc: Global, other: &Name, text: &str) -> Result<Name, NameRefusal>
+        ensures ok { IfOk result (λ name. name ≡ text.now) }
+        ensures long { (result ≡ Err NameRefusal.Long) ↔ (LONGEST < length text.now) }
+    {
+        Name::with_key(alloc, text, other.shared.key)
+    }
+
+    /// The name that this text is, in memory of its own, for tables that hash by this key.
+    pub(crate) fn with_key(alloc: Global, text: &str, key: u64) -> Result<Name, NameRefusal>
+        ensures ok { IfOk result (λ name. name ≡ text.now) }
+        ensures long { (result ≡ Err NameRefusal.Long) ↔ (LONGEST < length text.now) }
+    {
         if text.len() > LONGEST {
             return Err(NameRefusal::Long);
         }
-        let bytes = text.as_bytes();
+        let bytes = text.as_bytes().to_vec(alloc)?;
+        let len = bytes.len() as u8;
+        let shared = Rc::new(alloc, Text { bytes, key })?;
         Ok(Name {
-            shared: RcSlice::from_slice(alloc, bytes)?,
+            shared,
             from: 0,
-            len: bytes.len() as u8,
+            len,
         })
+    }
+
+    /// How tables of this name and others are to hash.
+    pub fn hashing(&self) -> Hashing {
+        Hashing::with_key(self.shared.key)
     }
 
     /// The name that this text is, in the memory of `shared`, if it stands there at `from`.
     pub(crate) fn standing_in(
-        shared: &RcSlice<u8>,
+        shared: &Rc<Text>,
         from: usize,
         text: &str,
     ) -> Result<Option<Name>, AllocError>
@@ -100,7 +130,7 @@ impl Name {
         let Ok(start) = u32::try_from(from) else {
             return Ok(None);
         };
-        match shared.as_slice().get(from..from + len) {
+        match shared.bytes.as_slice().get(from..from + len) {
             Some(found) if found == bytes => Ok(Some(Name {
                 shared: shared.clone()?,
                 from: start,
@@ -123,7 +153,7 @@ impl Name {
         ensures short { length self.now ≤ LONGEST }
     {
         let from = self.from as usize;
-        let bytes = &self.shared.as_slice()[from..from + self.len as usize];
+        let bytes = &self.shared.bytes.as_slice()[from..from + self.len as usize];
         // The invariant of a name says that these bytes are UTF-8.
         unsafe { std::str::from_utf8_unchecked(bytes) }
     }

@@ -11,7 +11,9 @@ use std::marker::Model;
 
 /// Names with their numbers, from 0. Contracts see the list of the names, in which no name stands twice.
 pub struct Names {
+    // Hashed as its first name wants it.
     names: IndexSet<Name, Hashing>,
+    alloc: Global,
 }
 
 impl Model for Names {
@@ -28,7 +30,7 @@ impl Model for Names {
 
 impl Drop for Names {
     fn drop(self) {
-        let Self { names: _ } = self;
+        let Self { names: _, alloc: _ } = self;
     }
 }
 
@@ -67,6 +69,7 @@ impl Names {
     {
         Names {
             names: IndexSet::with_hasher(alloc, Hashing::new()),
+            alloc,
         }
     }
 
@@ -83,6 +86,9 @@ impl Names {
             return Err(NamesRefusal::Taken(number as u32));
         }
         let number = self.names.len() as u32;
+        if self.names.is_empty() {
+            self.names = IndexSet::with_hasher(self.alloc, name.hashing());
+        }
         self.names.insert(name)?;
         Ok(number)
     }

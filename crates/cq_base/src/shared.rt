@@ -27,20 +27,31 @@ impl Equivalent<Name> for &str {
 pub struct SharedTexts {
     texts: IndexSet<Name, Hashing>,
     alloc: Global,
+    key: u64,
 }
 
 impl Drop for SharedTexts {
     fn drop(self) {
-        let Self { texts: _, alloc: _ } = self;
+        let Self {
+            texts: _,
+            alloc: _,
+            key: _,
+        } = self;
     }
 }
 
 impl SharedTexts {
     /// No texts.
     pub fn new(alloc: Global) -> SharedTexts {
+        SharedTexts::with_key(alloc, 0)
+    }
+
+    /// No texts. Those that come are hashed by this key.
+    pub(crate) fn with_key(alloc: Global, key: u64) -> SharedTexts {
         SharedTexts {
-            texts: IndexSet::with_hasher(alloc, Hashing::new()),
+            texts: IndexSet::with_hasher(alloc, Hashing::with_key(key)),
             alloc,
+            key,
         }
     }
 
@@ -55,7 +66,7 @@ impl SharedTexts {
         if let Some(shared) = self.texts.get(text) {
             return Ok(shared.clone()?);
         }
-        let name = Name::new(self.alloc, text)?;
+        let name = Name::with_key(self.alloc, text, self.key)?;
         self.texts.insert(name.clone()?)?;
         Ok(name)
     }

@@ -1,35 +1,41 @@
 //! The text of a file, in whose memory its names stand.
 ghost use Rattle.std.specs.Prelude.{◌≡◌, ◌<◌, ◌↔◌, IfOk, length};
 
-use crate::name::{LONGEST, Name, NameRefusal};
+use crate::hashing::{Hashing, key_of};
+use crate::name::{LONGEST, Name, NameRefusal, Text};
 use crate::shared::SharedTexts;
 use std::alloc::{AllocError, Global};
-use std::rc::RcSlice;
+use std::rc::Rc;
 
 /// The bytes of a file. A name that is written in the file as it is stands in the file's memory, and takes none of its
 /// own; the file is given back once no name of it is left. No clause says where a name stands, since it is the same
 /// everywhere.
 pub struct Source {
-    bytes: RcSlice<u8>,
+    text: Rc<Text>,
     others: SharedTexts,
 }
 
 impl Drop for Source {
     fn drop(self) {
-        let Self {
-            bytes: _,
-            others: _,
-        } = self;
+        let Self { text: _, others: _ } = self;
     }
 }
 
 impl Source {
     /// The file of these bytes, which are copied.
     pub fn new(alloc: Global, bytes: &[u8]) -> Result<Source, AllocError> {
+        let key = key_of(bytes);
+        let bytes = bytes.to_vec(alloc)?;
+        let text = Rc::new(alloc, Text { bytes, key }).map_err(|_| AllocError)?;
         Ok(Source {
-            bytes: RcSlice::from_slice(alloc, bytes)?,
-            others: SharedTexts::new(alloc),
+            text,
+            others: SharedTexts::with_key(alloc, key),
         })
+    }
+
+    /// How tables of what stands in the file are to hash.
+    pub fn hashing(&self) -> Hashing {
+        Hashing::with_key(self.text.key)
     }
 
     /// The name that this text is, as `Name::new` makes it. A text that the file has where its last `rest` bytes begin
@@ -42,8 +48,8 @@ impl Source {
         if text.len() > LONGEST {
             return Err(NameRefusal::Long);
         }
-        let from = self.bytes.len().saturating_sub(rest);
-        match Name::standing_in(&self.bytes, from, text)? {
+        let from = self.text.bytes.len().saturating_sub(rest);
+        match Name::standing_in(&self.text, from, text)? {
             Some(name) => Ok(name),
             None => self.others.name(text),
         }

@@ -37,11 +37,11 @@ impl Drop for Assigned {
 }
 
 impl Assigned {
-    fn new(alloc: Global) -> Assigned
+    fn new(alloc: Global, hashing: Hashing) -> Assigned
         ensures { result ≡ [] }
     {
         Assigned {
-            places: HashMap::with_hasher(alloc, Hashing::new()),
+            places: HashMap::with_hasher(alloc, hashing),
         }
     }
 
@@ -127,7 +127,7 @@ fn assigned_among(
         (λ place. option_map (λ _. place) (at_place (λ part. given_assigned target.now key q part.1) clauses.now place))
         places.now) }
 {
-    let mut made = Assigned::new(alloc);
+    let mut made = Assigned::new(alloc, target.hashing());
     for place in places {
         made.add_place(target, clauses, key, *place)?;
     }

@@ -20,7 +20,7 @@ use crate::given::add_clause;
 use crate::making::Making;
 use crate::parts::Clause;
 use crate::scopes::Scope;
-use cq_base::{Hashing, Name, Raw, number_at};
+use cq_base::{Name, Raw, number_at};
 use cq_theory::lookup::{
     has_reserved, has_unknown, has_wrong_count, have_one_sort, in_part_of, is_too_large, of_arrow,
     sort_of_raw,
@@ -259,8 +259,9 @@ fn first_clause_fault(alloc: Global, making: &Making) -> Result<Option<TheoryRef
         making.now.source.now making.now.target.now making.now.entities.now making.now.scopes.now
         making.now.first making.now.clauses.now) }
 {
-    let mut symbols = HashSet::with_hasher(alloc, Hashing::new());
-    let mut assigned = HashSet::with_hasher(alloc, Hashing::new());
+    let hashing = making.target.hashing();
+    let mut symbols = HashSet::with_hasher(alloc, hashing);
+    let mut assigned = HashSet::with_hasher(alloc, hashing);
     let mut number = making.first;
     for part in making.clauses {
         let is_given = add_clause(&mut symbols, &mut assigned, &part.1)?;

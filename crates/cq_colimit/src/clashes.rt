@@ -76,6 +76,14 @@ fn note(
     }
 }
 
+/// How a table of these names is to hash.
+fn hashing_of(given: &[(Text, u32)]) -> Hashing {
+    match given.first() {
+        Some(name) => name.0.hashing(),
+        None => Hashing::new(),
+    }
+}
+
 /// The least of a pair so far and of those parts that give two equal names of one table.
 fn least_clash(
     alloc: Global,
@@ -84,7 +92,7 @@ fn least_clash(
 ) -> Result<Option<(u32, u32)>, AllocError>
     ensures { IfOk result (λ found. found ≡ clash_of least [] given.now) }
 {
-    let mut givers = IndexMap::with_hasher(alloc, Hashing::new());
+    let mut givers = IndexMap::with_hasher(alloc, hashing_of(given));
     let mut least = least;
     for name in given {
         least = note(&mut givers, name, least)?;

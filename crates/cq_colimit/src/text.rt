@@ -7,16 +7,17 @@ ghost use Rattle.std.specs.Cmp.Rules.{hashing};
 ghost use Rattle.std.proofs.Common.{rules};
 ghost use Rattle.cq_colimit.specs.Clashes.{joined_name};
 
-use cq_base::Name;
 use cq_base::name::LONGEST;
+use cq_base::{Hashing, Name};
 use std::alloc::{AllocError, Global};
 use std::hash::{Hash, Hasher};
 use std::marker::Model;
 
 /// A joined name, which may be longer than a `Name`. Contracts see its bytes.
-#[derive(Drop)]
 pub struct Text {
     text: String,
+    // The name from which it was made, by the key of which tables hash.
+    origin: Name,
 }
 
 impl Model for Text {
@@ -27,6 +28,12 @@ impl Model for Text {
     ghost view = { λ t. string_bytes t.text };
 }
 
+impl Drop for Text {
+    fn drop(self) {
+        let Self { text: _, origin: _ } = self;
+    }
+}
+
 impl Text {
     /// The joined name of a symbol of a part.
     pub(crate) fn join(alloc: Global, part: &Name, name: &Name) -> Result<Text, AllocError>
@@ -35,7 +42,10 @@ impl Text {
         let mut text = String::from_str(alloc, part.as_str())?;
         text.push_str("_")?;
         text.push_str(name.as_str())?;
-        Ok(Text { text })
+        Ok(Text {
+            text,
+            origin: name.clone()?,
+        })
     }
 
     /// The text of a name.
@@ -44,6 +54,7 @@ impl Text {
     {
         Ok(Text {
             text: String::from_str(alloc, name.as_str())?,
+            origin: name.clone()?,
         })
     }
 
@@ -52,6 +63,11 @@ impl Text {
         ensures { result.now ≡ self.now }
     {
         self.text.as_str()
+    }
+
+    /// How tables of this text and others are to hash.
+    pub(crate) fn hashing(&self) -> Hashing {
+        self.origin.hashing()
     }
 
     /// Whether the text is too long for a name.
@@ -65,7 +81,7 @@ impl Text {
     pub(crate) fn to_name(&self, alloc: Global) -> Result<Name, AllocError>
         ensures { IfOk result (λ name. name ≡ self.now) }
     {
-        match Name::new(alloc, self.as_str()) {
+        match Name::made_of(alloc, &self.origin, self.as_str()) {
             Ok(name) => Ok(name),
             Err(_) => Err(AllocError),
         }
@@ -78,6 +94,7 @@ impl Clone for Text {
     fn clone(&self) -> Result<Text, AllocError> {
         Ok(Text {
             text: self.text.clone()?,
+            origin: self.origin.clone()?,
         })
     }
 }

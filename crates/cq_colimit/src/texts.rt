@@ -13,7 +13,9 @@ use std::marker::Model;
 
 /// Texts. Contracts see the list of those that were added, each once.
 pub(crate) struct Texts {
+    // Hashed as its first text wants it.
     texts: IndexSet<Text, Hashing>,
+    alloc: Global,
 }
 
 impl Model for Texts {
@@ -26,7 +28,7 @@ impl Model for Texts {
 
 impl Drop for Texts {
     fn drop(self) {
-        let Self { texts: _ } = self;
+        let Self { texts: _, alloc: _ } = self;
     }
 }
 
@@ -37,6 +39,7 @@ impl Texts {
     {
         Texts {
             texts: IndexSet::with_hasher(alloc, Hashing::new()),
+            alloc,
         }
     }
 
@@ -46,6 +49,9 @@ impl Texts {
         ensures { (name : AnyName) → OnOk result (
             is_among self.new name ≡ (is_among self.old name || same_name name text)) }
     {
+        if self.texts.is_empty() {
+            self.texts = IndexSet::with_hasher(self.alloc, text.hashing());
+        }
         match self.texts.insert(text) {
             Ok(_) => Ok(()),
             Err(_) => Err(AllocError),

@@ -8,15 +8,17 @@ use crate::answering::found_answers;
 use crate::kept::Kept;
 use crate::refusal::EvalRefusal;
 use crate::rows::Rows;
+use cq_base::Hashing;
 use cq_instance::Instance;
 use cq_query::Query;
 use indexmap::IndexSet;
 use std::alloc::{AllocError, Global};
+use std::hash::{DefaultHasher, Hash, Hasher};
 use std::marker::Model;
 
 /// The answers for an entity in their order, from each of which its place is found. Contracts see the list.
 pub(crate) struct Answers {
-    rows: IndexSet<Rows>,
+    rows: IndexSet<Rows, Hashing>,
 }
 
 impl Model for Answers {
@@ -33,13 +35,23 @@ impl Drop for Answers {
     }
 }
 
+/// How answers are hashed: by a key of them all.
+fn hashing_of(answers: &[Rows]) -> Hashing {
+    let mut state = DefaultHasher::new();
+    for rows in answers {
+        rows.hash(&mut state);
+    }
+    Hashing::of_text(&state.finish().to_le_bytes())
+}
+
 impl Answers {
     /// The table of these answers.
     fn new(alloc: Global, found: Vec<Rows>) -> Result<Answers, AllocError>
         requires { StandOnce found.items }
         ensures { IfOk result (λ answers. answers ≡ found.items) }
     {
-        let mut answers = IndexSet::with_capacity(alloc, found.len())?;
+        let hashing = hashing_of(found.as_slice());
+        let mut answers = IndexSet::with_capacity_and_hasher(alloc, found.len(), hashing)?;
         for rows in found {
             answers.insert(rows)?;
         }

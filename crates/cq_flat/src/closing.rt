@@ -10,6 +10,7 @@ use crate::key::Table;
 use crate::lists::Lists;
 use crate::node::Node;
 use crate::uses::{add_functions, uses_of};
+use cq_base::Hashing;
 use std::alloc::{AllocError, Global};
 use std::mem;
 
@@ -60,6 +61,7 @@ impl Closing {
     // All constants were looked up, and all functions are stale.
     fn start(
         alloc: Global,
+        hashing: Hashing,
         nodes: &[Node],
         equations: Vec<(u64, u64)>,
     ) -> Result<Closing, AllocError>
@@ -68,7 +70,7 @@ impl Closing {
         requires sides { AreSides nodes.now equations.items }
         ensures { IfOk result (λ closing. IsClosing nodes.now equations.items AnyNode closing) }
     {
-        let mut closing = Closing::of_constants(alloc, nodes, equations)?;
+        let mut closing = Closing::of_constants(alloc, hashing, nodes, equations)?;
         closing.uses = uses_of(alloc, nodes)?;
         add_functions(&mut closing.stale, nodes)?;
         Ok(closing)
@@ -79,6 +81,7 @@ impl Closing {
     // known: they are looked up once most classes are joined.
     fn of_constants(
         alloc: Global,
+        hashing: Hashing,
         nodes: &[Node],
         equations: Vec<(u64, u64)>,
     ) -> Result<Closing, AllocError>
@@ -88,7 +91,7 @@ impl Closing {
         ensures { IfOk result (λ closing. IsClosing nodes.now equations.items
             (IsEarlyConstant nodes.now (length nodes.now)) closing) }
     {
-        let mut closing = Closing::alone(alloc, nodes.len(), equations)?;
+        let mut closing = Closing::alone(alloc, hashing, nodes.len(), equations)?;
         for (node, content) in nodes.iter().enumerate() {
             if let Node::Const(_) = content {
                 closing.enter_one(alloc, nodes, node as u64)?;
@@ -104,7 +107,12 @@ impl Closing {
     }
 
     // Each of some nodes is alone in its class.
-    fn alone(alloc: Global, count: usize, equations: Vec<(u64, u64)>) -> Result<Closing, AllocError>
+    fn alone(
+        alloc: Global,
+        hashing: Hashing,
+        count: usize,
+        equations: Vec<(u64, u64)>,
+    ) -> Result<Closing, AllocError>
         requires { count < 2 ^ 32 }
         ensures { IfOk result (λ closing. IsAlone count equations.items closing) }
     {
@@ -113,7 +121,7 @@ impl Closing {
             classes,
             following,
             uses: Lists::new(alloc),
-            table: Table::new(alloc, count),
+            table: Table::new(alloc, hashing, count),
             pending: equations,
             stale: Vec::new(alloc),
         })
@@ -224,6 +232,7 @@ fn distinct(numbers: Vec<u64>) -> Vec<u64>
 /// constants equal. All pairs that wait are joined before a function is looked up anew.
 pub fn close_classes(
     alloc: Global,
+    hashing: Hashing,
     nodes: &[Node],
     equations: Vec<(u64, u64)>,
 ) -> Result<Vec<u32>, AllocError>
@@ -232,7 +241,7 @@ pub fn close_classes(
     requires sides { AreSides nodes.now equations.items }
     ensures { IfOk result (λ classes. AreExact nodes.now equations.items classes.items) }
 {
-    let mut closing = Closing::start(alloc, nodes, equations)?;
+    let mut closing = Closing::start(alloc, hashing, nodes, equations)?;
     while closing.is_open() {
         match next(closing.classes.as_slice(), &mut closing.pending) {
             Some((left, right)) => closing.merge(left, right)?,

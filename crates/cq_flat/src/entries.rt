@@ -10,13 +10,14 @@ use crate::entering::function_key;
 use crate::key::Table;
 use crate::node::Node;
 use crate::values::NodeValues;
-use cq_base::Seq;
+use cq_base::{Hashing, Seq};
 use cq_theory::{Entry, Value};
 use std::alloc::{AllocError, Global};
 
 /// The entries of the function nodes, one for each function and arguments.
 pub fn entries_of(
     alloc: Global,
+    hashing: Hashing,
     nodes: &[Node],
     classes: &[u32],
     values: &NodeValues,
@@ -27,7 +28,7 @@ pub fn entries_of(
     requires values { AreValuesOf (length nodes.now) classes.now (values_in values.now) }
     ensures { IfOk result (λ entries. entries.items ≡ entries_of nodes.now (values_in values.now)) }
 {
-    let mut table = Table::new(alloc, 0);
+    let mut table = Table::new(alloc, hashing, 0);
     let mut entries = Vec::new(alloc);
     for (node, content) in nodes.iter().enumerate() {
         let Node::Fun(function, args) = content else {

@@ -4,6 +4,7 @@ ghost use Rattle.std.specs.Prelude.{◌≡◌, ◌<◌, ◌↔◌, IfOk, IsTrue,
 use crate::closing::close_classes;
 use crate::constants::{clash_of, least_constants};
 use crate::entries::entries_of;
+use crate::hashing::hashing_of;
 use crate::labels::values_of;
 use crate::node::Node;
 use crate::numbers::{are_sides, has_earlier_arguments};
@@ -76,14 +77,15 @@ impl Flat {
             return Err(AllocError);
         }
         let list = nodes.as_slice();
-        let classes = close_classes(alloc, list, equations)?;
+        let hashing = hashing_of(list);
+        let classes = close_classes(alloc, hashing, list, equations)?;
         let numbers = classes.as_slice();
         let constants = least_constants(alloc, list, numbers)?;
         let least = constants.as_slice();
         let clash = clash_of(list, numbers, least)?;
         let (values, nulls) = values_of(alloc, list, numbers, least)?;
         drop(constants);
-        let entries = entries_of(alloc, list, numbers, &values)?;
+        let entries = entries_of(alloc, hashing, list, numbers, &values)?;
         Ok(Flat {
             values,
             nulls: Seq::from_vec(nulls),

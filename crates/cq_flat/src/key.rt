@@ -126,12 +126,12 @@ impl Table {
 
     /// No nodes. A table grows with its keys, of which there may be far fewer than nodes; `most` texts are expected
     /// at most.
-    pub fn new(alloc: Global, most: usize) -> Table
+    pub fn new(alloc: Global, hashing: Hashing, most: usize) -> Table
         ensures { result ≡ [] }
     {
         Table {
-            numbers: HashMap::with_hasher(alloc, Hashing::new()),
-            texts: HashMap::with_hasher(alloc, Hashing::new()),
+            numbers: HashMap::with_hasher(alloc, hashing),
+            texts: HashMap::with_hasher(alloc, hashing),
             most,
         }
     }

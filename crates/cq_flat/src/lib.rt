@@ -7,6 +7,7 @@ mod constants;
 mod entering;
 mod entries;
 pub mod flat;
+mod hashing;
 mod key;
 mod labels;
 mod lists;

@@ -16,7 +16,7 @@ use crate::ids::Id;
 use crate::labels::{Labels, Trouble, note_labels, value_term};
 use crate::refusal::CsvRefusal;
 use crate::rows::bad_cell;
-use cq_base::Source;
+use cq_base::{Hashing, Source};
 use cq_theory::{EntTerm, Equation, Path, Schema, TypeTerm, Typeside, Value};
 use std::alloc::{AllocError, Global};
 
@@ -51,14 +51,14 @@ impl Drop for Made {
 }
 
 impl Made {
-    /// Nothing that was read, with room for the equations.
-    pub fn new(context: &Context) -> Result<Made, AllocError>
+    /// Nothing that was read, with room for the equations, and a table of labels that hashes by this key.
+    pub fn new(context: &Context, hashing: Hashing) -> Result<Made, AllocError>
         ensures labels { IfOk result (λ made. made.labels ≡ []) }
         ensures equations { IfOk result (λ made. made.equations.items ≡ []) }
     {
         let source = Source::new(context.alloc, &[])?;
         Ok(Made {
-            labels: Labels::new(context.alloc),
+            labels: Labels::new(context.alloc, hashing),
             equations: empty_equations(context),
             source,
         })

@@ -85,13 +85,18 @@ impl Drop for Ids {
 }
 
 impl Ids {
-    /// A table without ids.
-    pub fn new(alloc: Global) -> Ids
+    /// A table without ids, which hashes by this key.
+    pub fn new(alloc: Global, hashing: Hashing) -> Ids
         ensures { result ≡ [] }
     {
         Ids {
-            ids: IndexSet::with_hasher(alloc, Hashing::new()),
+            ids: IndexSet::with_hasher(alloc, hashing),
         }
+    }
+
+    /// How the table hashes.
+    pub fn hashing(&self) -> Hashing {
+        *self.ids.hasher()
     }
 
     /// How many ids there are.

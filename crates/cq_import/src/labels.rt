@@ -39,12 +39,12 @@ impl Drop for Labels {
 }
 
 impl Labels {
-    /// No labels.
-    pub fn new(alloc: Global) -> Labels
+    /// No labels, in a table that hashes by this key.
+    pub fn new(alloc: Global, hashing: Hashing) -> Labels
         ensures { result ≡ [] }
     {
         Labels {
-            types: IndexMap::with_hasher(alloc, Hashing::new()),
+            types: IndexMap::with_hasher(alloc, hashing),
         }
     }
 

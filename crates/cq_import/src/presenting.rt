@@ -15,7 +15,7 @@ ghost use Rattle.cq_import.specs.Labels.{with_uses};
 use crate::capacities::count_generators;
 use crate::cells::{Context, Made};
 use crate::columns::Column;
-use crate::entity_file::EntityFile;
+use crate::entity_file::{EntityFile, hashing_of};
 use crate::generators::push_row_sorts;
 use crate::labels::Labels;
 use crate::refusal::CsvRefusal;
@@ -100,7 +100,7 @@ fn present_cells(context: &Context) -> Result<Presentation, CsvRefusal>
     ensures refused { IfErr result (λ r. Refuses r (cells_fault (sheets_in context.now) (typeside_in context.now)
         context.now.room [] (all_cells context.now.schema.now (sheets_in context.now)))) }
 {
-    let mut made = Made::new(context)?;
+    let mut made = Made::new(context, hashing_of(context.files))?;
     if let Err(refusal) = read_cells(context, &mut made) {
         return Err(refusal);
     }

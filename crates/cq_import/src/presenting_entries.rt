@@ -22,6 +22,7 @@ use crate::nulls::read_nulls;
 use crate::presenting::{MOST_GENERATORS, find_starts, finish};
 use crate::refusal::CsvRefusal;
 use crate::tables::read_cells;
+use cq_base::Hashing;
 use cq_theory::{Presentation, Schema, Typeside};
 use std::alloc::Global;
 
@@ -90,7 +91,7 @@ fn present_all(context: &Context, over: &Over, text: &[u8]) -> Result<Presentati
     ensures refused { IfErr result (λ r. Refuses r (contents2_fault context.now.schema.now (sheets_in context.now)
         (rows_of text.now) over.now.file.now)) }
 {
-    let mut made = Made::new(context)?;
+    let mut made = Made::new(context, Hashing::of_text(text))?;
     if let Err(refusal) = read_all(context, over, text, &mut made) {
         return Err(refusal);
     }

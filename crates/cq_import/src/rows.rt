@@ -13,7 +13,7 @@ ghost use Rattle.cq_import.specs.Rows.{sheet_fault};
 use crate::ids::{Id, Ids};
 use crate::records::{field, next, open, width};
 use crate::refusal::CsvRefusal;
-use cq_base::Name;
+use cq_base::{Hashing, Name};
 use csv::{ByteRecord, Reader};
 use std::alloc::{AllocError, Global};
 
@@ -198,7 +198,7 @@ pub fn check_sheet(
 {
     let mut opened = open(alloc, text);
     let mut fields = ByteRecord::new(alloc);
-    let mut ids = Ids::new(alloc);
+    let mut ids = Ids::new(alloc, Hashing::of_text(text));
     let tested = check_records(
         alloc,
         file,

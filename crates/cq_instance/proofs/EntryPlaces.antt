@@ -2,6 +2,7 @@
 use Rattle.std.proofs.Common.{ℕ, suc, Bool, true, false, cond, List, [], ◌∷◌, Option, Some, None, ◌≡◌, ◌<◌, ◌+◌, ◌%◌, ◌==◌, map, length, refl, sym, ap, ◌∙◌, arith, eq-eqb}
 use Rattle.std.specs.Prelude.{slice_get, slice_index_or, find, All}
 use Rattle.std.proofs.lemmas.List.FromFn.{get_or-map-range_with_len, length-map-range_with_len}
+use Rattle.cq_base.specs.declared.hashing.Hashing.{Hashing}
 use Rattle.cq_theory.specs.declared.value.Value.{Value}
 use Rattle.cq_theory.specs.declared.value.Entry.{Entry}
 use Rattle.cq_theory.specs.Canonical.{below}
@@ -33,25 +34,25 @@ module _ (test : Entry → Bool) (number : Entry → ℕ) (k : ℕ) (numbered : 
   found_among = from 0 entries (λ n. let start : n ≡ 0 + n = omega arith in ap (slice_get entries) start)
 
 -- the lists find what a walk over all entries finds
-pub found_by_lists : (entries : List Entry) (lists : List (List ℕ)) (f : ℕ) (args : List Value) → AreEntryLists entries lists → 0 < length lists
-    → first_among (is_for f args) entries (list_for lists f args) ≡ find (is_for f args) entries
-found_by_lists entries lists f args are some =
+pub found_by_lists : (h : Hashing) (entries : List Entry) (lists : List (List ℕ)) (f : ℕ) (args : List Value) → AreEntryLists h entries lists → 0 < length lists
+    → first_among (is_for f args) entries (list_for h lists f args) ≡ find (is_for f args) entries
+found_by_lists h entries lists f args are some =
     let count : ℕ = length lists in
-    let place : ℕ = digest_of_application f args % count in
+    let place : ℕ = digest_of_application h f args % count in
     let inside : place < count = omega (arith, some) in
     let start : 0 + place ≡ place = omega arith in
-    let list : list_for lists f args ≡ positions (map (entry_number count) entries) place =
-    ap (λ (l : List (List ℕ)). slice_index_or l place []) are ∙ get_or-map-range_with_len (positions (map (entry_number count) entries)) 0 count place place [] inside start in
+    let list : list_for h lists f args ≡ positions (map (entry_number h count) entries) place =
+    ap (λ (l : List (List ℕ)). slice_index_or l place []) are ∙ get_or-map-range_with_len (positions (map (entry_number h count) entries)) 0 count place place [] inside start in
     ap (first_among (is_for f args) entries) list
-    ∙ sym (found_among (is_for f args) (entry_number count) place (λ e h. let same = entry_for f args e h in λ i. digest_of_application (same.0 i) (sym same.1 i) % count) entries)
+    ∙ sym (found_among (is_for f args) (entry_number h count) place (λ e passes. let same = entry_for f args e passes in λ i. digest_of_application h (same.0 i) (sym same.1 i) % count) entries)
 
-pub entry_numbers_within : (count : ℕ) (entries : List Entry) (numbers : List ℕ) → 0 < count → numbers ≡ map (entry_number count) entries → All (λ n. n < count) numbers
-entry_numbers_within count entries numbers some are = All_from (λ n. n < count) numbers (λ k n at.
-    let entry = made_of (entry_number count) entries k n (ap (λ l. slice_get l k) (sym are) ∙ at) in
+pub entry_numbers_within : (h : Hashing) (count : ℕ) (entries : List Entry) (numbers : List ℕ) → 0 < count → numbers ≡ map (entry_number h count) entries → All (λ n. n < count) numbers
+entry_numbers_within h count entries numbers some are = All_from (λ n. n < count) numbers (λ k n at.
+    let entry = made_of (entry_number h count) entries k n (ap (λ l. slice_get l k) (sym are) ∙ at) in
     omega (arith, some, entry.2))
 
 -- lists for as many numbers as there are entries
-pub are_entry_lists : (entries : List Entry) (numbers : List ℕ) (lists : List (List ℕ)) → numbers ≡ map (entry_number (length entries)) entries → lists ≡ map (positions numbers) (below (length entries)) → AreEntryLists entries lists
-are_entry_lists entries numbers lists are made =
+pub are_entry_lists : (h : Hashing) (entries : List Entry) (numbers : List ℕ) (lists : List (List ℕ)) → numbers ≡ map (entry_number h (length entries)) entries → lists ≡ map (positions numbers) (below (length entries)) → AreEntryLists h entries lists
+are_entry_lists h entries numbers lists are made =
     let many : length lists ≡ length entries = ap length made ∙ length-map-range_with_len (positions numbers) 0 (length entries) in
-    made ∙ (λ i. map (positions (are i)) (below (length entries))) ∙ ap (λ k. map (positions (map (entry_number k) entries)) (below k)) (sym many)
+    made ∙ (λ i. map (positions (are i)) (below (length entries))) ∙ ap (λ k. map (positions (map (entry_number h k) entries)) (below k)) (sym many)

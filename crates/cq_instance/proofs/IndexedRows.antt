@@ -5,6 +5,7 @@ use Rattle.std.proofs.lemmas.Bool.{cases_eq, cases_lt, ne_eqb}
 use Rattle.std.proofs.lemmas.List.{append-nil, get_or_default, get_or-set_same, get_or-set_other, length-set, take_more, length-take-le}
 use Rattle.std.proofs.lemmas.List.Elements.{All-head, All-tail, All-append, All-nil, All-cons}
 use Rattle.std.proofs.lemmas.List.FromFn.{get_or-map-range_with_len, length-map-range_with_len}
+use Rattle.cq_base.specs.declared.hashing.Hashing.{Hashing}
 use Rattle.cq_theory.specs.declared.value.Value.{Value}
 use Rattle.cq_theory.specs.Canonical.{below}
 use Rattle.cq_instance.specs.Digests.{digest_of}
@@ -85,12 +86,12 @@ module _ (v : Value) (row : ℕ) where
       (put_behind groups new (All-tail Differs g groups before) value rows other)
 
   -- a row is added to the groups with the number of its value
-  pub put_among : (lists lists' : List (List ValueRows)) (groups : List ValueRows) (place : ℕ) → 0 < length lists → place ≡ digest_of v % length lists → lists' ≡ slice_set lists place groups
+  pub put_among : (h : Hashing) (lists lists' : List (List ValueRows)) (groups : List ValueRows) (place : ℕ) → 0 < length lists → place ≡ digest_of h v % length lists → lists' ≡ slice_set lists place groups
       → ((other : Value) → group_rows groups other ≡ group_rows (get_or lists place []) other ++ more other)
-      → (other : Value) → indexed_rows lists' other ≡ indexed_rows lists other ++ more other
-  put_among lists lists' groups place some is made added other =
-      ap (λ l. indexed_rows l other) made
-      ∙ ap (λ n. group_rows (slice_index_or (slice_set lists place groups) (digest_of other % n) []) other) (length-set lists place groups)
+      → (other : Value) → indexed_rows (h, lists') other ≡ indexed_rows (h, lists) other ++ more other
+  put_among h lists lists' groups place some is made added other =
+      ap (λ l. indexed_rows (h, l) other) made
+      ∙ ap (λ n. group_rows (slice_index_or (slice_set lists place groups) (digest_of h other % n) []) other) (length-set lists place groups)
       ∙ elim (cases_eq number place) [
         | inl same ↦
             ap (λ k. group_rows (slice_index_or (slice_set lists place groups) k []) other) same
@@ -98,17 +99,17 @@ module _ (v : Value) (row : ℕ) where
             ∙ ap (λ k. group_rows (get_or lists k []) other ++ more other) (sym same)
         | inr differ ↦
             ap (λ l. group_rows l other) (get_or-set_other lists place number groups [] differ)
-            ∙ apart (same_value v other) refl (λ same. differ (ap (λ w. digest_of w % length lists) (sym (same_from_value v other same)) ∙ sym is))
+            ∙ apart (same_value v other) refl (λ same. differ (ap (λ w. digest_of h w % length lists) (sym (same_from_value v other same)) ∙ sym is))
       ]
     where
       number : ℕ
-      number = digest_of other % length lists
+      number = digest_of h other % length lists
 
       inside : place < length lists
       inside = omega (arith, some, is)
 
-      apart : (b : Bool) → same_value v other ≡ b → (b ≡ true → ⊥) → indexed_rows lists other ≡ indexed_rows lists other ++ more other
-      apart false e not = sym (append-nil (indexed_rows lists other)) ∙ ap (λ b. indexed_rows lists other ++ (if b then row ∷ [] else [])) (sym e)
+      apart : (b : Bool) → same_value v other ≡ b → (b ≡ true → ⊥) → indexed_rows (h, lists) other ≡ indexed_rows (h, lists) other ++ more other
+      apart false e not = sym (append-nil (indexed_rows (h, lists) other)) ∙ ap (λ b. indexed_rows (h, lists) other ++ (if b then row ∷ [] else [])) (sym e)
       apart true e not = absurd (not refl)
 
 -- lists without groups
@@ -117,9 +118,9 @@ none_at [] k = refl
 none_at (x ∷ xs) zero = refl
 none_at (x ∷ xs) (suc k) = none_at xs k
 
-pub no_rows : (lists : List (List ValueRows)) (count : ℕ) → lists ≡ map (λ _. []) (below count) → (v : Value) → indexed_rows lists v ≡ []
-no_rows lists count are v =
-    ap (λ l. group_rows l v) (ap (λ l. slice_index_or l (digest_of v % length lists) []) are ∙ none_at (below count) (digest_of v % length lists))
+pub no_rows : (h : Hashing) (lists : List (List ValueRows)) (count : ℕ) → lists ≡ map (λ _. []) (below count) → (v : Value) → indexed_rows (h, lists) v ≡ []
+no_rows h lists count are v =
+    ap (λ l. group_rows l v) (ap (λ l. slice_index_or l (digest_of h v % length lists) []) are ∙ none_at (below count) (digest_of h v % length lists))
 
 -- what no member is stands nowhere
 no_positions : (s : ℕ) (xs : List ℕ) (count row : ℕ) → All (λ x. x < count) xs → count ≤ row → positions_from s xs row ≡ []

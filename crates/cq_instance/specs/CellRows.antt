@@ -1,5 +1,6 @@
 -- The rows at which a value stands in a column, and groups of rows by the numbers of values.
 use Rattle.std.specs.Prelude.{ℕ, List, [], ◌∷◌, ◌+◌, ◌%◌, if◌then◌else◌, length, slice_index_or}
+use Rattle.cq_base.specs.declared.hashing.Hashing.{Hashing}
 use Rattle.cq_theory.specs.declared.value.Value.{Value}
 use Rattle.cq_instance.specs.Digests.{digest_of}
 use Rattle.cq_instance.specs.SameValue.{same_value}
@@ -20,5 +21,5 @@ group_rows [] v = []
 group_rows (group ∷ groups) v = if same_value group.value v then group.rows.items else group_rows groups v
 
 -- the rows of a value among the groups with its number
-abbrev pub indexed_rows : List (List ValueRows) → Value → List ℕ
-indexed_rows lists v = group_rows (slice_index_or lists (digest_of v % length lists) []) v
+abbrev pub indexed_rows : Hashing × List (List ValueRows) → Value → List ℕ
+indexed_rows index v = group_rows (slice_index_or index.1 (digest_of index.0 v % length index.1) []) v

@@ -1,9 +1,10 @@
--- Numbers by which values are placed: those of the kit's hasher, so that equal values have one number.
+-- Numbers by which values are placed: those of the kit's hasher after a key, so that equal values have one number.
 use Rattle.std.specs.Prelude.{ℕ, List, ◌++◌, fold}
 use Rattle.std.specs.List.{flat_map}
 use Rattle.std.specs.Hash as fed
 use Rattle.std.specs.Hash.{HashWrites}
 use Rattle.std.specs.Hash.DefaultHasher as sip
+use Rattle.cq_base.specs.declared.hashing.Hashing.{Hashing}
 use Rattle.cq_theory.specs.declared.constant.Con.{Con}
 use Rattle.cq_theory.specs.declared.constant.Con.TheVariants.{Named, Open}
 use Rattle.cq_theory.specs.declared.value.Value.{Value}
@@ -25,12 +26,12 @@ abbrev pub fed_value : Value → HashWrites
 fed_value = fold-Value HashWrites fed_step
 
 -- what the hasher answers
-abbrev pub hash_of : HashWrites → ℕ
-hash_of writes = sip.finish (fold sip.write sip.initial writes)
+abbrev pub hash_of : Hashing → HashWrites → ℕ
+hash_of hashing writes = sip.finish (fold sip.write hashing.initial writes)
 
-abbrev pub digest_of : Value → ℕ
-digest_of v = hash_of (fed_value v)
+abbrev pub digest_of : Hashing → Value → ℕ
+digest_of hashing v = hash_of hashing (fed_value v)
 
 -- the number of a function at arguments
-abbrev pub digest_of_application : ℕ → List Value → ℕ
-digest_of_application f args = hash_of (fed.u32 f ++ flat_map fed_value args)
+abbrev pub digest_of_application : Hashing → ℕ → List Value → ℕ
+digest_of_application hashing f args = hash_of hashing (fed.u32 f ++ flat_map fed_value args)

@@ -5,12 +5,13 @@ ghost use Rattle.cq_theory.specs.declared.value.Value.{Value};
 ghost use Rattle.cq_instance.specs.SameValue.{same_value};
 ghost use Rattle.cq_instance.specs.CellRows.{rows_with, group_rows, indexed_rows};
 
-use crate::digests::digest;
+use crate::digests::{digest, feed_all, hashing_by};
 use crate::instance::Instance;
 use crate::values::{copied, equals};
-use cq_base::number_at;
+use cq_base::{Hashing, number_at};
 use cq_theory::{Value, empty_groups};
 use std::alloc::{AllocError, Global};
+use std::hash::DefaultHasher;
 use std::marker::Model;
 
 /// The rows, ascending, whose cells are a value.
@@ -20,23 +21,26 @@ pub struct ValueRows {
     pub rows: Vec<u32>,
 }
 
-/// For each value of an attribute's cells its rows. Contracts see the groups of rows by the numbers of their values.
+/// For each value of an attribute's cells its rows. Contracts see how values are hashed, and the groups of rows by the
+/// numbers of their values.
 #[derive(Drop)]
 pub struct CellIndex {
+    hashing: Hashing,
     lists: Vec<Vec<ValueRows>>,
 }
 
 impl Model for CellIndex {
     ghost use Rattle.std.specs.Coded.{codes};
     ghost use Rattle.std.specs.Prelude.{List, map};
+    ghost use Rattle.cq_base.specs.declared.hashing.Hashing.{Hashing};
     ghost use Rattle.cq_theory.specs.contracts.value.Value as value;
     ghost use Rattle.cq_instance.specs.declared.cell_index.ValueRows.{ValueRows};
 
-    ghost Value = { List (List ValueRows) };
+    ghost Value = { Hashing × List (List ValueRows) };
 
     ghost coded = { Prim.hlevel (codes, value.the_row.coded) };
 
-    ghost view = { λ index. map (λ list. list.items) index.lists.items };
+    ghost view = { λ index. (index.hashing, map (λ list. list.items) index.lists.items) };
 }
 
 impl ValueRows {
@@ -102,31 +106,44 @@ fn add_to(
 /// Adds a row to those of a value, among the groups with its number.
 fn add_row(
     alloc: Global,
+    hashing: Hashing,
     lists: &mut Vec<Vec<ValueRows>>,
     value: &Value,
     row: u32,
 ) -> Result<(), AllocError>
     requires { 0 < length lists.old.items }
     ensures length { OnOk result (length lists.new.items ≡ length lists.old.items) }
-    ensures rows { OnOk result ((other : Value) → indexed_rows (map (λ list. list.items) lists.new.items) other
-        ≡ indexed_rows (map (λ list. list.items) lists.old.items) other
+    ensures rows { OnOk result ((other : Value) → indexed_rows (hashing, map (λ list. list.items) lists.new.items) other
+        ≡ indexed_rows (hashing, map (λ list. list.items) lists.old.items) other
         ++ (if same_value value.now other then row ∷ [] else [])) }
 {
-    let place = (digest(value) % lists.len() as u64) as usize;
+    let place = (digest(hashing, value) % lists.len() as u64) as usize;
     add_to(alloc, &mut lists[place], value, row)
 }
 
 /// The rows of each value of a column.
-fn lists_of(alloc: Global, column: &[Value], count: u32) -> Result<Vec<Vec<ValueRows>>, AllocError>
+fn lists_of(
+    alloc: Global,
+    hashing: Hashing,
+    column: &[Value],
+    count: u32,
+) -> Result<Vec<Vec<ValueRows>>, AllocError>
     requires { length column.now ≡ count }
-    ensures { IfOk result (λ lists. (value : Value) → indexed_rows (map (λ list. list.items) lists.items) value
+    ensures { IfOk result (λ lists. (value : Value) → indexed_rows (hashing, map (λ list. list.items) lists.items) value
         ≡ rows_with column.now value) }
 {
     let mut lists = empty_groups(alloc, count as usize)?;
     for (row, cell) in column.iter().enumerate() {
-        add_row(alloc, &mut lists, cell, row as u32)?;
+        add_row(alloc, hashing, &mut lists, cell, row as u32)?;
     }
     Ok(lists)
+}
+
+/// How the cells of a column are hashed: by a key of them all.
+fn hashing_of(column: &[Value]) -> Hashing {
+    let mut state = DefaultHasher::new();
+    feed_all(column, &mut state);
+    hashing_by(&state)
 }
 
 impl CellIndex {
@@ -140,8 +157,10 @@ impl CellIndex {
         let sheet = instance.sheet();
         let count = number_at(sheet.counts.as_slice(), edge.from as usize);
         let column = sheet.cells.as_slice()[attribute as usize].as_slice();
+        let hashing = hashing_of(column);
         Ok(CellIndex {
-            lists: lists_of(alloc, column, count)?,
+            hashing,
+            lists: lists_of(alloc, hashing, column, count)?,
         })
     }
 
@@ -152,7 +171,7 @@ impl CellIndex {
         if self.lists.len() == 0 {
             return &[];
         }
-        let place = (digest(value) % self.lists.len() as u64) as usize;
+        let place = (digest(self.hashing, value) % self.lists.len() as u64) as usize;
         rows_in(self.lists[place].as_slice(), value)
     }
 }

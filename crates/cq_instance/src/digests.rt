@@ -1,11 +1,13 @@
-//! Numbers by which values are placed in tables. They are those of the kit's hasher, since sums over the bytes of texts
-//! are equal for whole families of texts, which would then stand in one list.
+//! Numbers by which values are placed in tables. They are those of the kit's hasher, fed with a key first, since sums
+//! over the bytes of texts, and hashes without a key, are equal for whole families of texts, which would then stand in
+//! one list.
 ghost use Rattle.std.specs.Prelude.{◌≡◌, fold};
 ghost use Rattle.std.specs.Hash.DefaultHasher as sip;
 ghost use Rattle.cq_instance.specs.Digests.{fed_constant, fed_value, digest_of, digest_of_application};
 
+use cq_base::Hashing;
 use cq_theory::{Con, Value};
-use std::hash::{DefaultHasher, Hash, Hasher};
+use std::hash::{BuildHasher, DefaultHasher, Hash, Hasher};
 
 /// Feeds a constant to the hasher.
 fn feed_constant(constant: &Con, state: &mut DefaultHasher)
@@ -43,20 +45,32 @@ fn feed(value: &Value, state: &mut DefaultHasher)
     }
 }
 
+/// Feeds values to the hasher, one behind the other.
+pub(crate) fn feed_all(values: &[Value], state: &mut DefaultHasher) {
+    for value in values {
+        feed(value, state);
+    }
+}
+
+/// How a table is to hash of which all keys were fed to this hasher.
+pub(crate) fn hashing_by(state: &DefaultHasher) -> Hashing {
+    Hashing::of_text(&state.finish().to_le_bytes())
+}
+
 /// The number of a value: one for all equal values.
-pub fn digest(value: &Value) -> u64
-    ensures { result ≡ digest_of value.now }
+pub fn digest(hashing: Hashing, value: &Value) -> u64
+    ensures { result ≡ digest_of hashing value.now }
 {
-    let mut state = DefaultHasher::new();
+    let mut state = hashing.build_hasher();
     feed(value, &mut state);
     state.finish()
 }
 
 /// The number of a function at arguments.
-pub(crate) fn application_digest(function: u32, args: &[Value]) -> u64
-    ensures { result ≡ digest_of_application function args.now }
+pub(crate) fn application_digest(hashing: Hashing, function: u32, args: &[Value]) -> u64
+    ensures { result ≡ digest_of_application hashing function args.now }
 {
-    let mut state = DefaultHasher::new();
+    let mut state = hashing.build_hasher();
     state.write_u32(function);
     for arg in args {
         feed(arg, &mut state);

@@ -4,18 +4,20 @@ ghost use Rattle.cq_theory.specs.Tables.{is_for as is_entry_for, entry_or_built}
 ghost use Rattle.cq_instance.specs.EntryLists.{AreEntryLists, entry_number, passing, first_among, list_for};
 
 use crate::application::{applied, is_for};
-use crate::digests::application_digest;
+use crate::digests::{application_digest, feed_all, hashing_by};
 use crate::groups::grouped;
 use crate::values::copied;
-use cq_base::Seq;
+use cq_base::{Hashing, Seq};
 use cq_theory::{Algebra, Entry, Value};
 use std::alloc::{AllocError, Global};
+use std::hash::{DefaultHasher, Hasher};
 use std::marker::Model;
 
 /// Nulls and entries, with lists of the places of entries by the numbers of what they are for, from which the entry of
 /// a function at arguments is found. There are no lists where there is no entry. Contracts see the nulls and entries.
 pub struct EntryTable {
     algebra: Algebra,
+    hashing: Hashing,
     lists: Seq<Seq<u32>>,
 }
 
@@ -31,49 +33,74 @@ impl Model for EntryTable {
 
     ghost view = { λ table. table.algebra };
 
-    ghost invariant = { λ table. AreEntryLists table.algebra.entries table.lists };
+    ghost invariant = { λ table. AreEntryLists table.hashing table.algebra.entries table.lists };
 }
 
 impl Drop for EntryTable {
     fn drop(self) {
         let Self {
             algebra: _,
+            hashing: _,
             lists: _,
         } = self;
     }
 }
 
+/// How entries are hashed: by a key of all their functions and arguments.
+fn hashing_of(entries: &[Entry]) -> Hashing {
+    let mut state = DefaultHasher::new();
+    for entry in entries {
+        state.write_u32(entry.function);
+        feed_all(entry.args.as_slice(), &mut state);
+    }
+    hashing_by(&state)
+}
+
 /// The number of each entry.
-fn entry_numbers(alloc: Global, entries: &[Entry], count: u32) -> Result<Vec<u32>, AllocError>
+fn entry_numbers(
+    alloc: Global,
+    hashing: Hashing,
+    entries: &[Entry],
+    count: u32,
+) -> Result<Vec<u32>, AllocError>
     requires { 0 < count }
-    ensures { IfOk result (λ made. made.items ≡ map (entry_number count) entries.now) }
+    ensures { IfOk result (λ made. made.items ≡ map (entry_number hashing count) entries.now) }
 {
     let mut made = Vec::with_capacity(alloc, entries.len())?;
     for entry in entries {
-        let digest = application_digest(entry.function, entry.args.as_slice());
+        let digest = application_digest(hashing, entry.function, entry.args.as_slice());
         made.push((digest % count as u64) as u32)?;
     }
     Ok(made)
 }
 
 /// The places of the entries by their numbers, of which there are as many as entries.
-fn entry_lists(alloc: Global, entries: &[Entry]) -> Result<Seq<Seq<u32>>, AllocError>
-    ensures { IfOk result (λ lists. AreEntryLists entries.now lists) }
+fn entry_lists(
+    alloc: Global,
+    hashing: Hashing,
+    entries: &[Entry],
+) -> Result<Seq<Seq<u32>>, AllocError>
+    ensures { IfOk result (λ lists. AreEntryLists hashing entries.now lists) }
 {
     let count = entries.len();
     if count == 0 || count > u32::MAX as usize {
         return Ok(Seq::from_vec(Vec::new(alloc)));
     }
-    let numbers = entry_numbers(alloc, entries, count as u32)?;
+    let numbers = entry_numbers(alloc, hashing, entries, count as u32)?;
     grouped(alloc, count, numbers.as_slice())
 }
 
 /// The places of the entries that can be for a function at these arguments.
-fn places_for<'a>(lists: &'a [Seq<u32>], function: u32, args: &[Value]) -> &'a [u32]
+fn places_for<'a>(
+    hashing: Hashing,
+    lists: &'a [Seq<u32>],
+    function: u32,
+    args: &[Value],
+) -> &'a [u32]
     requires { 0 < length lists.now }
-    ensures { result.now ≡ list_for lists.now function args.now }
+    ensures { result.now ≡ list_for hashing lists.now function args.now }
 {
-    let place = (application_digest(function, args) % lists.len() as u64) as usize;
+    let place = (application_digest(hashing, function, args) % lists.len() as u64) as usize;
     lists[place].as_slice()
 }
 
@@ -123,8 +150,13 @@ impl EntryTable {
     pub fn new(alloc: Global, algebra: Algebra) -> Result<EntryTable, AllocError>
         ensures { IfOk result (λ table. table ≡ algebra) }
     {
-        let lists = entry_lists(alloc, algebra.entries.as_slice())?;
-        Ok(EntryTable { algebra, lists })
+        let hashing = hashing_of(algebra.entries.as_slice());
+        let lists = entry_lists(alloc, hashing, algebra.entries.as_slice())?;
+        Ok(EntryTable {
+            algebra,
+            hashing,
+            lists,
+        })
     }
 
     /// The nulls and entries.
@@ -150,7 +182,7 @@ impl EntryTable {
         if lists.len() == 0 {
             return applied(alloc, entries, function, args);
         }
-        let places = places_for(lists, function, args.as_slice());
+        let places = places_for(self.hashing, lists, function, args.as_slice());
         applied_among(alloc, entries, places, function, args)
     }
 }

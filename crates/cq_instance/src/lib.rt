@@ -3,7 +3,7 @@
 //! An `Instance` keeps for each generator its row or its value: `row_of` follows the keys of an entity term from there,
 //! and `value_of` goes through a type term once. The entry for a function at arguments is found by a table (`entries`):
 //! entries are listed by a number of what they are for, and only those in one list are compared. These numbers are made
-//! by the kit's hasher (`digests`), so that texts which sums over their bytes don't tell apart have lists of their own.
+//! by the kit's hasher after a key of them all (`digests`), so that no file can have many texts with one number.
 //!
 //! `null_terms` has a term for each null: its generator where the tables were given, and else the first node that means
 //! it, found in one walk over the nodes.

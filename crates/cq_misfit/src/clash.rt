@@ -87,7 +87,11 @@ fn common_name(alloc: Global, names: &[Name], others: &[Name]) -> Result<Option<
 }
 
 fn table_of_names(alloc: Global, names: &[Name]) -> Result<IndexSet<Name, Hashing>, AllocError> {
-    let mut table = IndexSet::with_hasher(alloc, Hashing::new());
+    let hashing = match names.first() {
+        Some(name) => name.hashing(),
+        None => Hashing::new(),
+    };
+    let mut table = IndexSet::with_hasher(alloc, hashing);
     for name in names {
         let _is_new = table.insert(name.clone()?)?;
     }

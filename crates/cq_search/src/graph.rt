@@ -5,6 +5,7 @@ use crate::halt::Halt;
 use crate::node::Node;
 use crate::terms::Terms;
 use cq_base::Hashing;
+use smallvec::SmallVec;
 use std::alloc::{AllocError, Global};
 use std::collections::HashMap;
 use std::mem;
@@ -20,6 +21,7 @@ pub struct Graph {
     table: HashMap<Node, u64, Hashing>,
     waiting: Vec<Link>,
     stale: Vec<u64>,
+    hashing: Hashing,
     alloc: Global,
 }
 
@@ -33,23 +35,31 @@ impl Drop for Graph {
             table: _,
             waiting: _,
             stale: _,
+            hashing: _,
             alloc: _,
         } = self;
     }
 }
 
 impl Graph {
-    pub fn new(alloc: Global) -> Graph {
+    /// No nodes. They are hashed as told.
+    pub fn new(alloc: Global, hashing: Hashing) -> Graph {
         Graph {
-            terms: Terms::new(alloc),
+            terms: Terms::new(alloc, hashing),
             classes: Classes::new(alloc),
             forest: Forest::new(alloc),
             uses: Vec::new(alloc),
-            table: HashMap::with_hasher(alloc, Hashing::new()),
+            table: HashMap::with_hasher(alloc, hashing),
             waiting: Vec::new(alloc),
             stale: Vec::new(alloc),
+            hashing,
             alloc,
         }
+    }
+
+    /// How tables of nodes are to hash.
+    pub fn hashing(&self) -> Hashing {
+        self.hashing
     }
 
     /// Whether two nodes are of one class.
@@ -115,7 +125,7 @@ impl Graph {
     /// Puts a node into the lists of its arguments' classes.
     fn add_uses(&mut self, number: u64) -> Result<(), Halt> {
         let node = self.terms.node(number)?;
-        for argument in &node.arguments {
+        for argument in node.arguments.as_slice() {
             let class = self.classes.of(*argument);
             if let Some(uses) = self.uses.get_mut(class as usize) {
                 uses.push(number)?;
@@ -139,11 +149,11 @@ impl Graph {
 
     /// The symbol of a node and the classes of its arguments, if it has some.
     fn key(&self, node: &Node) -> Result<Option<Node>, AllocError> {
-        if node.arguments.is_empty() {
+        if node.arguments.as_slice().is_empty() {
             return Ok(None);
         }
-        let mut arguments = Vec::with_capacity(self.alloc, node.arguments.len())?;
-        for argument in &node.arguments {
+        let mut arguments = SmallVec::with_capacity(self.alloc, node.arguments.len())?;
+        for argument in node.arguments.as_slice() {
             arguments.push(self.classes.of(*argument))?;
         }
         Ok(Some(Node {

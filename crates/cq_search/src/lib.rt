@@ -6,6 +6,7 @@ mod expanding;
 mod forest;
 mod graph;
 mod halt;
+mod hashing;
 mod listing;
 mod needed;
 mod node;

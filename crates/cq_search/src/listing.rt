@@ -56,7 +56,7 @@ impl Listing {
         let count = if is_along { 0 } else { graph.forest.count() };
         let roots = Roots::new(alloc, count)?;
         Ok(Listing {
-            steps: Steps::new(alloc),
+            steps: Steps::new(alloc, graph.hashing()),
             depths,
             roots,
             is_along,
@@ -104,7 +104,12 @@ impl Listing {
         let left = graph.terms.node(link.left)?;
         let right = graph.terms.node(link.right)?;
         let mut from = Vec::with_capacity(self.alloc, left.arguments.len())?;
-        for (first, second) in left.arguments.iter().zip(right.arguments.iter()) {
+        for (first, second) in left
+            .arguments
+            .as_slice()
+            .iter()
+            .zip(right.arguments.as_slice().iter())
+        {
             from.push(self.premise(graph, *first, *second)?)?;
         }
         Ok(from)

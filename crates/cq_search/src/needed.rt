@@ -80,7 +80,12 @@ fn rest_after(
     let left = graph.terms.node(link.left)?;
     let right = graph.terms.node(link.right)?;
     let mut rest = rest;
-    for (first, second) in left.arguments.iter().zip(right.arguments.iter()) {
+    for (first, second) in left
+        .arguments
+        .as_slice()
+        .iter()
+        .zip(right.arguments.as_slice().iter())
+    {
         if rest > 0 {
             let way = depths.way(alloc, &graph.forest, *first, *second)?;
             rest = rest.saturating_sub(way.len() as u64);
@@ -136,7 +141,12 @@ impl Marks {
         };
         let left = graph.terms.node(link.left)?;
         let right = graph.terms.node(link.right)?;
-        for (first, second) in left.arguments.iter().zip(right.arguments.iter()) {
+        for (first, second) in left
+            .arguments
+            .as_slice()
+            .iter()
+            .zip(right.arguments.as_slice().iter())
+        {
             self.add_way(&graph.forest, depths, *first, *second)?;
         }
         Ok(())

@@ -2,8 +2,10 @@
 use crate::forest::Reason;
 use crate::graph::Graph;
 use crate::halt::Halt;
+use crate::hashing::hashing_of;
 use crate::node::{Node, Symbol};
 use cq_theory::{EntTerm, Equation, Presentation, Schema, Sort, TypeTerm};
+use smallvec::SmallVec;
 use std::alloc::Global;
 
 /// What is wanted of a term: to be there itself, or that any equal one is there.
@@ -28,7 +30,7 @@ pub fn graph_of(
     schema: &Schema,
     presentation: &Presentation,
 ) -> Result<Graph, Halt> {
-    let mut graph = Graph::new(alloc);
+    let mut graph = Graph::new(alloc, hashing_of(presentation));
     put_generators(alloc, &mut graph, presentation)?;
     put_equations(alloc, &mut graph, schema, presentation)?;
     graph.close()?;
@@ -157,7 +159,7 @@ pub fn put_type_term(
             wanted.put(graph, node, None)
         }
         TypeTerm::Fun(function, args) => {
-            let mut arguments = Vec::with_capacity(alloc, args.len())?;
+            let mut arguments = SmallVec::with_capacity(alloc, args.len())?;
             for term in args.as_slice() {
                 arguments.push(put_type_term(alloc, graph, schema, term, at, wanted)?)?;
             }
@@ -174,13 +176,13 @@ pub fn put_type_term(
 fn leaf(alloc: Global, symbol: Symbol) -> Node {
     Node {
         symbol,
-        arguments: Vec::new(alloc),
+        arguments: SmallVec::new(alloc),
     }
 }
 
 /// A node with one argument.
 fn unary(alloc: Global, symbol: Symbol, argument: u64) -> Result<Node, Halt> {
-    let mut arguments = Vec::new(alloc);
+    let mut arguments = SmallVec::new(alloc);
     arguments.push(argument)?;
     Ok(Node { symbol, arguments })
 }

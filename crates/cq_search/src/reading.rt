@@ -58,7 +58,7 @@ fn type_term_of(alloc: Global, terms: &Terms, number: u64, depth: u64) -> Result
         }
         Symbol::Function(function) => {
             let mut arguments = Vec::new(alloc);
-            for argument in &node.arguments {
+            for argument in node.arguments.as_slice() {
                 arguments.push(type_term_of(alloc, terms, *argument, depth - 1)?)?;
             }
             Ok(TypeTerm::Fun(function, Seq::from_vec(arguments)))
@@ -69,7 +69,7 @@ fn type_term_of(alloc: Global, terms: &Terms, number: u64, depth: u64) -> Result
 
 /// The argument of a node that has one.
 fn only_argument(node: &Node) -> Result<u64, Halt> {
-    match node.arguments.first() {
+    match node.arguments.as_slice().first() {
         Some(argument) => Ok(*argument),
         None => Err(Halt::Absent),
     }

@@ -25,10 +25,11 @@ impl Drop for Steps {
 }
 
 impl Steps {
-    pub fn new(alloc: Global) -> Steps {
+    /// No steps. They are found by their nodes, which are hashed as told.
+    pub fn new(alloc: Global, hashing: Hashing) -> Steps {
         Steps {
             steps: Vec::new(alloc),
-            numbers: HashMap::with_hasher(alloc, Hashing::new()),
+            numbers: HashMap::with_hasher(alloc, hashing),
             alloc,
         }
     }

@@ -25,10 +25,11 @@ impl Drop for Terms {
 }
 
 impl Terms {
-    pub fn new(alloc: Global) -> Terms {
+    /// No terms. Texts and nodes are hashed as told.
+    pub fn new(alloc: Global, hashing: Hashing) -> Terms {
         Terms {
-            texts: IndexSet::with_hasher(alloc, Hashing::new()),
-            nodes: IndexSet::with_hasher(alloc, Hashing::new()),
+            texts: IndexSet::with_hasher(alloc, hashing),
+            nodes: IndexSet::with_hasher(alloc, hashing),
             entities: Vec::new(alloc),
         }
     }

@@ -131,6 +131,7 @@ impl Drop for Bound {
 
 /// The declared names in order, with what each stands for. That is boxed, so that what holds an entry is small.
 pub struct Environment {
+    // Hashed as its first name wants it.
     pub names: IndexMap<Name, Box<Bound>, Hashing>,
 }
 
@@ -225,8 +226,18 @@ impl Environment {
         if self.names.contains_key(&name) {
             return Err(AllocError);
         }
+        self.hash_like(alloc, &name);
         self.names.insert(name, bound)?;
         Ok(())
+    }
+
+    /// Lets a table without names hash as this name wants it.
+    fn hash_like(&mut self, alloc: Global, name: &Name)
+        ensures { self.new.names.entries ≡ self.old.names.entries }
+    {
+        if self.names.is_empty() {
+            self.names = IndexMap::with_hasher(alloc, name.hashing());
+        }
     }
 }
 

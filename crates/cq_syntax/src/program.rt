@@ -42,8 +42,8 @@ pub enum InstanceExp {
     ImportCsv2(Name, Spot, Seq<Opt>),
 }
 
-/// By which operation a transform is moved, or of which two operations it is the unit or the counit: `Unit` and `Counit`
-/// of sigma and delta, `UnitQuery` and `CounitQuery` of coeval and eval.
+/// By which operation a transform is moved, or of which two operations it is the unit or the counit: `Unit` and
+/// `Counit` of sigma and delta, `UnitQuery` and `CounitQuery` of coeval and eval.
 #[derive(Clone, Copy)]
 pub enum MoveForm {
     Sigma,

@@ -17,7 +17,7 @@ use crate::parts::{ObsPart, SchemaParts};
 use crate::presentation::Sort;
 use crate::term::TypeTerm;
 use crate::typeside::Typeside;
-use cq_base::{Name, Names, Seq};
+use cq_base::{Hashing, Name, Names, Seq};
 use std::alloc::{AllocError, Global};
 use std::marker::Model;
 use std::rc::Rc;
@@ -155,6 +155,15 @@ impl Schema {
         ensures { IsSchema self.now }
     {
         let _entities = self.entities.len();
+    }
+
+    /// How tables of what a file says over the schema are to hash: by the key of the file that declares its first
+    /// entity, without which there is nothing to say.
+    pub fn hashing(&self) -> Hashing {
+        match self.entities.as_slice().first() {
+            Some(entity) => entity.hashing(),
+            None => Hashing::new(),
+        }
     }
 
     /// The number of a declared constant of the typeside.

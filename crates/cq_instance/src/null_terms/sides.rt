@@ -6,7 +6,8 @@ ghost use Rattle.cq_theory.specs.Groups.{positions, obs_eq_sources};
 ghost use Rattle.cq_theory.specs.Listed.{equation_nodes, observation_nodes, subterms};
 ghost use Rattle.cq_theory.specs.Tables.{count_of, value_of as value_meant};
 ghost use Rattle.cq_instance.specs.InstanceData.{name_at};
-ghost use Rattle.cq_instance.specs.Learning.{IsReadable, learned, learned_from, node_at, nodes_in, observed, side_nodes};
+ghost use Rattle.cq_instance.specs.Learning.{IsReadable, learned, learned_from, node_at, nodes_in, observed};
+ghost use Rattle.cq_instance.specs.Learning.{side_nodes};
 ghost use Rattle.cq_instance.specs.Standing.{meaning};
 
 use crate::instance::Instance;

@@ -169,7 +169,7 @@ impl Look {
 /// The joined name of an entity, a foreign key or an attribute of a part, unless it is too long.
 pub fn joined_name(alloc: Global, part: &Name, name: &Name) -> Result<Option<Name>, AllocError> {
     let text = format!(in alloc; "{}_{}", part.as_str(), name.as_str())?;
-    match Name::new(alloc, text.as_str()) {
+    match Name::made_of(alloc, name, text.as_str()) {
         Ok(joined) => Ok(Some(joined)),
         Err(NameRefusal::Long) => Ok(None),
         Err(NameRefusal::Memory) => Err(AllocError),

@@ -13,7 +13,7 @@ loop-row-init c =
     let items : Vec ValueRows Global → List ValueRows = λ list. list.items in
     record {
       length = sym (length-map c.in_ok-lists.lists.items items) ∙ ap length c.in_ok-lists.ensures ∙ length-map-range_with_len (λ (_ : ℕ). let none : List ValueRows = [] in none) 0 c.args.count ∙ sym c.requires;
-      rows = no_rows (map items c.in_ok-lists.lists.items) c.args.count c.in_ok-lists.ensures;
+      rows = no_rows c.args.hashing (map items c.in_ok-lists.lists.items) c.args.count c.in_ok-lists.ensures;
     }
 
 pub loop-row-preserved : goal.loop-row-preserved

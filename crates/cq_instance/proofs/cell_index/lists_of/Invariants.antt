@@ -6,5 +6,5 @@ use Rattle.cq_instance.proofs.cell_index.lists_of.Given as goal
 abbrev pub invariant-loop-row : goal.invariant-loop-row
 invariant-loop-row l = record {
   length : length l.lists.items ≡ length l.column;
-  rows : (value : Value) → indexed_rows (map (λ list. list.items) l.lists.items) value ≡ rows_with (take l.row l.column) value;
+  rows : (value : Value) → indexed_rows (l.hashing, map (λ list. list.items) l.lists.items) value ≡ rows_with (take l.row l.column) value;
 }
