@@ -1,5 +1,5 @@
 -- Cells that are tested one after the other.
-use Rattle.std.proofs.Common.{ℕ, List, [], ◌∷◌, ◌++◌, ◌≡◌, Some, None, Bool, true, false, map, take, refl, sym, ap, ◌∙◌, append_assoc}
+use Rattle.std.proofs.Common.{ℕ, List, [], ◌∷◌, ◌++◌, ◌≤◌, ◌≡◌, Some, None, Bool, true, false, length, map, take, refl, sym, ap, ◌∙◌, append_assoc}
 use Rattle.std.specs.Prelude.{if◌then◌else◌}
 use Rattle.std.proofs.lemmas.List.{append-nil}
 use Rattle.cq_import.specs.declared.labels.Trouble.{Trouble}
@@ -8,9 +8,9 @@ use Rattle.cq_import.specs.Labels.{uses_trouble, with_uses}
 use Rattle.cq_cells.specs.declared.cells.Over.{Over}
 use Rattle.cq_cells.specs.declared.cells.Pass.{Pass}
 use Rattle.cq_cells.specs.Found.{Found, behind_trouble, cells_found, found_in}
-use Rattle.cq_cells.specs.Passes.{Passes, sheets_over, told_with, typeside_over}
+use Rattle.cq_cells.specs.Passes.{Passes, TellsNoMore, sheets_over, told_with, typeside_over}
 use Rattle.cq_cells.specs.Shown.{Lists, most_faults, shown}
-use Rattle.cq_cells.proofs.Listing.{take_same}
+use Rattle.cq_cells.proofs.Listing.{lists_full, take_same}
 
 abbrev pub Cells : Type 0
 Cells = (ℕ → List ℕ) → List Cell
@@ -31,6 +31,18 @@ told_stopped over name pass cells going = ap (λ b. if b then still over name pa
 -- nothing is told any more
 pub pass_stopped : (over : Over) (pass : Pass) (cells : Cells) → pass.going ≡ false → Passes over pass pass cells
 pass_stopped over pass cells going = λ name others. told_stopped over name pass others going ∙ sym (told_stopped over name pass (cells name ++ others) going)
+
+pub no_more_stopped : (over : Over) (pass : Pass) → pass.going ≡ false → TellsNoMore over pass
+no_more_stopped over pass going = λ name others. told_stopped over name pass others going
+
+-- a list that is full stays as it is
+pub no_more_full : (over : Over) (pass : Pass) → most_faults ≤ length pass.faults → TellsNoMore over pass
+no_more_full over pass full = λ name others. either name others pass.going
+  where
+    either : (name : ℕ → List ℕ) (others : List Cell) (b : Bool) → (if b then still over name pass others else stopped name pass) ≡ stopped name pass
+    either name others true =
+        sym (lists_full pass.faults (λ q. cells_found (sheets_over over q) (typeside_over over) (Some over.most) pass.labels others) full name)
+    either name others false = refl
 
 module _ (over : Over) (old new : Pass) (cell : (ℕ → List ℕ) → Cell) (going : old.going ≡ true)
     (lists : Lists old.faults new.faults (λ name. found_in (cell_fault (sheets_over over name) (typeside_over over) (Some over.most) old.labels (cell name)) None)) where
@@ -78,6 +90,10 @@ goes_more over old now new whole rest first behind goes is passes = λ name othe
 
 pub goes_all : (over : Over) (old now : Pass) (whole rest : Cells) → Goes over old now whole rest → ((name : ℕ → List ℕ) → rest name ≡ []) → Passes over old now whole
 goes_all over old now whole rest goes none = λ name others. ap (λ l. told_with over name now (l ++ others)) (sym (none name)) ∙ goes name others
+
+-- where nothing more is listed, what is left may be left unread
+pub goes_done : (over : Over) (old now : Pass) (whole rest : Cells) → Goes over old now whole rest → TellsNoMore over now → Passes over old now whole
+goes_done over old now whole rest goes done = λ name others. done name others ∙ sym (done name (rest name ++ others)) ∙ goes name others
 
 pub passes_same : (over : Over) (old new : Pass) (cells others : Cells) → ((name : ℕ → List ℕ) → cells name ≡ others name) → Passes over old new cells → Passes over old new others
 passes_same over old new cells others same passes = λ name rest. passes name rest ∙ ap (λ l. told_with over name old (l ++ rest)) (same name)

@@ -13,10 +13,10 @@ use Rattle.cq_import.specs.Records.{Record, Remains, Takes, field_in}
 use Rattle.cq_cells.specs.declared.cells.Cell.{Cell as RustCell}
 use Rattle.cq_cells.specs.declared.cells.Over.{Over}
 use Rattle.cq_cells.specs.declared.cells.Pass.{Pass}
-use Rattle.cq_cells.specs.Passes.{Passes, cell_shown, sheets_over, told_with}
+use Rattle.cq_cells.specs.Passes.{Passes, TellsNoMore, cell_shown, sheets_over, told_with}
 use Rattle.cq_cells.specs.Readings.{reading_at, text_in}
 use Rattle.cq_cells.proofs.Sheeting.{cells_here}
-use Rattle.cq_cells.proofs.Passing.{Goes, goes_all, goes_more, goes_start}
+use Rattle.cq_cells.proofs.Passing.{Goes, goes_all, goes_done, goes_more, goes_start}
 
 -- the records before this number are tested, and the reader has the others left
 pub record AreTabled (over : Over) (file : ℕ) (columns : List Column) (generator number : ℕ) (old now : Pass) (reader : Reader (Bor (List ℕ))) (rows : List Record) : Type 0 where
@@ -36,6 +36,10 @@ module _ (over : Over) (file : ℕ) (columns : List Column) (generator number : 
   tabled_all none =
       goes_all over old now (λ name. rows_cells (name file) columns generator 1 rows) (λ name. rows_cells (name file) columns tabled.next number tabled.others) tabled.goes
       (λ name. ap (rows_cells (name file) columns tabled.next number) none)
+
+  pub tabled_done : TellsNoMore over now → Passes over old now (λ name. rows_cells (name file) columns generator 1 rows)
+  tabled_done done =
+      goes_done over old now (λ name. rows_cells (name file) columns generator 1 rows) (λ name. rows_cells (name file) columns tabled.next number tabled.others) tabled.goes done
 
   pub tabled_more : (reads : Reader (Bor (List ℕ))) (fields : Record) (takes : Takes reads tabled.others fields) (new : Pass)
       → ((g : ℕ) → Passes over now new (λ name. row_cells (name file) columns g number fields)) → AreTabled over file columns generator (number + 1) old new reads rows

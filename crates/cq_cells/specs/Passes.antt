@@ -41,6 +41,10 @@ told_with over name pass cells = if pass.going
     ++ cells_found (sheets_over over name) (typeside_over over) (Some over.most) pass.labels cells)
     else take most_faults (map (shown name) pass.faults)
 
+-- whatever cells are read too, nothing more will be listed
+abbrev pub TellsNoMore : Over → Pass → Type 0
+TellsNoMore over pass = (name : ℕ → List ℕ) (others : List Cell) → told_with over name pass others ≡ take most_faults (map (shown name) pass.faults)
+
 -- these cells were read: with any others behind them the same will be listed
 abbrev pub Passes : Over → Pass → Pass → ((ℕ → List ℕ) → List Cell) → Type 0
 Passes over old new cells = (name : ℕ → List ℕ) (others : List Cell)

@@ -5,7 +5,8 @@ ghost use Rattle.cq_import.specs.declared.content.Content.TheVariants as Content
 ghost use Rattle.cq_import.specs.Cells.{content_of, row_with_id, trouble_fault};
 ghost use Rattle.cq_import.specs.Context.{IsColumn};
 ghost use Rattle.cq_cells.specs.Found.{found_in};
-ghost use Rattle.cq_cells.specs.Passes.{IsOver, Passes, cell_shown, sheets_over, typeside_over};
+ghost use Rattle.cq_cells.specs.Passes.{IsOver, Passes, TellsNoMore, cell_shown, sheets_over, typeside_over};
+ghost use Rattle.cq_cells.specs.declared.cells.Over.{Over as AnyOver};
 ghost use Rattle.cq_cells.specs.Shown.{Lists, told, trouble_kind};
 
 use crate::faults::{Fault, Faults, Kind};
@@ -37,6 +38,18 @@ pub struct Pass {
     pub faults: Faults,
     pub labels: Labels,
     pub going: bool,
+}
+
+impl Pass {
+    /// Whether nothing more is listed, whatever cells are read too.
+    pub fn is_done(&self) -> bool
+        ensures { (over : AnyOver) → result ≡ true → TellsNoMore over self.now }
+    {
+        if !self.going {
+            return true;
+        }
+        self.faults.is_full()
+    }
 }
 
 /// A field with its place.

@@ -1,6 +1,6 @@
 //! Faults by their places, and lists of them.
-ghost use Rattle.std.specs.Prelude.{◌≡◌, ◌==◌, ◌≤◌, [], OnOk, length};
-ghost use Rattle.cq_cells.specs.Shown.{Lists, listed};
+ghost use Rattle.std.specs.Prelude.{◌≡◌, ◌==◌, ◌≤◌, ◌↔◌, [], IsTrue, OnOk, length};
+ghost use Rattle.cq_cells.specs.Shown.{Lists, listed, most_faults};
 
 use std::alloc::{AllocError, Global};
 use std::marker::Model;
@@ -79,6 +79,13 @@ impl Faults {
         ensures { result ≡ (length self.now == 0) }
     {
         self.faults.is_empty()
+    }
+
+    /// Whether no more are listed.
+    pub fn is_full(&self) -> bool
+        ensures { IsTrue result ↔ (most_faults ≤ length self.now) }
+    {
+        self.faults.len() >= MOST_FAULTS
     }
 
     /// The faults.

@@ -12,7 +12,7 @@ ghost use Rattle.cq_cells.specs.Shown.{Lists, most_faults, shown};
 
 use crate::cells::{Over, Pass};
 use crate::faults::{Fault, Faults, Kind};
-use crate::index::{MOST_GENERATORS, find_total, index_files};
+use crate::index::{MOST_GENERATORS, find_total, hashing_of, index_files};
 use crate::readings::{Reading, Unread, read_files};
 use crate::rows::{Tested, check_reading};
 use crate::tables::read_cells;
@@ -119,7 +119,7 @@ fn check_over(over: &Over, faults: Faults) -> Result<Faults, AllocError>
     ensures { IfOk result (λ made. Lists faults made (λ name. cells_found (sheets_over over.now name)
         (typeside_over over.now) (Some over.now.most) [] (all_cells over.now.schema.now (sheets_over over.now name)))) }
 {
-    let labels = Labels::new(over.alloc);
+    let labels = Labels::new(over.alloc, hashing_of(over.indexed));
     let mut pass = Pass {
         faults,
         labels,

@@ -83,13 +83,18 @@ impl Drop for Places {
 }
 
 impl Places {
-    /// A table without ids.
-    pub fn new(alloc: Global) -> Places
+    /// A table without ids, which hashes by this key.
+    pub fn new(alloc: Global, hashing: Hashing) -> Places
         ensures { result ≡ [] }
     {
         Places {
-            places: IndexMap::with_hasher(alloc, Hashing::new()),
+            places: IndexMap::with_hasher(alloc, hashing),
         }
+    }
+
+    /// How the table hashes.
+    pub fn hashing(&self) -> Hashing {
+        *self.places.hasher()
     }
 
     /// The record in which an id stands first.

@@ -9,8 +9,10 @@ use crate::ids::Places;
 use crate::readings::{Reading, bytes_of};
 use crate::records::{field, next, start};
 use crate::rows::note_id;
+use cq_base::Hashing;
 use csv::{ByteRecord, Reader};
 use std::alloc::{AllocError, Global};
+use std::hash::{BuildHasher, DefaultHasher, Hasher};
 
 /// The most generators of a presentation.
 pub const MOST_GENERATORS: u32 = 16_000_000;
@@ -57,7 +59,7 @@ fn index_text(alloc: Global, text: &[u8]) -> Result<Indexed, AllocError>
 {
     let mut reader = start(alloc, text);
     let mut fields = ByteRecord::new(alloc);
-    let mut places = Places::new(alloc);
+    let mut places = Places::new(alloc, Hashing::of_text(text));
     if !next(&mut reader, &mut fields)? {
         return Ok(Indexed { places, count: 0 });
     }
@@ -98,4 +100,14 @@ pub fn find_total(indexed: &[Indexed]) -> Option<u32>
         total += count;
     }
     Some(total)
+}
+
+/// How a table of what stands in all of these files is to hash: by a key of them all, since one of them can be written
+/// for the key of the others.
+pub fn hashing_of(indexed: &[Indexed]) -> Hashing {
+    let mut keys = DefaultHasher::new();
+    for one in indexed {
+        keys.write_u64(one.places.hashing().build_hasher().finish());
+    }
+    Hashing::of_text(&keys.finish().to_le_bytes())
 }

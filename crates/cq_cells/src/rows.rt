@@ -13,7 +13,7 @@ use crate::faults::{Fault, Faults, Kind};
 use crate::ids::{Id, Places};
 use crate::readings::Reading;
 use crate::records::{field, is_row, is_same, next, start};
-use cq_base::Name;
+use cq_base::{Hashing, Name};
 use csv::{ByteRecord, Reader};
 use std::alloc::{AllocError, Global};
 
@@ -167,7 +167,7 @@ fn check_text(tested: &Tested, text: &[u8], faults: &mut Faults) -> Result<(), A
 {
     let mut reader = start(tested.alloc, text);
     let mut fields = ByteRecord::new(tested.alloc);
-    let mut places = Places::new(tested.alloc);
+    let mut places = Places::new(tested.alloc, Hashing::of_text(text));
     check_records(tested, &mut reader, &mut fields, &mut places, faults)
 }
 

@@ -49,7 +49,7 @@ fn read_row(
     Ok(())
 }
 
-/// Tests the cells of the records that are left.
+/// Tests the cells of the records that are left, as long as more may be listed.
 fn read_rows(
     over: &Over,
     table: &Table,
@@ -64,6 +64,9 @@ fn read_rows(
         pass.new (λ name. rows_cells (name table.now.file) table.now.columns.now generator 1 rows)) }
 {
     for number in 1..u32::MAX {
+        if pass.is_done() {
+            return Ok(());
+        }
         if !next(reader, fields)? {
             return Ok(());
         }
