@@ -16,3 +16,4 @@ pub mod Breaches
 pub mod GluedPresentations
 pub mod Answered
 pub mod Initials
+pub mod Walking

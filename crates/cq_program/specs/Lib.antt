@@ -4,3 +4,4 @@ pub mod Program
 pub mod Judging
 pub mod Named
 pub mod Initial
+pub mod Stop

@@ -8,8 +8,10 @@ ghost use Rattle.cq_stating.specs.Environment.{AreSettled, WillSettle, environme
 ghost use Rattle.cq_program.specs.Judging.{AddsDecl, RefusesDecl, RefusesProgram};
 ghost use Rattle.cq_program.specs.Initial.{AreInitial};
 ghost use Rattle.cq_program.specs.Named.{listed_as, listings_in};
+ghost use Rattle.cq_program.specs.Stop.{Halts};
 
 use crate::models::meaning_of;
+use crate::stops::{Halt, halt_at, refusal_of};
 use cq_base::{Hashing, Name};
 use cq_io::Folder;
 use cq_model::Instance;
@@ -77,6 +79,26 @@ pub fn meaning<F: Folder>(
     ensures keeps { Keeps (F.state folder.old) (F.state folder.new) }
     ensures refuses { IfErr result (RefusesProgram depth (F.state folder.old) (F.state folder.new) program.now) }
 {
+    match meaning_or_stop(alloc, program, folder, depth) {
+        Ok(named) => Ok(named),
+        Err(halt) => Err(refusal_of(halt)),
+    }
+}
+
+/// The same, with the names before the declaration that is refused.
+pub fn meaning_or_stop<F: Folder>(
+    alloc: Global,
+    program: &Program,
+    folder: &mut F,
+    depth: u32,
+) -> Result<Vec<Named>, Halt>
+    requires few { HasFewParts program.now }
+    requires depth { depth ≤ 64 }
+    ensures means { IfOk result (λ named. Means (F.state folder.old).files program.now (map listed_as named.items)) }
+    ensures initial { IfOk result (λ named. AreInitial (map listed_as named.items)) }
+    ensures keeps { Keeps (F.state folder.old) (F.state folder.new) }
+    ensures halts { IfErr result (Halts depth (F.state folder.old) (F.state folder.new) program.now) }
+{
     let env = declare_all(alloc, program, folder, depth)?;
     let named = instances_of(alloc, env)?;
     Ok(named)
@@ -88,25 +110,29 @@ fn declare_all<F: Folder>(
     program: &Program,
     folder: &mut F,
     depth: u32,
-) -> Result<Environment, ProgramRefusal>
+) -> Result<Environment, Halt>
     requires few { HasFewParts program.now }
     requires depth { depth ≤ 64 }
     ensures follows { IfOk result (λ env. Follow (F.state folder.old).files [] program.now.decls
         (environment_of env.names.entries)) }
     ensures settled { IfOk result (λ env. AreSettled (environment_of env.names.entries)) }
     ensures keeps { Keeps (F.state folder.old) (F.state folder.new) }
-    ensures refuses { IfErr result (RefusesProgram depth (F.state folder.old) (F.state folder.new) program.now) }
+    ensures halts { IfErr result (Halts depth (F.state folder.old) (F.state folder.new) program.now) }
 {
     let mut env = Environment::new(alloc);
+    let mut number = 0;
     for decl in program.decls.as_slice() {
-        declare(alloc, &mut env, decl, folder, depth)?;
+        match declare(alloc, &mut env, decl, folder, depth) {
+            Ok(()) => number += 1,
+            Err(refusal) => return Err(halt_at(env, number, refusal)),
+        }
     }
     Ok(env)
 }
 
 /// Adds the name of a declaration, with what it stands for, or tells the first rule that it breaks; then each name
 /// stands for what it stood for.
-pub fn declare<F: Folder>(
+fn declare<F: Folder>(
     alloc: Global,
     env: &mut Environment,
     decl: &Decl,

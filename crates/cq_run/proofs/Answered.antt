@@ -5,13 +5,14 @@ use Rattle.cq_import.specs.Folders.{Keeps}
 use Rattle.cq_io.specs.Counts.{Rose}
 use Rattle.cq_io.specs.Reads.{IsReadOf}
 use Rattle.cq_io.specs.declared.folder.ReadRefusal.{ReadRefusal}
+use Rattle.cq_io.specs.declared.folder.ReadRefusal.TheVariants as refused
 use Rattle.cq_stating.specs.Folders.{Raised, Told}
 use Rattle.cq_program.specs.Named.{listed_as}
 use Rattle.cq_program.specs.Program.{Lacks}
 use Rattle.cq_stating.specs.declared.reason.ReadCause.{ReadCause}
 use Rattle.cq_stating.specs.declared.reason.ReadCause.TheVariants.{Absent, TooLong, Failed}
 use Rattle.cq_run.specs.Ask.{depth_asked, file_asked}
-use Rattle.cq_run.specs.Answer.{Answers, IsRefusalOf, Judges, SaysUnread}
+use Rattle.cq_run.specs.Answer.{Answers, IsRefusalOf, Judges, SaysRead, SaysUnread}
 use Rattle.cq_run.specs.Clause.{IsCauseOf, IsTextIn, IsTextOf, IsUnread, LacksText, file_limit}
 use Rattle.cq_run.specs.Meaning.{Means, MissesFile}
 use Rattle.cq_run.specs.declared.answer.Answer.{Answer}
@@ -102,10 +103,19 @@ answered_file ask file depth before read after text slice a is depth_is is_text 
     (subst (λ (k : ℕ). Judges k read after slice a) (sym depth_is) judged)
 
 -- it was not read
-pub unread : (ask : Ask) (file : List ℕ) (before after : FolderData) (cause : ReadCause) (a : Answer) → file_asked ask ≡ Some file
+unread : (ask : Ask) (file : List ℕ) (before after : FolderData) (cause : ReadCause) (a : Answer) → file_asked ask ≡ Some file
     → IsCauseOf cause file before.files → Raised cause before after → SaysUnread file cause a → Answers ask before after a
 unread ask file before after cause (answer.Accepted instances) is holds raised bad = absurd bad
 unread ask file before after cause (answer.Refused line) is holds raised bad = absurd bad
 unread ask file before after cause (answer.Unread line) is holds raised says =
     inl (lacks_asked ask file before after line.items is (record { cause = cause; holds = holds; raised = raised; line_is = says }))
 unread ask file before after cause answer.Memory is holds raised says = tt
+
+-- the same by the refusal of the read
+pub not_read_by : (ask : Ask) (file : List ℕ) (before after : FolderData) (refusal : ReadRefusal) (a : Answer) → file_asked ask ≡ Some file
+    → IsTold file before.files refusal → (refusal ≡ refused.Absent → Raised Absent before after) → (refusal ≡ refused.TooLong → Raised TooLong before after)
+    → (refusal ≡ refused.Failed → Raised Failed before after) → SaysRead file refusal a → Answers ask before after a
+not_read_by ask file before after refused.Absent a is told absent long failed says = unread ask file before after Absent a is told (absent refl) says
+not_read_by ask file before after refused.TooLong a is told absent long failed says = unread ask file before after TooLong a is told (long refl) says
+not_read_by ask file before after refused.Failed a is told absent long failed says = unread ask file before after Failed a is tt (failed refl) says
+not_read_by ask file before after refused.Memory a is told absent long failed says = subst (Answers ask before after) (sym says) tt

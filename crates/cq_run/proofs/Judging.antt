@@ -1,8 +1,6 @@
 -- From what lexing, parsing and the judgement of a program answer to how a text is judged.
-use Rattle.std.proofs.Common.{◌≡◌, ◌∙◌, ℕ, List, [], ap, sym, subst}
-use Rattle.std.specs.Prelude.{String, string_bytes}
-use Rattle.std.specs.declared.alloc.Global.{Global}
-use Rattle.cq_base.specs.declared.place.Place.{Place}
+use Rattle.std.proofs.Common.{◌≡◌, ℕ, List, [], sym, subst}
+use Rattle.std.specs.Prelude.{string_bytes}
 use Rattle.cq_lex.specs.declared.token.Token.{Token}
 use Rattle.cq_lex.specs.declared.refusal.LexRefusal.{LexRefusal}
 use Rattle.cq_lex.specs.declared.refusal.LexRefusal.TheVariants as lexical
@@ -15,15 +13,15 @@ use Rattle.cq_parse.specs.declared.refusal.ParseRefusal.TheVariants as grammatic
 use Rattle.cq_parse.specs.Parsed.{IsRefused, RefusedWith}
 use Rattle.cq_io.specs.FolderData.{FolderData}
 use Rattle.cq_stating.specs.Folders.{Told}
-use Rattle.cq_stating.specs.Lines.{reason_line}
 use Rattle.cq_program.specs.Judging.{RefusesProgram}
-use Rattle.cq_stating.specs.declared.reason.ProgramRefusal.{ProgramRefusal}
-use Rattle.cq_stating.specs.declared.reason.ProgramRefusal.TheVariants as program_refusal
-use Rattle.cq_stating.specs.declared.reason.ReadCause.{ReadCause}
-use Rattle.cq_stating.specs.declared.reason.Reason.{Reason}
-use Rattle.cq_run.specs.Answer.{IsRefusalOf, Judges, SaysUnread}
-use Rattle.cq_run.specs.Judged.{AreSound, JudgesProgram, JudgesTokens, TellsLex, TellsParse}
-use Rattle.cq_run.specs.Lines.{read_line}
+use Rattle.cq_program.specs.Stop.{Halts, refusal_at}
+use Rattle.cq_program.specs.declared.stops.Fault.{Fault}
+use Rattle.cq_program.specs.declared.stops.Fault.TheVariants as fault
+use Rattle.cq_program.specs.declared.stops.Halt.{Halt}
+use Rattle.cq_program.specs.declared.stops.Halt.TheVariants as halt
+use Rattle.cq_program.specs.declared.stops.Stop.{Stop}
+use Rattle.cq_run.specs.Answer.{IsRefusalOf, Judges}
+use Rattle.cq_run.specs.Judged.{AreSound, JudgesProgram, JudgesTokens, SaysFault, TellsLex, TellsParse}
 use Rattle.cq_run.specs.Meaning.{BreaksRule, IsAcceptable, IsSound, IsTreeIn, Means, RefusesTokens, lex_line, no_program, no_tokens, no_tree, broken, parse_line}
 use Rattle.cq_run.specs.declared.answer.Answer.{Answer}
 use Rattle.cq_run.specs.declared.answer.Answer.TheVariants as answer
@@ -45,33 +43,26 @@ by_tree depth before after tokens tree (answer.Refused line) is only breaks = (
 by_tree depth before after tokens tree (answer.Unread line) is only misses = (tree, is, misses)
 by_tree depth before after tokens tree answer.Memory is only judged = tt
 
--- the rule that is broken, told
-pub by_rule : (depth : ℕ) (before after : FolderData) (tree : Program) (refusal : ProgramRefusal) (place : Place) (reason : Reason) (line : List ℕ)
-    → refusal ≡ program_refusal.Broken place reason → RefusesProgram depth before after tree refusal → line ≡ reason_line place reason
-    → BreaksRule depth before.files tree line
-by_rule depth before after tree refusal place reason line is refuses says = record {
-  place = place;
-  reason = reason;
-  breaks = subst (λ (r : ProgramRefusal). RefusesProgram depth before after tree r) is refuses;
-  line_is = says;
-}
+-- what is wrong with a declaration, told
+by_fault : (depth : ℕ) (before after : FolderData) (tree : Program) (wrong : Fault) (a : Answer)
+    → RefusesProgram depth before after tree (refusal_at wrong) → SaysFault wrong a → JudgesProgram depth before after tree a
+by_fault depth before after tree (fault.Broken place reason) (answer.Accepted instances) tells bad = absurd bad
+by_fault depth before after tree (fault.Broken place reason) (answer.Unread line) tells bad = absurd bad
+by_fault depth before after tree (fault.Broken place reason) (answer.Refused line) tells says =
+    record { place = place; reason = reason; breaks = tells; line_is = says }
+by_fault depth before after tree (fault.Broken place reason) answer.Memory tells says = tt
+by_fault depth before after tree (fault.Unread file cause) (answer.Accepted instances) tells bad = absurd bad
+by_fault depth before after tree (fault.Unread file cause) (answer.Refused line) tells bad = absurd bad
+by_fault depth before after tree (fault.Unread file cause) (answer.Unread line) tells says =
+    record { file = string_bytes file; cause = cause; lacks = tells.0; raised = tells.1; line_is = says }
+by_fault depth before after tree (fault.Unread file cause) answer.Memory tells says = tt
 
--- the file that wasn't read, told
-pub by_file : (depth : ℕ) (before after : FolderData) (tree : Program) (refusal : ProgramRefusal) (file : String Global) (cause : ReadCause)
-    (name : List ℕ) (a : Answer) → refusal ≡ program_refusal.Read file cause → RefusesProgram depth before after tree refusal → name ≡ string_bytes file
-    → SaysUnread name cause a → JudgesProgram depth before after tree a
-by_file depth before after tree refusal file cause name (answer.Accepted instances) is refuses named bad = absurd bad
-by_file depth before after tree refusal file cause name (answer.Refused line) is refuses named bad = absurd bad
-by_file depth before after tree refusal file cause name (answer.Unread line) is refuses named says =
-    let lacks = subst (λ (r : ProgramRefusal). RefusesProgram depth before after tree r) is refuses in
-    record {
-      file = string_bytes file;
-      cause = cause;
-      lacks = lacks.0;
-      raised = lacks.1;
-      line_is = says ∙ ap (λ (n : List ℕ). read_line n cause) named;
-    }
-by_file depth before after tree refusal file cause name answer.Memory is refuses named says = tt
+-- where a program stops, told
+pub by_stop : (depth : ℕ) (before after : FolderData) (tree : Program) (h : Halt) (stop : Stop) (a : Answer) → h ≡ halt.Stopped stop
+    → Halts depth before after tree h → SaysFault stop.fault a → JudgesProgram depth before after tree a
+by_stop depth before after tree h stop a is halts says =
+    let halted : Halts depth before after tree (halt.Stopped stop) = subst (Halts depth before after tree) is halts in
+    by_fault depth before after tree stop.fault a halted.1 says
 
 -- what is told of a refusal is its line
 told_parse : (depth : ℕ) (told : Told) (tokens : List Token) (refusal : ParseRefusal) (line : List ℕ) → RefusedWith tokens refusal

@@ -6,6 +6,8 @@ mod Pushed
 mod Complete
 mod Judging
 mod Answered
-mod OneTranscript
+pub mod OneTranscript
 mod Made
 mod Asking
+pub mod Stopping
+pub mod Running

@@ -2,10 +2,13 @@
 use Rattle.std.specs.Prelude.{◌≡◌, ℕ, List, map}
 use Rattle.cq_export.specs.Held.{files_held}
 use Rattle.cq_io.specs.FolderData.{FolderData}
+use Rattle.cq_io.specs.declared.folder.ReadRefusal.{ReadRefusal}
+use Rattle.cq_io.specs.declared.folder.ReadRefusal.TheVariants as refused
 use Rattle.cq_stating.specs.Folders.{Told}
 use Rattle.cq_program.specs.Named.{listed_as}
 use Rattle.cq_program.specs.Program.{Listing}
 use Rattle.cq_stating.specs.declared.reason.ReadCause.{ReadCause}
+use Rattle.cq_stating.specs.declared.reason.ReadCause.TheVariants.{Absent, TooLong, Failed}
 use Rattle.cq_run.specs.Ask.{depth_asked}
 use Rattle.cq_run.specs.Clause.{IsTextOf, IsUnreadLine}
 use Rattle.cq_run.specs.Files.{files_of}
@@ -53,3 +56,10 @@ abbrev pub SaysUnread : List ℕ → ReadCause → Answer → Type 0
 SaysUnread name cause (answer.Unread line) = line.items ≡ read_line name cause
 SaysUnread name cause answer.Memory = Unit {0}
 SaysUnread name cause _ = ⊥
+
+-- the same by the refusal of the read
+abbrev pub SaysRead : List ℕ → ReadRefusal → Answer → Type 0
+SaysRead name refused.Absent told = SaysUnread name Absent told
+SaysRead name refused.TooLong told = SaysUnread name TooLong told
+SaysRead name refused.Failed told = SaysUnread name Failed told
+SaysRead name refused.Memory told = told ≡ answer.Memory

@@ -1,5 +1,5 @@
 -- How the steps of judging a text answer.
-use Rattle.std.specs.Prelude.{◌≡◌, ℕ, List, map}
+use Rattle.std.specs.Prelude.{◌≡◌, ℕ, List, map, string_bytes}
 use Rattle.cq_lex.specs.declared.token.Token.{Token}
 use Rattle.cq_lex.specs.declared.refusal.LexRefusal.{LexRefusal}
 use Rattle.cq_lex.specs.declared.refusal.LexRefusal.TheVariants as lexical
@@ -11,6 +11,10 @@ use Rattle.cq_stating.specs.Folders.{Told}
 use Rattle.cq_program.specs.Initial.{AreInitial}
 use Rattle.cq_program.specs.Named.{listed_as}
 use Rattle.cq_program.specs.Program as program
+use Rattle.cq_program.specs.declared.stops.Fault.{Fault}
+use Rattle.cq_program.specs.declared.stops.Fault.TheVariants.{Broken, Unread}
+use Rattle.cq_stating.specs.Lines.{reason_line}
+use Rattle.cq_run.specs.Answer.{SaysUnread}
 use Rattle.cq_run.specs.Meaning.{IsSound, IsTreeIn, BreaksRule, MissesFile, RefusesTokens, lex_line, parse_line}
 use Rattle.cq_run.specs.declared.answer.Answer.{Answer}
 use Rattle.cq_run.specs.declared.answer.Answer.TheVariants as answer
@@ -57,3 +61,8 @@ TellsParse (grammatical.Syntax place) told = SaysRefused (parse_line (grammatica
 TellsParse (grammatical.TooDeep place) told = SaysRefused (parse_line (grammatical.TooDeep place)) told
 TellsParse (grammatical.Unsupported place number) told = SaysRefused (parse_line (grammatical.Unsupported place number)) told
 TellsParse (grammatical.BadOption place) told = SaysRefused (parse_line (grammatical.BadOption place)) told
+
+-- the line of what is wrong with a declaration
+abbrev pub SaysFault : Fault → Answer → Type 0
+SaysFault (Broken place reason) told = SaysRefused (reason_line place reason) told
+SaysFault (Unread file cause) told = SaysUnread (string_bytes file) cause told

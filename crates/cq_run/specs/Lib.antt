@@ -11,3 +11,4 @@ pub mod Clause
 pub mod Writing
 pub mod Answer
 pub mod Judged
+pub mod Stops

@@ -1,14 +1,19 @@
 //! Reading or making the text of a run, and judging it.
-ghost use Rattle.std.specs.Prelude.{◌≡◌, ◌≤◌, IfOk, Some};
+ghost use Rattle.std.specs.Prelude.{◌≡◌, ◌≤◌, IfOk, IfSome, IsErrOf, Some, false, vec_len};
+ghost use Rattle.cq_import.specs.Folders.{Keeps};
+ghost use Rattle.cq_io.specs.Reads.{IsReadOf};
 ghost use Rattle.cq_run.specs.Ask.{depth_asked, file_asked};
-ghost use Rattle.cq_run.specs.Answer.{Answers, SaysUnread};
+ghost use Rattle.cq_run.specs.Answer.{Answers, SaysRead, SaysUnread};
+ghost use Rattle.cq_run.specs.Clause.{file_limit};
 ghost use Rattle.cq_run.specs.Lines.{read_line};
+ghost use Rattle.cq_run.specs.Meaning.{IsTreeOf};
+ghost use Rattle.cq_run.specs.Stops.{HasStop};
 ghost use Rattle.cq_words.specs.Ask.{Ask, IsInRange, ask_of, example};
 
-use crate::judge::judge;
+use crate::judge::{Judged, judge, judge_with_stop};
 use cq_example::example_text;
 use cq_io::{Folder, ReadRefusal};
-use cq_program::{Named, ReadCause};
+use cq_program::{Named, ReadCause, Stop};
 use cq_words::Request;
 use std::alloc::{AllocError, Global};
 
@@ -37,26 +42,76 @@ pub fn answer_to<F: Folder>(alloc: Global, request: Request<'_>, folder: &mut F)
     ensures answers { Answers (ask_of request.entry) (F.state folder.old) (F.state folder.new) result }
 {
     match request {
-        Request::Run { file, depth, .. } => answer_to_file(alloc, file, depth, folder),
+        Request::Run { file, depth, .. } => answer_alone(alloc, file, depth, folder),
         Request::Example(size) => answer_to_example(alloc, size, folder),
-        Request::Explain { file, depth, .. } => answer_to_file(alloc, file, depth, folder),
+        Request::Explain { file, depth, .. } => answer_alone(alloc, file, depth, folder),
     }
 }
 
-/// Reads the file, and judges its text.
-fn answer_to_file<F: Folder>(alloc: Global, file: &str, depth: u32, folder: &mut F) -> Answer
+/// Reads the file, judges its text, and gives back all else that is known of it.
+fn answer_alone<F: Folder>(alloc: Global, file: &str, depth: u32, folder: &mut F) -> Answer
     requires { depth ≤ 64 }
     ensures files { (F.state folder.new).files ≡ (F.state folder.old).files }
     ensures answers { (ask : Ask) → file_asked ask ≡ Some file.now → depth_asked ask ≡ depth → Answers ask
         (F.state folder.old) (F.state folder.new)
         result }
 {
+    let FileAnswer { answer, .. } = answer_to_file(alloc, file, depth, folder);
+    answer
+}
+
+/// What was read of a file, what becomes of it, and where its program stops to meet its rules, if it does.
+#[derive(Drop)]
+pub struct FileAnswer {
+    pub reading: Result<Vec<u8>, ReadRefusal>,
+    pub answer: Answer,
+    pub stop: Option<Stop>,
+}
+
+/// Reads the file, and judges its text.
+pub fn answer_to_file<F: Folder>(
+    alloc: Global,
+    file: &str,
+    depth: u32,
+    folder: &mut F,
+) -> FileAnswer
+    requires { depth ≤ 64 }
+    ensures keeps { Keeps (F.state folder.old) (F.state folder.new) }
+    ensures answers { (ask : Ask) → file_asked ask ≡ Some file.now → depth_asked ask ≡ depth → Answers ask
+        (F.state folder.old) (F.state folder.new)
+        result.answer }
+    ensures told { IfSome (F.state folder.old).files (IsReadOf file.now file_limit result.reading) }
+    ensures short { IfOk result.reading (λ text. vec_len text ≤ file_limit) }
+    ensures fails { IsErrOf result.reading ReadRefusal.Failed → (F.state folder.old).steady ≡ false }
+    ensures stops { IfOk result.reading (λ text. HasStop (IsTreeOf text.items) depth (F.state folder.old).files
+        result.answer result.stop) }
+{
     match folder.read(file, FILE_LIMIT) {
-        Ok(text) => judge(alloc, text.as_slice(), depth, folder),
-        Err(ReadRefusal::Absent) => unread(alloc, file, ReadCause::Absent),
-        Err(ReadRefusal::TooLong) => unread(alloc, file, ReadCause::TooLong),
-        Err(ReadRefusal::Failed) => unread(alloc, file, ReadCause::Failed),
-        Err(ReadRefusal::Memory) => Answer::Memory,
+        Ok(text) => {
+            let Judged { answer, stop } = judge_with_stop(alloc, text.as_slice(), depth, folder);
+            FileAnswer {
+                reading: Ok(text),
+                answer,
+                stop,
+            }
+        }
+        Err(refusal) => FileAnswer {
+            reading: Err(refusal),
+            answer: answer_unread(alloc, file, refusal),
+            stop: None,
+        },
+    }
+}
+
+/// What is to be written for a file that was not read, by its refusal.
+fn answer_unread(alloc: Global, file: &str, refusal: ReadRefusal) -> Answer
+    ensures { SaysRead file.now refusal result }
+{
+    match refusal {
+        ReadRefusal::Absent => unread(alloc, file, ReadCause::Absent),
+        ReadRefusal::TooLong => unread(alloc, file, ReadCause::TooLong),
+        ReadRefusal::Failed => unread(alloc, file, ReadCause::Failed),
+        ReadRefusal::Memory => Answer::Memory,
     }
 }
 

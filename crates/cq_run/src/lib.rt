@@ -13,5 +13,6 @@ mod status;
 mod summary;
 mod top;
 
+pub use answer::{Answer, FileAnswer, answer_to_file};
 pub use status::Status;
 pub use top::run;

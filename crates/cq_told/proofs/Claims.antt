@@ -1,6 +1,6 @@
 -- What is told of a fault, put together from what its parts tell.
-use Rattle.std.proofs.Common.{ℕ, List, [], ◌++◌, ◌≡◌, ◌⊎◌, ◌<◌, inl, inr, Bool, true, false, String, Option, Some, None, Result, Ok, Err, IfOk, length, refl, sym, ap, subst, ◌∙◌}
-use Rattle.std.specs.Prelude.{IfSome, IsErr, MatchOption, Vec, get_or, slice_get}
+use Rattle.std.proofs.Common.{ℕ, List, [], ◌++◌, ◌≡◌, ◌⊎◌, ◌<◌, ◌≤◌, inl, inr, Bool, true, false, String, Option, Some, None, Result, Ok, Err, IfOk, length, refl, sym, ap, subst, ◌∙◌}
+use Rattle.std.specs.Prelude.{IfSome, IsErr, MatchOption, Vec, get_or, slice_get, vec_len}
 use Rattle.std.specs.declared.alloc.AllocError.{AllocError}
 use Rattle.std.specs.declared.alloc.Global.{Global}
 use Rattle.std.proofs.lemmas.Option.{slice_get-get_or}
@@ -20,14 +20,14 @@ use Rattle.cq_stating.specs.Folders.{Told}
 use Rattle.cq_stating.specs.declared.reason.ReadCause.{ReadCause}
 use Rattle.cq_stating.specs.declared.reason.Reason.{Reason}
 use Rattle.cq_stating.specs.declared.reason.Reason.TheVariants.{Inconsistent, Unknown}
-use Rattle.cq_stopped.specs.Stop.{MeetRules, StopsAt}
-use Rattle.cq_stopped.specs.declared.stop.Fault.{Fault}
-use Rattle.cq_stopped.specs.declared.stop.Fault.TheVariants.{Broken, Unread}
-use Rattle.cq_stopped.specs.declared.stop.Stop.{Stop}
+use Rattle.cq_program.specs.Stop.{MeetRules, StopsAt}
+use Rattle.cq_program.specs.declared.stops.Fault.{Fault}
+use Rattle.cq_program.specs.declared.stops.Fault.TheVariants.{Broken, Unread}
+use Rattle.cq_program.specs.declared.stops.Stop.{Stop}
 use Rattle.cq_syntax.specs.Program.{IsProgram, FitsLimits}
 use Rattle.cq_syntax.specs.declared.program.Decl.{Decl}
 use Rattle.cq_syntax.specs.declared.program.Program.{Program}
-use Rattle.cq_told.specs.Explained.{AreMet, Explains, ExplainsText, HasDerived, IsDerived, IsMet, IsProgramFault, IsShownOf, IsTextFault, IsTokenFault, IsToldOf}
+use Rattle.cq_told.specs.Explained.{AreMet, Explains, ExplainsText, HasDerived, IsDerived, IsMet, IsProgramFault, IsShownOf, IsTextFault, IsTokenFault, IsToldOf, StopsIn, StopsOrMeets}
 use Rattle.cq_told.specs.Explained.{absent, at_name, failed, faulty, file_limit, met, no_meaning, no_program, read, there, too_long}
 use Rattle.cq_told.specs.declared.telling.Telling.{Telling}
 
@@ -96,8 +96,19 @@ same_at decls slice n d e are inside at =
     cc
 
 module _ (depth : ℕ) (files : Told) where
-  pub stop_at : (tree : Program) (found : Option Stop) (stop : Stop) → found ≡ Some stop → MatchOption found (MeetRules files tree) (StopsAt depth files tree) → StopsAt depth files tree stop
-  stop_at tree found stop is told = subst (λ (o : Option Stop). MatchOption o (MeetRules files tree) (StopsAt depth files tree)) is told
+  -- a stop, or none
+  pub stop_at : (tree : Program) (found : Option Stop) (stop : Stop) → found ≡ Some stop → StopsOrMeets depth files tree found → StopsAt depth files tree stop
+  stop_at tree found stop is stops = subst (StopsOrMeets depth files tree) is stops
+
+  pub meets_at : (tree : Program) (found : Option Stop) → found ≡ None → StopsOrMeets depth files tree found → MeetRules files tree
+  meets_at tree found is stops = subst (StopsOrMeets depth files tree) is stops
+
+  -- the stop of a text that was read
+  pub stops_read : (r : Result (Vec ℕ Global) ReadRefusal) (text : Vec ℕ Global) (slice : List ℕ) (stop : Option Stop) → r ≡ Ok text → slice ≡ text.items
+      → IfOk r (λ t. StopsIn depth files t.items stop) → StopsIn depth files slice stop
+  stops_read r text slice stop is same stops =
+      let read : StopsIn depth files text.items stop = subst (λ (x : Result (Vec ℕ Global) ReadRefusal). IfOk x (λ t. StopsIn depth files t.items stop)) is stops in
+      subst (λ (t : List ℕ). StopsIn depth files t stop) (sym same) read
 
   pub program_ok : (tokens : List Token) (tree : Program) (r : MaybeTelled) → IsProgram tokens tree × FitsLimits tree
       → IfOk r (λ found. MatchOption found (MeetRules files tree) (λ t. IsProgramFault depth files tokens tree t.place t.words.items))
@@ -128,11 +139,18 @@ module _ (depth : ℕ) (files : Told) where
 
 -- the folder that a file was read from
 module _ (depth : ℕ) (folder : FolderData) (file : List ℕ) where
-  pub read_ok : (after : Told) (text slice : List ℕ) (r : Bytes) → IfSome folder.files (λ known. find_file file known ≡ Some text) → after ≡ folder.files → slice ≡ text
-      → IfOk r (λ out. ExplainsText depth after slice out.items) → IfOk r (λ out. Explains depth folder file out.items)
-  read_ok after text slice (Ok out) known kept same told =
-      read text known (subst (λ (x : Told × List ℕ). ExplainsText depth x.0 x.1 out.items) (λ i. (kept i, same i)) told)
-  read_ok after text slice (Err e) known kept same told = tt
+  -- what a read answers
+  abbrev IsAnswer : Result (Vec ℕ Global) ReadRefusal → Type 0
+  IsAnswer r = IfSome folder.files (IsReadOf file file_limit r)
+
+  pub short_of : (r : Result (Vec ℕ Global) ReadRefusal) (text : Vec ℕ Global) → r ≡ Ok text → IfOk r (λ t. vec_len t ≤ file_limit) → vec_len text ≤ file_limit
+  short_of r text is short = subst (λ (x : Result (Vec ℕ Global) ReadRefusal). IfOk x (λ t. vec_len t ≤ file_limit)) is short
+
+  pub read_ok : (reading : Result (Vec ℕ Global) ReadRefusal) (text : Vec ℕ Global) (slice : List ℕ) (r : Bytes) → reading ≡ Ok text → IsAnswer reading → slice ≡ text.items
+      → IfOk r (λ out. ExplainsText depth folder.files slice out.items) → IfOk r (λ out. Explains depth folder file out.items)
+  read_ok reading text slice (Ok out) is known same told =
+      read text.items (subst IsAnswer is known) (subst (λ (t : List ℕ). ExplainsText depth folder.files t out.items) same told)
+  read_ok reading text slice (Err e) is known same told = tt
 
   unread_by : (refusal : ReadRefusal) (out : Vec ℕ Global) → IfSome folder.files (IsReadOf file file_limit (Err refusal)) → (refusal ≡ refused.Failed → folder.steady ≡ false)
       → (refusal ≡ refused.Memory → ⊥) → Explains depth folder file out.items
@@ -141,7 +159,8 @@ module _ (depth : ℕ) (folder : FolderData) (file : List ℕ) where
   unread_by refused.Failed out known fails none = failed (fails refl)
   unread_by refused.Memory out known fails none = absurd (none refl)
 
-  pub unread_ok : (refusal : ReadRefusal) (r : Bytes) → IfSome folder.files (IsReadOf file file_limit (Err refusal)) → (refusal ≡ refused.Failed → folder.steady ≡ false)
-      → (refusal ≡ refused.Memory → IsErr r) → IfOk r (λ out. Explains depth folder file out.items)
-  unread_ok refusal (Ok out) known fails none = unread_by refusal out known fails (λ is. let wrong : false ≡ true = none is in cc)
-  unread_ok refusal (Err e) known fails none = tt
+  pub unread_ok : (reading : Result (Vec ℕ Global) ReadRefusal) (refusal : ReadRefusal) (r : Bytes) → reading ≡ Err refusal → IsAnswer reading
+      → (reading ≡ Err refused.Failed → folder.steady ≡ false) → (refusal ≡ refused.Memory → IsErr r) → IfOk r (λ out. Explains depth folder file out.items)
+  unread_ok reading refusal (Ok out) is known fails none =
+      unread_by refusal out (subst IsAnswer is known) (λ at. fails (is ∙ ap (λ (e : ReadRefusal). Err e) at)) (λ at. let wrong : false ≡ true = none at in cc)
+  unread_ok reading refusal (Err e) is known fails none = tt

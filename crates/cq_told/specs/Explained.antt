@@ -1,5 +1,5 @@
 -- What is told of a file: of its first fault the line at the place, with a caret, and then words.
-use Rattle.std.specs.Prelude.{ℕ, List, [], ◌++◌, ◌≡◌, ◌⊎◌, Some, None, IfSome, false}
+use Rattle.std.specs.Prelude.{ℕ, List, [], ◌++◌, ◌≡◌, ◌⊎◌, Option, Some, None, IfSome, false}
 use Rattle.cq_base.specs.declared.name.Name.{Name}
 use Rattle.cq_base.specs.declared.place.Place.{Place}
 use Rattle.cq_clash.specs.Clash.{TellsClash}
@@ -18,10 +18,10 @@ use Rattle.cq_place.specs.Shown.{shown_at}
 use Rattle.cq_stating.specs.Folders.{Told}
 use Rattle.cq_stating.specs.declared.reason.Reason.{Reason}
 use Rattle.cq_stating.specs.declared.reason.Reason.TheVariants.{Inconsistent, Unknown}
-use Rattle.cq_stopped.specs.Stop.{MeetRules, StopsAt}
-use Rattle.cq_stopped.specs.declared.stop.Fault.{Fault}
-use Rattle.cq_stopped.specs.declared.stop.Fault.TheVariants.{Broken, Unread}
-use Rattle.cq_stopped.specs.declared.stop.Stop.{Stop}
+use Rattle.cq_program.specs.Stop.{MeetRules, StopsAt}
+use Rattle.cq_program.specs.declared.stops.Fault.{Fault}
+use Rattle.cq_program.specs.declared.stops.Fault.TheVariants.{Broken, Unread}
+use Rattle.cq_program.specs.declared.stops.Stop.{Stop}
 use Rattle.cq_syntax.specs.Program.{IsProgram, FitsLimits}
 use Rattle.cq_syntax.specs.declared.program.Decl.{Decl}
 use Rattle.cq_syntax.specs.declared.program.Program.{Program}
@@ -71,6 +71,19 @@ IsToldOf tokens decl (Unread file cause) place words = place ≡ decl.place
 
 -- what a folder tells of its files, at a depth to which models are made
 module _ (depth : ℕ) (files : Told) where
+  -- a program stops there to meet its rules, or meets them all
+  abbrev pub StopsOrMeets : Program → Option Stop → Type 0
+  StopsOrMeets tree None = MeetRules files tree
+  StopsOrMeets tree (Some stop) = StopsAt depth files tree stop
+
+  -- so does the one that the tokens spell, if they do
+  abbrev pub StopsAmong : List Token → Option Stop → Type 0
+  StopsAmong tokens stop = (tree : Program) → IsProgram tokens tree → FitsLimits tree → StopsOrMeets tree stop
+
+  -- or the one of a text
+  abbrev pub StopsIn : List ℕ → Option Stop → Type 0
+  StopsIn text stop = (tokens : List Token) → lexed.Tokens text tokens → StopsAmong tokens stop
+
   -- the declarations of a program meet their rules up to one, and this is told of it
   pub record IsProgramFault (tokens : List Token) (tree : Program) (place : Place) (words : List ℕ) : Type 0 where
     pub stop : Stop

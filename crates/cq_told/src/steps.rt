@@ -1,12 +1,15 @@
 //! The steps at which a file is refused: reading it, its tokens, its grammar, its declarations.
-ghost use Rattle.std.specs.Prelude.{◌≡◌, ◌<◌, ◌≤◌, ◌^◌, IfOk, IsErr, MatchOption, Some, length, slice_get};
+ghost use Rattle.std.specs.Prelude.{◌≡◌, ◌<◌, ◌≤◌, ◌^◌, IfOk, IfSome, IsErr, IsErrOf, MatchOption, Some, false};
+ghost use Rattle.std.specs.Prelude.{length, slice_get, vec_len};
 ghost use Rattle.cq_lex.specs.Spans.{EndsOnce};
+ghost use Rattle.cq_io.specs.Reads.{IsReadOf};
 ghost use Rattle.cq_parts.specs.Few.{HasFewParts, part_count};
+ghost use Rattle.cq_program.specs.Stop.{MeetRules};
 ghost use Rattle.cq_stating.specs.Environment.{AreSettled, environment_of};
-ghost use Rattle.cq_stopped.specs.Stop.{MeetRules};
 ghost use Rattle.cq_syntax.specs.declared.program.Decl.{Decl as AnyDecl};
 ghost use Rattle.cq_told.specs.Explained.{AreMet, Explains, ExplainsText, IsMet, IsProgramFault, IsTextFault};
-ghost use Rattle.cq_told.specs.Explained.{IsGrammaticalPlace, IsLexicalPlace, IsTokenFault, IsToldOf};
+ghost use Rattle.cq_told.specs.Explained.{IsGrammaticalPlace, IsLexicalPlace, IsTokenFault, IsToldOf, file_limit};
+ghost use Rattle.cq_told.specs.Explained.{StopsAmong, StopsIn, StopsOrMeets};
 
 use crate::broken::broken_telling;
 use crate::case::{Book, Case};
@@ -18,30 +21,34 @@ use cq_io::{Folder, Listing, ReadRefusal};
 use cq_lex::{LexRefusal, lex};
 use cq_parse::{ParseRefusal, parse};
 use cq_parts::has_few_parts;
+use cq_program::{Fault, Stop};
 use cq_sentences::{Code, Unread, append_filled};
 use cq_stating::ReadCause;
-use cq_stopped::{Fault, Stop, stop_of};
 use cq_syntax::Decl;
 use std::alloc::{AllocError, Global};
 
-/// The most bytes of a program file: 8 MiB.
-const FILE_LIMIT: u64 = 8388608;
-
-/// Why the file of a name is refused, with models made to a depth: the line at the place of its first fault, under it a
-/// caret, and then in words what is wrong and what there is to mend. Nothing, where it isn't refused.
+/// Why the file of a name is refused, by what was read of it, and where its program stops to meet its rules, with
+/// models made to a depth: the line at the place of its first fault, under it a caret, and then in words what is wrong
+/// and what there is to mend. Nothing, where it isn't refused.
 pub fn explanation<F: Folder + Listing>(
     alloc: Global,
     file: &str,
+    reading: &Result<Vec<u8>, ReadRefusal>,
+    stop: &Option<Stop>,
     depth: u32,
     folder: &mut F,
 ) -> Result<Vec<u8>, AllocError>
-    requires { depth ≤ 64 }
+    requires depth { depth ≤ 64 }
+    requires read { IfSome (F.state folder.old).files (IsReadOf file.now file_limit reading.now) }
+    requires short { IfOk reading.now (λ text. vec_len text ≤ file_limit) }
+    requires fails { IsErrOf reading.now ReadRefusal.Failed → (F.state folder.old).steady ≡ false }
+    requires stops { IfOk reading.now (λ text. StopsIn depth (F.state folder.old).files text.items stop.now) }
     ensures files { (F.state folder.new).files ≡ (F.state folder.old).files }
     ensures told { IfOk result (λ out. Explains depth (F.state folder.old) file.now out.items) }
 {
-    match folder.read(file, FILE_LIMIT) {
-        Ok(text) => text_explanation(alloc, text.as_slice(), depth, folder),
-        Err(refusal) => unread_explanation(alloc, refusal, file, folder),
+    match reading {
+        Ok(text) => text_explanation(alloc, text.as_slice(), stop, depth, folder),
+        Err(refusal) => unread_explanation(alloc, *refusal, file, folder),
     }
 }
 
@@ -85,15 +92,17 @@ fn append_unread<F: Listing>(
 fn text_explanation<F: Folder + Listing>(
     alloc: Global,
     text: &[u8],
+    stop: &Option<Stop>,
     depth: u32,
     folder: &mut F,
 ) -> Result<Vec<u8>, AllocError>
     requires length { length text.now ≤ 2 ^ 23 }
     requires depth { depth ≤ 64 }
+    requires stops { StopsIn depth (F.state folder.old).files text.now stop.now }
     ensures files { (F.state folder.new).files ≡ (F.state folder.old).files }
     ensures told { IfOk result (λ out. ExplainsText depth (F.state folder.old).files text.now out.items) }
 {
-    let found = text_telling(alloc, text, depth, folder)?;
+    let found = text_telling(alloc, text, stop, depth, folder)?;
     match &found {
         Some(telling) => shown(alloc, text, telling),
         None => Ok(Vec::new(alloc)),
@@ -104,11 +113,13 @@ fn text_explanation<F: Folder + Listing>(
 fn text_telling<F: Folder + Listing>(
     alloc: Global,
     text: &[u8],
+    stop: &Option<Stop>,
     depth: u32,
     folder: &mut F,
 ) -> Result<Option<Telling>, AllocError>
     requires length { length text.now ≤ 2 ^ 23 }
     requires depth { depth ≤ 64 }
+    requires stops { StopsIn depth (F.state folder.old).files text.now stop.now }
     ensures files { (F.state folder.new).files ≡ (F.state folder.old).files }
     ensures told { IfOk result (λ found. MatchOption found (IsMet depth (F.state folder.old).files text.now)
         (λ telling. IsTextFault depth (F.state folder.old).files text.now telling.place telling.words.items)) }
@@ -116,7 +127,7 @@ fn text_telling<F: Folder + Listing>(
     match lex(alloc, text) {
         Ok(tokens) => {
             let tokens = tokens.as_slice();
-            tokens_telling(alloc, Page { text, tokens }, depth, folder)
+            tokens_telling(alloc, Page { text, tokens }, stop, depth, folder)
         }
         Err(refusal) => {
             let telling = lexical_telling(alloc, refusal)?;
@@ -142,11 +153,13 @@ fn lexical_telling(alloc: Global, refusal: LexRefusal) -> Result<Telling, AllocE
 fn tokens_telling<F: Folder + Listing>(
     alloc: Global,
     page: Page<'_>,
+    stop: &Option<Stop>,
     depth: u32,
     folder: &mut F,
 ) -> Result<Option<Telling>, AllocError>
     requires end { EndsOnce page.tokens.now }
     requires depth { depth ≤ 64 }
+    requires stops { StopsAmong depth (F.state folder.old).files page.tokens.now stop.now }
     ensures files { (F.state folder.new).files ≡ (F.state folder.old).files }
     ensures told { IfOk result (λ found. MatchOption found (AreMet depth (F.state folder.old).files page.entry.tokens.now)
         (λ telling. IsTokenFault depth (F.state folder.old).files page.entry.tokens.now telling.place
@@ -161,6 +174,7 @@ fn tokens_telling<F: Folder + Listing>(
                     page,
                     program,
                 },
+                stop,
                 depth,
                 folder,
             )
@@ -194,10 +208,12 @@ fn grammatical_telling(
 /// What is told of a program that breaks a rule.
 fn program_telling<F: Folder + Listing>(
     book: Book<'_>,
+    stop: &Option<Stop>,
     depth: u32,
     folder: &mut F,
 ) -> Result<Option<Telling>, AllocError>
-    requires { depth ≤ 64 }
+    requires depth { depth ≤ 64 }
+    requires stops { StopsOrMeets depth (F.state folder.old).files book.program.now stop.now }
     ensures files { (F.state folder.new).files ≡ (F.state folder.old).files }
     ensures told { IfOk result (λ found. MatchOption found
         (MeetRules (F.state folder.old).files book.entry.program.now)
@@ -207,8 +223,7 @@ fn program_telling<F: Folder + Listing>(
     if !has_few_parts(book.program) {
         return Err(AllocError);
     }
-    let found = stop_of(book.alloc, book.program, folder, depth)?;
-    match &found {
+    match stop {
         Some(stop) => {
             let telling = stop_telling(book, stop, depth, folder)?;
             Ok(Some(telling))

@@ -1,16 +1,15 @@
 -- What is told, by the status that is wanted.
-use Rattle.std.proofs.Common.{◌≡◌, ◌++◌, ℕ, List, Option, Some, None, Result, Ok, Err, IfOk, ap, sym, ◌∙◌, subst, inl, inr}
-use Rattle.std.specs.Prelude.{◌⊎◌, option_map}
+use Rattle.std.proofs.Common.{◌≡◌, ℕ, List, Option, Some, None, Result, Ok, Err, IfOk, ap, sym, ◌∙◌, subst, inl, inr}
+use Rattle.std.specs.Prelude.{option_map}
 use Rattle.std.specs.declared.alloc.AllocError.{AllocError}
 use Rattle.cq_asked.specs.Asked.{file_asked}
 use Rattle.cq_io.specs.FolderData.{FolderData}
 use Rattle.cq_io.specs.Writes.{Appends}
-use Rattle.cq_run.specs.Clause.{Loses}
 use Rattle.cq_run.specs.Scene.{Drain}
 use Rattle.cq_run.specs.Writing.{Tells as TellsLine}
 use Rattle.cq_run.specs.declared.status.Status.{Status}
 use Rattle.cq_run.specs.declared.status.Status.TheVariants as status
-use Rattle.cq_words.specs.Ask.{Ask}
+use Rattle.cq_words.specs.Ask.{Ask, run, example, explain}
 use Rattle.cq_words.specs.Reads.{reads}
 use Rattle.cq_why.specs.Clause.{BeginsWithLine, HasToTell, Ran, WhyGives}
 use Rattle.cq_why.specs.Replies.{GoesOn, SaysOk}
@@ -41,6 +40,24 @@ pub no_file : {A : Type 0} (view : A → List ℕ × ℕ) (found : Option A) (sl
     → option_map view found ≡ file_asked (reads slice) → slice ≡ words → file_asked (reads words) ≡ None
 no_file view found slice words none asked same =
     ap (λ (w : List (List ℕ)). file_asked (reads w)) (sym same) ∙ sym asked ∙ ap (option_map view) none
+
+-- the words of such a run
+asks_run : (ask : Option Ask) (file : List ℕ) (depth : ℕ) → file_asked ask ≡ Some (file, depth) → ask ≡ Some (run file depth None)
+asks_run (Some (run name deep None)) file depth is =
+    let there : List ℕ × ℕ = (name, deep) in
+    let wanted : List ℕ × ℕ = (file, depth) in
+    let same : there ≡ wanted = cc in
+    λ i. Some (run (same i).0 (same i).1 None)
+asks_run (Some (run name deep (Some only))) file depth is = absurd (cc is)
+asks_run (Some (example size)) file depth is = absurd (cc is)
+asks_run (Some (explain name instance left right deep)) file depth is = absurd (cc is)
+asks_run None file depth is = absurd (cc is)
+
+pub asks_file : {A : Type 0} (view : A → List ℕ × ℕ) (found : Option A) (slice words : List (List ℕ)) (a : A) → found ≡ Some a
+    → option_map view found ≡ file_asked (reads slice) → slice ≡ words → reads words ≡ Some (run (view a).0 (view a).1 None)
+asks_file view found slice words a some asked same =
+    let here : file_asked (reads slice) ≡ Some ((view a).0, (view a).1) = sym asked ∙ ap (option_map view) some in
+    ap reads (sym same) ∙ asks_run (reads slice) (view a).0 (view a).1 here
 
 -- a run that accepts
 pub accepted_tells : (ask : Option Ask) (folder : FolderData) (ended : Status) (line : List ℕ) (result : Result Reply AllocError)

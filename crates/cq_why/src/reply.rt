@@ -1,14 +1,14 @@
 //! What is told of a file.
-ghost use Rattle.std.specs.Prelude.{◌≡◌, ◌≤◌, IfOk, map, string_bytes};
+ghost use Rattle.std.specs.Prelude.{◌≡◌, ◌≤◌, IfOk, None, Some, map, string_bytes};
 ghost use Rattle.cq_asked.specs.Asked.{run_words};
+ghost use Rattle.cq_words.specs.Ask.{run};
 ghost use Rattle.cq_words.specs.Reads.{reads};
 ghost use Rattle.cq_why.specs.Clause.{HasToTell};
 ghost use Rattle.cq_why.specs.Replies.{GoesOn, SaysOk};
 
-use crate::line::{Line, line_of};
 use cq_asked::{Asked, notice, read_run_words, run_words};
 use cq_io::{Folder, Listing};
-use cq_run::Status;
+use cq_run::{Answer, FileAnswer, Status, answer_to_file};
 use cq_told::explanation;
 use std::alloc::{AllocError, Global};
 
@@ -33,7 +33,7 @@ pub fn reply_to<F: Folder + Listing>(
     let all_words = all.as_slice();
     let found = read_run_words(alloc, all_words)?;
     match found {
-        Some(asked) => reply_about(alloc, all_words, asked, folder),
+        Some(asked) => reply_about(alloc, asked, folder),
         None => {
             let text = notice(alloc, words)?;
             Ok(Reply {
@@ -44,27 +44,33 @@ pub fn reply_to<F: Folder + Listing>(
     }
 }
 
-/// What is to be written of a file, by the words of its run.
+/// What is to be written of a file, by what becomes of it in a run.
 fn reply_about<F: Folder + Listing>(
     alloc: Global,
-    words: &[String],
     asked: Asked<'_>,
     folder: &mut F,
 ) -> Result<Reply, AllocError>
     requires { asked.depth ≤ 64 }
     ensures files { (F.state folder.new).files ≡ (F.state folder.old).files }
-    ensures tells { IfOk result (λ reply. HasToTell (reads (map string_bytes words.now)) (F.state folder.old)
-        reply.status reply.text.items) }
+    ensures tells { IfOk result (λ reply. HasToTell (Some (run asked.entry.file.now asked.entry.depth None))
+        (F.state folder.old) reply.status reply.text.items) }
 {
-    let Line { status, text } = line_of(alloc, words, folder);
-    match status {
-        Status::Ok => accepted(alloc),
-        Status::Refused => explained(alloc, Status::Refused, text, asked, folder),
-        Status::Read => explained(alloc, Status::Read, text, asked, folder),
-        // The words name a file, and the sink fails only for want of memory.
-        Status::Usage => Err(AllocError),
-        Status::Write => Err(AllocError),
-        Status::Memory => Err(AllocError),
+    let FileAnswer {
+        reading,
+        answer,
+        stop,
+    } = answer_to_file(alloc, asked.file, asked.depth, folder);
+    match answer {
+        Answer::Accepted(_) => accepted(alloc),
+        Answer::Refused(line) => {
+            let rest = explanation(alloc, asked.file, &reading, &stop, asked.depth, folder)?;
+            followed(Status::Refused, line, rest)
+        }
+        Answer::Unread(line) => {
+            let rest = explanation(alloc, asked.file, &reading, &stop, asked.depth, folder)?;
+            followed(Status::Read, line, rest)
+        }
+        Answer::Memory => Err(AllocError),
     }
 }
 
@@ -80,18 +86,9 @@ fn accepted(alloc: Global) -> Result<Reply, AllocError>
 }
 
 /// A line with its status, and behind it why it was written.
-fn explained<F: Folder + Listing>(
-    alloc: Global,
-    status: Status,
-    line: Vec<u8>,
-    asked: Asked<'_>,
-    folder: &mut F,
-) -> Result<Reply, AllocError>
-    requires { asked.depth ≤ 64 }
-    ensures files { (F.state folder.new).files ≡ (F.state folder.old).files }
-    ensures goes_on { IfOk result (GoesOn status line.items) }
+fn followed(status: Status, line: Vec<u8>, rest: Vec<u8>) -> Result<Reply, AllocError>
+    ensures { IfOk result (GoesOn status line.items) }
 {
-    let rest = explanation(alloc, asked.file, asked.depth, folder)?;
     let mut text = line;
     text.extend_from_slice(rest.as_slice())?;
     Ok(Reply { status, text })

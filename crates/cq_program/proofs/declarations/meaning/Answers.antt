@@ -1,9 +1,7 @@
-use Rattle.std.proofs.Common.{map}
-use Rattle.cq_stating.specs.Environment.{environment_of}
-use Rattle.cq_program.specs.Named.{listed_as}
-use Rattle.cq_program.proofs.Initials.{are_initial}
+use Rattle.cq_program.proofs.Walking.{refuses_halt}
 use Rattle.cq_program.proofs.declarations.meaning.Goals as goal
 
-pub returns-clause-initial : goal.returns-clause-initial
-returns-clause-initial g c =
-    are_initial (environment_of c.in_ok-env.env.names.entries) (map listed_as c.in_ok-named.named.items) c.in_ok-env.ensures.settled c.in_ok-named.ensures
+pub returns-in-Err-clause-refuses : goal.returns-in-Err-clause-refuses
+returns-in-Err-clause-refuses g c =
+    refuses_halt c.args.depth (g.F.Folder.state c.args.folder.now) (g.F.Folder.state c.meaning_or_stop.new.folder) c.args.program.now c.in-Err.halt
+    c.refusal_of.result c.refusal_of.ensures c.in-Err.ensures.halts

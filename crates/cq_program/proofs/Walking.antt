@@ -1,11 +1,7 @@
--- The declaration at which a walk stops, and one that it passes.
-use Rattle.std.proofs.Common.{true, false, ℕ, List, [], ◌+◌, ◌≡◌, ◌<◌, ◌≤◌, length, take, get_or, sym, ap, ◌∙◌, subst, arith, Option, Some, None, slice_get, Result, Ok, Err, IfOk, IsErr, string_bytes}
-use Rattle.std.proofs.lemmas.List.{take_all}
+-- The declaration at which a walk stops.
+use Rattle.std.proofs.Common.{ℕ, List, [], ◌≡◌, ◌<◌, length, take, get_or, sym, ap, ◌∙◌, subst, Some, slice_get, string_bytes}
 use Rattle.std.proofs.lemmas.Option.{slice_get-get_or}
-use Rattle.std.specs.Prelude.{MatchOption}
-use Rattle.std.specs.declared.alloc.AllocError.{AllocError}
 use Rattle.cq_io.specs.FolderData.{FolderData}
-use Rattle.cq_base.specs.declared.place.Place.{Place}
 use Rattle.cq_syntax.specs.declared.program.Decl.{Decl}
 use Rattle.cq_syntax.specs.declared.program.Program.{Program}
 use Rattle.cq_stating.specs.declared.environment.Environment.{Environment as TheEnvironment}
@@ -14,16 +10,13 @@ use Rattle.cq_stating.specs.declared.reason.ProgramRefusal.TheVariants as progra
 use Rattle.cq_stating.specs.Environment.{AreSettled, environment_of}
 use Rattle.cq_stating.specs.Folders.{LacksFile, Told}
 use Rattle.cq_stating.specs.Meanings.{Environment}
-use Rattle.cq_program.specs.Judging.{RefusesDecl}
+use Rattle.cq_program.specs.Judging.{RefusesDecl, RefusesProgram}
 use Rattle.cq_program.specs.Program.{Breach, Follow}
-use Rattle.cq_stopped.specs.declared.stop.Fault.{Fault}
-use Rattle.cq_stopped.specs.declared.stop.Fault.TheVariants.{Broken, Unread}
-use Rattle.cq_stopped.specs.declared.stop.Stop.{Stop}
-use Rattle.cq_stopped.specs.Stop.{IsFaultOf, IsStopped, LacksSome, MeetRules, StopsAt}
-
--- what a walk answers
-abbrev pub Walked : ℕ → Told → Program → Result (Option Stop) AllocError → Type 0
-Walked depth told program result = IfOk result (λ stop. MatchOption stop (MeetRules told program) (StopsAt depth told program))
+use Rattle.cq_program.specs.declared.stops.Fault.{Fault}
+use Rattle.cq_program.specs.declared.stops.Fault.TheVariants.{Broken, Unread}
+use Rattle.cq_program.specs.declared.stops.Halt.{Halt}
+use Rattle.cq_program.specs.declared.stops.Halt.TheVariants as halt
+use Rattle.cq_program.specs.Stop.{Halts, IsFaultOf, IsHalt, LacksSome, StopsAt, refusal_of}
 
 -- what is known when a declaration is refused: those before it are walked over, and the names stand for what they stood for
 pub record IsRefusedAt (told : Told) (program : Program) (n : ℕ) (d : Decl) (before after : TheEnvironment) : Type 0 where
@@ -59,28 +52,32 @@ refused_at told program slice i n d before after are inside is at follow settled
       same = same;
     }
 
--- all declarations are walked over
-pub all_follow : (told : Told) (program : Program) (slice : List Decl) (i : ℕ) (env : Environment)
-    → slice ≡ program.decls → length slice ≤ i → Follow told [] (take i slice) env → Follow told [] program.decls env
-all_follow told program slice i env are over follow =
-    subst (λ (ds : List Decl). Follow told [] ds env) (take_all i slice over ∙ are) follow
+-- the halt at a declaration that is refused
+pub halts_at : (depth : ℕ) (old mid new : FolderData) (program : Program) (n : ℕ) (d : Decl) (before after : TheEnvironment)
+    (refusal : ProgramRefusal) (made : Halt) → mid.files ≡ old.files → IsRefusedAt old.files program n d before after
+    → RefusesDecl depth mid new (environment_of before.names.entries) d refusal → RefusesProgram depth old new program refusal
+    → IsHalt after n refusal made → Halts depth old new program made
+halts_at depth old mid new program n d before after (program_refusal.Broken place reason) made files at refuses tells is =
+    subst (Halts depth old new program) (sym is) (
+      stops depth old.files program n d before after (Broken place reason) at
+          (subst (λ (told : Told). Breach depth told (environment_of before.names.entries) d place reason) files refuses),
+      tells,
+    )
+halts_at depth old mid new program n d before after (program_refusal.Read file cause) made files at refuses tells is =
+    subst (Halts depth old new program) (sym is) (
+      stops depth old.files program n d before after (Unread file cause) at
+          (record {
+            stated = refuses.stated;
+            checked = refuses.checked;
+            lacking = subst (λ (told : Told). LacksFile told refuses.stated (string_bytes file) cause) files refuses.lacks;
+          }),
+      tells,
+    )
+halts_at depth old mid new program n d before after program_refusal.Memory made files at refuses tells is =
+    subst (Halts depth old new program) (sym is) tt
 
--- the walk stops at a declaration that is refused
-pub walk_stops : (depth : ℕ) (old mid new : FolderData) (program : Program) (n : ℕ) (d : Decl) (before after : TheEnvironment)
-    (refusal : ProgramRefusal) (result : Result (Option Stop) AllocError) → mid.files ≡ old.files
-    → IsRefusedAt old.files program n d before after → RefusesDecl depth mid new (environment_of before.names.entries) d refusal
-    → IsStopped after n refusal result → Walked depth old.files program result
-walk_stops depth old mid new program n d before after (program_refusal.Broken place reason) result files at refuses is =
-    subst (Walked depth old.files program) (sym is)
-    (stops depth old.files program n d before after (Broken place reason) at
-    (subst (λ (told : Told). Breach depth told (environment_of before.names.entries) d place reason) files refuses))
-walk_stops depth old mid new program n d before after (program_refusal.Read file cause) result files at refuses is =
-    subst (Walked depth old.files program) (sym is)
-    (stops depth old.files program n d before after (Unread file cause) at
-    (record {
-      stated = refuses.stated;
-      checked = refuses.checked;
-      lacking = subst (λ (told : Told). LacksFile told refuses.stated (string_bytes file) cause) files refuses.lacks;
-    }))
-walk_stops depth old mid new program n d before after program_refusal.Memory (Ok stop) files at refuses is = absurd (let wrong : false ≡ true = is in cc)
-walk_stops depth old mid new program n d before after program_refusal.Memory (Err e) files at refuses is = tt
+-- what is refused where the walk ends
+pub refuses_halt : (depth : ℕ) (old new : FolderData) (program : Program) (h : Halt) (refusal : ProgramRefusal)
+    → refusal ≡ refusal_of h → Halts depth old new program h → RefusesProgram depth old new program refusal
+refuses_halt depth old new program (halt.Stopped stop) refusal is halts = subst (RefusesProgram depth old new program) (sym is) halts.1
+refuses_halt depth old new program halt.Memory refusal is halts = subst (RefusesProgram depth old new program) (sym is) tt

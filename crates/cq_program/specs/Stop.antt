@@ -1,20 +1,22 @@
 -- Where the declarations of a program stop to meet their rules.
-use Rattle.std.specs.Prelude.{◌≡◌, ℕ, List, [], Option, Some, None, Result, Ok, IsErr, slice_get, string_bytes, take}
-use Rattle.std.specs.declared.alloc.AllocError.{AllocError}
-use Rattle.cq_base.specs.declared.name.Name.{Name}
+use Rattle.std.specs.Prelude.{◌≡◌, ℕ, List, [], Some, Ok, slice_get, string_bytes, take}
+use Rattle.cq_io.specs.FolderData.{FolderData}
 use Rattle.cq_syntax.specs.declared.program.Decl.{Decl}
 use Rattle.cq_syntax.specs.declared.program.Program.{Program}
 use Rattle.cq_stating.specs.Checks.{Stated, stated_by}
 use Rattle.cq_stating.specs.Environment.{AreSettled, environment_of}
 use Rattle.cq_stating.specs.Folders.{LacksFile, Told}
 use Rattle.cq_stating.specs.Meanings.{Environment}
-use Rattle.cq_program.specs.Program.{Breach, Follow}
 use Rattle.cq_stating.specs.declared.environment.Environment.{Environment as TheEnvironment}
 use Rattle.cq_stating.specs.declared.reason.ProgramRefusal.{ProgramRefusal}
 use Rattle.cq_stating.specs.declared.reason.ProgramRefusal.TheVariants as program_refusal
-use Rattle.cq_stopped.specs.declared.stop.Fault.{Fault}
-use Rattle.cq_stopped.specs.declared.stop.Fault.TheVariants.{Broken, Unread}
-use Rattle.cq_stopped.specs.declared.stop.Stop.{Stop}
+use Rattle.cq_program.specs.Judging.{RefusesProgram}
+use Rattle.cq_program.specs.Program.{Breach, Follow}
+use Rattle.cq_program.specs.declared.stops.Fault.{Fault}
+use Rattle.cq_program.specs.declared.stops.Fault.TheVariants.{Broken, Unread}
+use Rattle.cq_program.specs.declared.stops.Halt.{Halt}
+use Rattle.cq_program.specs.declared.stops.Halt.TheVariants as halt
+use Rattle.cq_program.specs.declared.stops.Stop.{Stop}
 
 -- a file that the declaration reads was not read
 pub record LacksSome (told : Told) (env : Environment) (d : Decl) (lacks : Stated → Type 0) : Type 0 where
@@ -39,10 +41,22 @@ pub record StopsAt (depth : ℕ) (told : Told) (program : Program) (stop : Stop)
 abbrev pub MeetRules : Told → Program → Type 0
 MeetRules told program = (env : Environment) × Follow told [] program.decls env
 
+-- the refusal that tells what is wrong
+abbrev pub refusal_at : Fault → ProgramRefusal
+refusal_at (Broken place reason) = program_refusal.Broken place reason
+refusal_at (Unread file cause) = program_refusal.Read file cause
+
+abbrev pub refusal_of : Halt → ProgramRefusal
+refusal_of (halt.Stopped stop) = refusal_at stop.fault
+refusal_of halt.Memory = program_refusal.Memory
+
+-- what a halt tells: where the program stops, and the first rule that it breaks or a file that was not read; or want of memory
+abbrev pub Halts : ℕ → FolderData → FolderData → Program → Halt → Type 0
+Halts depth old new program (halt.Stopped stop) = StopsAt depth old.files program stop × RefusesProgram depth old new program (refusal_at stop.fault)
+Halts depth old new program halt.Memory = Unit {0}
+
 -- what is made of a refusal: a stop with these names and this number, or want of memory
-abbrev pub IsStopped : TheEnvironment → ℕ → ProgramRefusal → Result (Option Stop) AllocError → Type 0
-IsStopped env number (program_refusal.Broken place reason) result =
-    result ≡ Ok (Some (record { env = env; number = number; fault = Broken place reason }))
-IsStopped env number (program_refusal.Read file cause) result =
-    result ≡ Ok (Some (record { env = env; number = number; fault = Unread file cause }))
-IsStopped env number program_refusal.Memory result = IsErr result
+abbrev pub IsHalt : TheEnvironment → ℕ → ProgramRefusal → Halt → Type 0
+IsHalt env number (program_refusal.Broken place reason) made = made ≡ halt.Stopped (record { env = env; number = number; fault = Broken place reason })
+IsHalt env number (program_refusal.Read file cause) made = made ≡ halt.Stopped (record { env = env; number = number; fault = Unread file cause })
+IsHalt env number program_refusal.Memory made = made ≡ halt.Memory
