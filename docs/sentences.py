@@ -18,7 +18,9 @@ WORDS = {"Absent": "read, absent", "TooLong": "read, too long", "Failed": "read,
 
 def arms(kind, text):
     """What is said of each code or cause of a kind: its name, its sentence, and what there is to mend."""
-    found = re.findall(rf'{kind}::(\w+) => say\(\s*"((?:[^"\\]|\\.)*)",\s*"((?:[^"\\]|\\.)*)"', text)
+    # A text goes on in the next line behind a backslash.
+    whole = re.sub(r"\\\n\s*", "", text)
+    found = re.findall(rf'{kind}::(\w+) => say\(\s*"((?:[^"\\]|\\.)*)",\s*"((?:[^"\\]|\\.)*)"', whole)
     return [(name, sentence.replace('\\"', '"'), remedy.replace('\\"', '"')) for name, sentence, remedy in found]
 
 

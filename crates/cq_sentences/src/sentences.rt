@@ -63,7 +63,8 @@ fn said_of_tokens(code: Code) -> Said
 {
     match code {
         Code::BadByte => say(
-            "This byte begins no word, text or mark, makes no escape behind a backslash, or begins a text that isn't UTF-8.",
+            "This byte begins no word, text or mark, makes no escape behind a backslash, or begins a text that isn't \
+             UTF-8.",
             "take it out, or put it between double quotes; a file in another encoding is saved as UTF-8 first.",
         ),
         Code::OpenText => say(
@@ -87,7 +88,8 @@ fn said_of_grammar(code: Code) -> Said
     match code {
         Code::Syntax => say(
             "What stands before may begin a file, but # can't follow it here.",
-            "look for a word or a mark that is missing or too many, here or just before, and for sections in another order.",
+            "look for a word or a mark that is missing or too many, here or just before, and for sections in another \
+             order.",
         ),
         Code::TooDeep => say(
             "This term has more than 64 levels, or this path more than 64 names.",
@@ -155,7 +157,8 @@ fn said_of_parts(code: Code) -> Said
     match code {
         Code::Duplicate => say(
             "The name # stands already in its table.",
-            "rename one of the two, or leave out an image that is given twice: types and entities share one table, and functions, foreign keys and attributes another.",
+            "rename one of the two, or leave out an image that is given twice: types and entities share one table, \
+             and functions, foreign keys and attributes another.",
         ),
         Code::Unknown => say(
             "The name # isn't declared where it may stand here.",
@@ -167,7 +170,8 @@ fn said_of_parts(code: Code) -> Said
         ),
         Code::WrongSort => say(
             "The entities or types in this part don't fit together.",
-            "see that both sides of an equation, an argument and its place, and an image and what it is given for are of one entity or type.",
+            "see that both sides of an equation, an argument and its place, and an image and what it is given for are \
+             of one entity or type.",
         ),
         Code::Reserved => say(
             "A constant that is empty, or begins with ? or =, is kept for nulls and built values.",
@@ -230,7 +234,8 @@ fn said_of_models(code: Code) -> Said
             "change one of these facts, or leave out one of these rules.",
         ),
         Code::Oversized => say(
-            "What this makes is too large: at most 1,024 symbols a term, 16,000,000 rows and nulls, 1,000,000 parts of a schema.",
+            "What this makes is too large: at most 1,024 symbols a term, 16,000,000 rows and nulls, 1,000,000 parts \
+             of a schema.",
             "split the data, or make the terms shorter.",
         ),
         Code::TooManyAnswers => say(
@@ -296,7 +301,8 @@ fn said_of_unread(unread: Unread) -> Said {
     match unread {
         Unread::Absent => say(
             "The file # isn't there.",
-            "put it there, or call the program where it is: files are looked for in the working directory, and not beside the file that names them.",
+            "put it there, or call the program where it is: files are looked for in the working directory, and not \
+             beside the file that names them.",
         ),
         Unread::TooLong => say(
             "The file # is too long: a program has at most 8 MiB, and a file of CSV 64 MiB.",
