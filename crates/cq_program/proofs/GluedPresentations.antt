@@ -12,7 +12,7 @@ use Rattle.cq_theory.proofs.Faults.{neither, at_most}
 use Rattle.cq_instance.specs.InstanceData.{InstanceData}
 use Rattle.cq_instance.specs.declared.transform.Transform.{Transform}
 use Rattle.cq_transform.specs.Transforms.{GoesFrom}
-use Rattle.cq_push.specs.Gluing.{coproduct_of, equations_from, glued_images, presented, pushout_of, sorts_of}
+use Rattle.cq_transform.specs.Gluing.{coproduct_of, equations_from, glued_images, presented, pushout_of, sorts_of}
 use Rattle.cq_push.proofs.Beside.{two_presented}
 use Rattle.cq_push.proofs.Glued.{images_of}
 use Rattle.cq_push.proofs.Limits.{is_presentation}

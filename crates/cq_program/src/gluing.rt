@@ -1,6 +1,6 @@
 //! Coproducts and pushouts: what they stand for.
 ghost use Rattle.std.specs.Prelude.{◌≡◌, ◌≤◌, All, IfOk, IfErr, map};
-ghost use Rattle.cq_push.specs.Gluing.{coproduct_of};
+ghost use Rattle.cq_transform.specs.Gluing.{coproduct_of};
 ghost use Rattle.cq_theory.specs.Presentation.{IsPresentation};
 ghost use Rattle.cq_theory.specs.SchemaData.{SchemaData};
 ghost use Rattle.cq_stating.specs.Checks.{a_made, pushed_out};

@@ -12,8 +12,8 @@ use Rattle.cq_theory.specs.declared.presentation.Presentation.{Presentation}
 use Rattle.cq_theory.specs.SchemaData.{SchemaData as Schema}
 use Rattle.cq_theory.specs.Presentation.{IsPresentation}
 use Rattle.cq_instance.specs.InstanceData.{InstanceData, IsInstance}
-use Rattle.cq_push.specs.Shifted.{shifted_equation}
-use Rattle.cq_push.specs.Gluing.{sorts_of, equations_from}
+use Rattle.cq_transform.specs.Shifted.{shifted_equation}
+use Rattle.cq_transform.specs.Gluing.{sorts_of, equations_from}
 
 abbrev pub own_sorts : Presentation → List Sort
 own_sorts P = map (λ g. g.1) P.generators

@@ -13,7 +13,7 @@ use Rattle.cq_instance.specs.InstanceData.{InstanceData}
 use Rattle.cq_instance.specs.declared.transform.Image.{Image}
 use Rattle.cq_instance.specs.declared.transform.Transform.{Transform}
 use Rattle.cq_transform.specs.Transforms.{term_of, GoesFrom}
-use Rattle.cq_push.specs.Gluing.{glued, glued_images}
+use Rattle.cq_transform.specs.Gluing.{glued, glued_images}
 use Rattle.cq_push.proofs.Presented.{AreImagesOf}
 
 glued_next : (first : ℕ) (lefts rights : List Image) (i : ℕ) (dl dr : Image) → i < length lefts → length lefts ≡ length rights

@@ -25,7 +25,7 @@ use Rattle.cq_model.specs.declared.moving.MoveRefusal.{MoveRefusal}
 use Rattle.cq_model.specs.declared.moving.MoveRefusal.TheVariants.{Depth, TooManyRows, Inconsistent, TooLarge, Memory}
 use Rattle.cq_model.proofs.BuildingRefusals.{is_depth, is_many, is_inconsistent}
 use Rattle.cq_instance.proofs.Lists.{All_at, All_from}
-use Rattle.cq_push.specs.Gluing.{presented}
+use Rattle.cq_transform.specs.Gluing.{presented}
 use Rattle.cq_push.specs.Sorted.{HasOneSort, AreSorted}
 use Rattle.cq_push.specs.Answers.{IsModelOrCause}
 use Rattle.cq_terms.proofs.Naming.{named_length, sort_of_named}

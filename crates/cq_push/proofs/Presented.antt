@@ -18,8 +18,8 @@ use Rattle.cq_instance.specs.declared.transform.Image.{Image}
 use Rattle.cq_instance.specs.declared.transform.Image.TheVariants.{Row, Value}
 use Rattle.cq_instance.proofs.Lists.{get-map, get-append, get-append_front, All_at, All_from}
 use Rattle.cq_transform.specs.Transforms.{term_of}
-use Rattle.cq_push.specs.Shifted.{shifted_equation, shifted_term}
-use Rattle.cq_push.specs.Gluing.{sorts_of, equations_from, glued, glued_images}
+use Rattle.cq_transform.specs.Shifted.{shifted_equation, shifted_term}
+use Rattle.cq_transform.specs.Gluing.{sorts_of, equations_from, glued, glued_images}
 use Rattle.cq_push.specs.Sorted.{HasOneSort, AreSorted}
 use Rattle.cq_terms.proofs.Naming.{has_sort}
 use Rattle.cq_push.proofs.ShiftedSorts.{AreBehind, term_itself, term_keeps, equation_keeps}

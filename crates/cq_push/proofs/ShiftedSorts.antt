@@ -18,7 +18,7 @@ use Rattle.cq_theory.proofs.TypeTerms.{fold-Gen, fold-Const, fold-Att, fold-Fun,
 use Rattle.cq_theory.proofs.Sound.{both, is_type_some, applied_type_some}
 use Rattle.cq_theory.proofs.ResolvedSorts.{map_some}
 use Rattle.cq_transform.proofs.Normal.{type_at_some, entity_at_some}
-use Rattle.cq_push.specs.Shifted.{shifted_ent, shifted_type, shifted_type_step, shifted_term, shifted_equation}
+use Rattle.cq_transform.specs.Shifted.{shifted_ent, shifted_type, shifted_type_step, shifted_term, shifted_equation}
 use Rattle.cq_push.specs.Sorted.{HasOneSort}
 
 entity_of_sort : (g : Name × Sort) (e : ℕ) → g.1 ≡ Entity e → entity_at (Some g) ≡ Some e

@@ -16,8 +16,8 @@ use Rattle.cq_instance.specs.declared.transform.Image.{Image}
 use Rattle.cq_instance.specs.declared.transform.Image.TheVariants.{Row, Value}
 use Rattle.cq_instance.specs.declared.transform.Transform.{Transform}
 use Rattle.cq_transform.specs.Transforms.{term_of, GoesFrom}
-use Rattle.cq_push.specs.Shifted.{shifted_term}
-use Rattle.cq_push.specs.Gluing.{equations_from, glued, glued_images, pushout_of}
+use Rattle.cq_transform.specs.Shifted.{shifted_term}
+use Rattle.cq_transform.specs.Gluing.{equations_from, glued, glued_images, pushout_of}
 use Rattle.cq_push.specs.Ways.{through_left, through_right}
 use Rattle.cq_push.proofs.Presented.{AreImagesOf}
 use Rattle.cq_push.proofs.Glued.{images_of}

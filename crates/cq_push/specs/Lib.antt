@@ -1,5 +1,3 @@
-pub mod Shifted
-pub mod Gluing
 pub mod Sorted
 pub mod Answers
 pub mod Ways

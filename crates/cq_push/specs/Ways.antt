@@ -3,7 +3,7 @@ use Rattle.std.specs.Prelude.{ℕ, List, map}
 use Rattle.cq_theory.specs.Tables.{Tables, Assignment, meaning_of}
 use Rattle.cq_instance.specs.declared.transform.Image.{Image}
 use Rattle.cq_transform.specs.Transforms.{term_of}
-use Rattle.cq_push.specs.Shifted.{shifted_term}
+use Rattle.cq_transform.specs.Shifted.{shifted_term}
 
 -- what the images of the start's generators on the left mean in the model
 abbrev pub through_left : Tables → Assignment → List Image → Assignment

@@ -8,7 +8,7 @@ ghost use Rattle.cq_theory.specs.Closing.{IsInconsistent, IsInconsistentAt};
 ghost use Rattle.cq_instance.specs.Listed.{IsListed};
 ghost use Rattle.cq_model.specs.Moving.{SaysSize};
 ghost use Rattle.cq_model.specs.declared.moving.MoveRefusal.TheVariants.{Depth, TooManyRows, Inconsistent};
-ghost use Rattle.cq_push.specs.Gluing.{sorts_of, equations_from, coproduct_of};
+ghost use Rattle.cq_transform.specs.Gluing.{sorts_of, equations_from, coproduct_of};
 
 use crate::gluing::Gluing;
 use cq_model::{Instance, MoveRefusal};

@@ -3,8 +3,8 @@ ghost use Rattle.std.specs.Prelude.{◌≡◌, ◌≤◌, ◌<◌, ◌+◌, ◌+
 ghost use Rattle.std.specs.Prelude.{map};
 ghost use Rattle.cq_theory.specs.Canonical.{named};
 ghost use Rattle.cq_theory.specs.Presentation.{IsSort, is_oversized};
-ghost use Rattle.cq_push.specs.Shifted.{shifted_equation};
-ghost use Rattle.cq_push.specs.Gluing.{presented};
+ghost use Rattle.cq_transform.specs.Shifted.{shifted_equation};
+ghost use Rattle.cq_transform.specs.Gluing.{presented};
 ghost use Rattle.cq_push.specs.Sorted.{AreSorted};
 ghost use Rattle.cq_push.specs.Answers.{IsModelOrCause};
 

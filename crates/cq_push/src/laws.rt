@@ -5,7 +5,7 @@ ghost use Rattle.cq_theory.specs.declared.term.Term.{Term};
 ghost use Rattle.cq_instance.specs.InstanceData.{InstanceData};
 ghost use Rattle.cq_instance.specs.declared.transform.Transform.{Transform};
 ghost use Rattle.cq_transform.specs.Transforms.{GoesFrom};
-ghost use Rattle.cq_push.specs.Gluing.{pushout_of};
+ghost use Rattle.cq_transform.specs.Gluing.{pushout_of};
 ghost use Rattle.cq_push.specs.Ways.{through_left, through_right};
 
 /// In each model in which a gluing holds, so in its term model too, the two ways from the start agree: each generator

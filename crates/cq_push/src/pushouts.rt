@@ -11,7 +11,7 @@ ghost use Rattle.cq_model.specs.Moving.{SaysSize};
 ghost use Rattle.cq_model.specs.declared.moving.MoveRefusal.TheVariants.{Depth, TooManyRows, Inconsistent};
 ghost use Rattle.cq_transform.specs.Transforms.{GoesFrom};
 ghost use Rattle.cq_theory.specs.Presentation.{is_oversized};
-ghost use Rattle.cq_push.specs.Gluing.{sorts_of, equations_from, glued, glued_images, pushout_of};
+ghost use Rattle.cq_transform.specs.Gluing.{sorts_of, equations_from, glued, glued_images, pushout_of};
 
 use crate::gluing::Gluing;
 use crate::shifting::{shift_ent, shift_type};

@@ -1,6 +1,6 @@
 //! Terms and equations whose generators stand behind others.
 ghost use Rattle.std.specs.Prelude.{◌≡◌, ◌+◌, ◌++◌, IfOk, OnOk, map};
-ghost use Rattle.cq_push.specs.Shifted.{shifted_ent, shifted_type, shifted_equation};
+ghost use Rattle.cq_transform.specs.Shifted.{shifted_ent, shifted_type, shifted_equation};
 
 use cq_base::Seq;
 use cq_theory::{EntTerm, Equation, TypeTerm};

@@ -8,7 +8,7 @@ use Rattle.cq_base.specs.Names.{same_name}
 use Rattle.cq_syntax.specs.declared.part.Spot.{Spot}
 use Rattle.cq_theory.specs.SchemaData.{SchemaData}
 use Rattle.cq_stating.specs.declared.reason.ProgramRefusal.{ProgramRefusal}
-use Rattle.cq_push.specs.Gluing.{coproduct_of}
+use Rattle.cq_transform.specs.Gluing.{coproduct_of}
 use Rattle.cq_stating.specs.declared.reason.Reason.TheVariants.{WrongSchema}
 use Rattle.cq_stating.specs.Meanings.{Checked, Environment, InstanceMeant, SchemaMeant, and_then, instance_used, schema_used}
 use Rattle.cq_stating.specs.Checks.{Posed, a_made, broken_or, coproduct_over, coproduct_posed, first_misfit, operands_used, presentations_of}

@@ -43,7 +43,7 @@ use Rattle.cq_query.specs.QueryParts.{query_fault, query_made}
 use Rattle.cq_query.specs.Coeval.{coeval_of}
 use Rattle.cq_transform.specs.Identities.{identity_images}
 use Rattle.cq_transform.specs.Images.{images_made}
-use Rattle.cq_push.specs.Gluing.{coproduct_of, pushout_of}
+use Rattle.cq_transform.specs.Gluing.{coproduct_of, pushout_of}
 use Rattle.cq_colimit.specs.declared.refusal.ColimitRefusal.{ColimitRefusal}
 use Rattle.cq_colimit.specs.declared.refusal.ColimitRefusal.TheVariants as joining
 use Rattle.cq_colimit.specs.Faults.{colimit_fault}

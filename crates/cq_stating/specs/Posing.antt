@@ -13,7 +13,7 @@ use Rattle.cq_instance.specs.declared.transform.Image.{Image}
 use Rattle.cq_transform.specs.Images.{images_made}
 use Rattle.cq_transform.specs.Refusals.{IsBrokenAt}
 use Rattle.cq_transform.specs.Transforms.{GoesFrom}
-use Rattle.cq_push.specs.Gluing.{coproduct_of}
+use Rattle.cq_transform.specs.Gluing.{coproduct_of}
 use Rattle.cq_stating.specs.declared.reason.ProgramRefusal.{ProgramRefusal}
 use Rattle.cq_stating.specs.declared.reason.ProgramRefusal.TheVariants as program_refusal
 use Rattle.cq_stating.specs.declared.transforms.BrokenImages.{BrokenImages}

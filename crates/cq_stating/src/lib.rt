@@ -13,8 +13,7 @@
 //!
 //! Here too stands why a program is refused (`reason`), also for what is computed above this crate, and the line that
 //! tells it (`line`). What a statement stands for is said and made in `cq_program`, so this crate calls no search, no
-//! move and no gluing; of `cq_push` it cites what the presentation of a coproduct or a pushout is. A later form adds a
-//! case to `Posed` and its check here, and there a case to `Stands`.
+//! move and no gluing. A later form adds a case to `Posed` and its check here, and there a case to `Stands`.
 #![tactic(auto)]
 
 mod colimits;

@@ -9,3 +9,5 @@ pub mod Transforming
 pub mod Composing
 pub mod Sent
 pub mod OneToOne
+pub mod Shifted
+pub mod Gluing

@@ -6,7 +6,7 @@ use Rattle.cq_theory.specs.SchemaData.{SchemaData}
 use Rattle.cq_instance.specs.InstanceData.{InstanceData}
 use Rattle.cq_instance.specs.declared.transform.Transform.{Transform}
 use Rattle.cq_transform.specs.Transforms.{GoesFrom}
-use Rattle.cq_push.specs.Gluing.{pushout_of}
+use Rattle.cq_transform.specs.Gluing.{pushout_of}
 use Rattle.cq_push.proofs.Beside.{presented_in}
 use Rattle.cq_stating.specs.Checks.{Posed, a_made, pushed_out}
 use Rattle.cq_stating.specs.Environment.{meant, transform_meant}

@@ -4,7 +4,7 @@ use Rattle.cq_theory.specs.declared.presentation.Presentation.{Presentation}
 use Rattle.cq_theory.specs.Presentation.{IsPresentation}
 use Rattle.cq_theory.specs.Schema.{IsSchema}
 use Rattle.cq_theory.specs.SchemaData.{SchemaData}
-use Rattle.cq_push.specs.Gluing.{coproduct_of}
+use Rattle.cq_transform.specs.Gluing.{coproduct_of}
 use Rattle.cq_program.specs.Judging.{IsAnswerOf}
 use Rattle.cq_program.proofs.Answered.{are_term_models, answer_of, clash_named}
 use Rattle.cq_program.proofs.GluedPresentations.{coproduct_is}

@@ -2,7 +2,7 @@ use Rattle.std.proofs.Common.{◌≡◌, inl, map, refl, sym, ap, subst, ◌∙�
 use Rattle.cq_query.specs.QueryData.{QueryData}
 use Rattle.cq_query.specs.Duties.{Sound}
 use Rattle.cq_query.specs.Coeval.{coeval_of}
-use Rattle.cq_push.specs.Gluing.{coproduct_of}
+use Rattle.cq_transform.specs.Gluing.{coproduct_of}
 use Rattle.std.specs.Prelude.{IfOk, IfErr}
 use Rattle.cq_mapping.specs.MappingData.{MappingData}
 use Rattle.cq_mapping.specs.Duties.{Preserves}

@@ -2,7 +2,7 @@ use Rattle.std.proofs.Common.{◌≡◌, ◌≤◌, map, take, length}
 use Rattle.std.specs.Prelude.{All}
 use Rattle.cq_theory.specs.SchemaData.{SchemaData as Schema}
 use Rattle.cq_theory.specs.Presentation.{IsPresentation}
-use Rattle.cq_push.specs.Gluing.{sorts_of, equations_from}
+use Rattle.cq_transform.specs.Gluing.{sorts_of, equations_from}
 use Rattle.cq_push.proofs.coproducts.side_by_side.Given as goal
 
 abbrev pub invariant-loop-part : goal.invariant-loop-part

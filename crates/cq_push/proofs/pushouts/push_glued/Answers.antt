@@ -1,6 +1,6 @@
 use Rattle.std.proofs.Common.{List, [], ◌∷◌, ◌++◌, ap, ◌∙◌}
 use Rattle.cq_theory.specs.declared.presentation.Equation.{Equation}
-use Rattle.cq_push.specs.Gluing.{glued}
+use Rattle.cq_transform.specs.Gluing.{glued}
 use Rattle.cq_push.proofs.Glued.{glued_more, glued_all}
 use Rattle.cq_push.proofs.pushouts.push_glued.Goals as goal
 

@@ -1,5 +1,5 @@
 use Rattle.std.proofs.Common.{◌≡◌, ◌++◌, take}
-use Rattle.cq_push.specs.Gluing.{glued_images}
+use Rattle.cq_transform.specs.Gluing.{glued_images}
 use Rattle.cq_push.proofs.pushouts.push_glued.Given as goal
 
 abbrev pub invariant-loop-place : goal.invariant-loop-place

@@ -6,7 +6,7 @@ use Rattle.cq_theory.specs.declared.presentation.Sort.{Sort}
 use Rattle.cq_theory.specs.declared.presentation.Equation.{Equation}
 use Rattle.cq_theory.specs.Canonical.{named}
 use Rattle.cq_theory.specs.Presentation.{IsSort, IsPresentation}
-use Rattle.cq_push.specs.Gluing.{presented, sorts_of, equations_from, glued_images, pushout_of}
+use Rattle.cq_transform.specs.Gluing.{presented, sorts_of, equations_from, glued_images, pushout_of}
 use Rattle.cq_push.specs.Sorted.{AreSorted}
 use Rattle.cq_push.proofs.Beside.{presented_in, two_presented}
 use Rattle.cq_push.proofs.Limits.{tells_many, too_many, answer_of}

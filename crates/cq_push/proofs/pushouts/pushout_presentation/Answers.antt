@@ -6,7 +6,7 @@ use Rattle.cq_theory.specs.declared.presentation.Equation.{Equation}
 use Rattle.cq_theory.specs.declared.lookup.SizeRefusal.{SizeRefusal}
 use Rattle.cq_theory.specs.declared.lookup.SizeRefusal.TheVariants as size
 use Rattle.cq_theory.specs.Presentation.{is_oversized}
-use Rattle.cq_push.specs.Gluing.{presented, sorts_of, equations_from, glued_images, pushout_of}
+use Rattle.cq_transform.specs.Gluing.{presented, sorts_of, equations_from, glued_images, pushout_of}
 use Rattle.cq_push.proofs.Limits.{still_many, too_many}
 use Rattle.cq_push.proofs.pushouts.pushout_presentation.Goals as goal
 

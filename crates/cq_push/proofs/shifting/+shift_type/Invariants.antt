@@ -1,5 +1,5 @@
 use Rattle.std.proofs.Common.{◌≡◌, take, map}
-use Rattle.cq_push.specs.Shifted.{shifted_type}
+use Rattle.cq_transform.specs.Shifted.{shifted_type}
 use Rattle.cq_push.proofs.shifting.+shift_type.Given as goal
 
 abbrev pub decreases-shift_type : goal.decreases-shift_type

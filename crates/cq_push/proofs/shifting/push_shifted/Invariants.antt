@@ -1,5 +1,5 @@
 use Rattle.std.proofs.Common.{◌≡◌, ◌++◌, take, map}
-use Rattle.cq_push.specs.Shifted.{shifted_equation}
+use Rattle.cq_transform.specs.Shifted.{shifted_equation}
 use Rattle.cq_push.proofs.shifting.push_shifted.Given as goal
 
 abbrev pub invariant-loop-equation : goal.invariant-loop-equation

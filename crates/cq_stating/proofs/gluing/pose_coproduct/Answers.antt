@@ -2,7 +2,7 @@ use Rattle.std.proofs.Common.{List, None, Ok, ◌≡◌, ◌∙◌, ap, map, ref
 use Rattle.std.specs.Prelude.{All}
 use Rattle.cq_base.specs.declared.place.Place.{Place}
 use Rattle.cq_theory.specs.declared.presentation.Presentation.{Presentation}
-use Rattle.cq_push.specs.Gluing.{coproduct_of}
+use Rattle.cq_transform.specs.Gluing.{coproduct_of}
 use Rattle.cq_stating.specs.Meanings.{InstanceMeant, SchemaMeant}
 use Rattle.cq_stating.specs.Checks.{a_made, coproduct_posed, first_misfit, presentations_of}
 use Rattle.cq_stating.specs.Environment.{environment_of, operand_meant, operands_meant, schema_meant}

@@ -1,5 +1,5 @@
 use Rattle.std.proofs.Common.{Err, ap}
-use Rattle.cq_push.specs.Gluing.{presented}
+use Rattle.cq_transform.specs.Gluing.{presented}
 use Rattle.cq_push.proofs.Limits.{is_presentation, cause_of}
 use Rattle.cq_push.proofs.gluing.Gluing.build.Goals as goal
 

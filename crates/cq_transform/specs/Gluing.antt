@@ -9,7 +9,7 @@ use Rattle.cq_theory.specs.Parts.{equation_of}
 use Rattle.cq_instance.specs.declared.transform.Image.{Image}
 use Rattle.cq_instance.specs.declared.transform.Transform.{Transform}
 use Rattle.cq_transform.specs.Transforms.{term_of}
-use Rattle.cq_push.specs.Shifted.{shifted_term, shifted_equation}
+use Rattle.cq_transform.specs.Shifted.{shifted_term, shifted_equation}
 
 -- the sorts of the generators of some presentations, in order
 abbrev pub sorts_of : List Presentation → List Sort
