@@ -20,6 +20,11 @@ impl Hashing {
         Hashing::with_key(key_of(text))
     }
 
+    /// With the key that this hash of many things gives.
+    pub fn of_state(state: &DefaultHasher) -> Hashing {
+        Hashing::with_key(state.finish())
+    }
+
     /// With this key.
     pub(crate) fn with_key(key: u64) -> Hashing {
         let mut initial = DefaultHasher::new();

@@ -3,6 +3,7 @@
 
 pub mod escapes;
 pub mod hashing;
+pub mod keys;
 pub mod name;
 pub mod names;
 pub mod place;
@@ -13,6 +14,7 @@ pub mod source;
 
 pub use escapes::unescape;
 pub use hashing::Hashing;
+pub use keys::Keys;
 pub use name::{Name, NameRefusal};
 pub use names::{Names, NamesRefusal};
 pub use place::Place;

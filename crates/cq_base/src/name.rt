@@ -116,6 +116,11 @@ impl Name {
         Hashing::with_key(self.shared.key)
     }
 
+    /// The key by which they hash.
+    pub(crate) fn key(&self) -> u64 {
+        self.shared.key
+    }
+
     /// The name that this text is, in the memory of `shared`, if it stands there at `from`.
     pub(crate) fn standing_in(
         shared: &Rc<Text>,

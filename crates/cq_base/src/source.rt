@@ -1,7 +1,7 @@
 //! The text of a file, in whose memory its names stand.
 ghost use Rattle.std.specs.Prelude.{◌≡◌, ◌<◌, ◌↔◌, IfOk, length};
 
-use crate::hashing::{Hashing, key_of};
+use crate::hashing::key_of;
 use crate::name::{LONGEST, Name, NameRefusal, Text};
 use crate::shared::SharedTexts;
 use std::alloc::{AllocError, Global};
@@ -31,11 +31,6 @@ impl Source {
             text,
             others: SharedTexts::with_key(alloc, key),
         })
-    }
-
-    /// How tables of what stands in the file are to hash.
-    pub fn hashing(&self) -> Hashing {
-        Hashing::with_key(self.text.key)
     }
 
     /// The name that this text is, as `Name::new` makes it. A text that the file has where its last `rest` bytes begin

@@ -43,7 +43,8 @@ told_with over name pass cells = if pass.going
 
 -- whatever cells are read too, nothing more will be listed
 abbrev pub TellsNoMore : Over → Pass → Type 0
-TellsNoMore over pass = (name : ℕ → List ℕ) (others : List Cell) → told_with over name pass others ≡ take most_faults (map (shown name) pass.faults)
+TellsNoMore over pass = (name : ℕ → List ℕ) (others : List Cell)
+    → told_with over name pass others ≡ take most_faults (map (shown name) pass.faults)
 
 -- these cells were read: with any others behind them the same will be listed
 abbrev pub Passes : Over → Pass → Pass → ((ℕ → List ℕ) → List Cell) → Type 0

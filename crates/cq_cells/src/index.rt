@@ -109,5 +109,5 @@ pub fn hashing_of(indexed: &[Indexed]) -> Hashing {
     for one in indexed {
         keys.write_u64(one.places.hashing().build_hasher().finish());
     }
-    Hashing::of_text(&keys.finish().to_le_bytes())
+    Hashing::of_state(&keys)
 }

@@ -8,7 +8,7 @@ use crate::answering::found_answers;
 use crate::kept::Kept;
 use crate::refusal::EvalRefusal;
 use crate::rows::Rows;
-use cq_base::Hashing;
+use cq_base::{Hashing, Keys};
 use cq_instance::Instance;
 use cq_query::Query;
 use indexmap::IndexSet;
@@ -35,22 +35,35 @@ impl Drop for Answers {
     }
 }
 
-/// How answers are hashed: by a key of them all.
-fn hashing_of(answers: &[Rows]) -> Hashing {
+/// The keys of the files that the names of an instance's generators come from.
+fn keys_of(instance: &Instance) -> Keys {
+    let mut keys = Keys::new();
+    for generator in instance.presentation().generators.as_slice() {
+        keys.add(&generator.0);
+    }
+    keys
+}
+
+/// How answers are hashed, which are rows of an instance: by a key of the files that its names come from, or of all
+/// answers where these names are the program's own, as those of an instance that was moved.
+fn hashing_of(keys: Keys, answers: &[Rows]) -> Hashing {
+    if !keys.is_empty() {
+        return keys.hashing();
+    }
     let mut state = DefaultHasher::new();
     for rows in answers {
         rows.hash(&mut state);
     }
-    Hashing::of_text(&state.finish().to_le_bytes())
+    Hashing::of_state(&state)
 }
 
 impl Answers {
-    /// The table of these answers.
-    fn new(alloc: Global, found: Vec<Rows>) -> Result<Answers, AllocError>
+    /// The table of these answers over an instance whose names have these keys.
+    fn new(alloc: Global, keys: Keys, found: Vec<Rows>) -> Result<Answers, AllocError>
         requires { StandOnce found.items }
         ensures { IfOk result (λ answers. answers ≡ found.items) }
     {
-        let hashing = hashing_of(found.as_slice());
+        let hashing = hashing_of(keys, found.as_slice());
         let mut answers = IndexSet::with_capacity_and_hasher(alloc, found.len(), hashing)?;
         for rows in found {
             answers.insert(rows)?;
@@ -89,11 +102,16 @@ impl Answers {
 }
 
 /// Puts the table of these answers behind others.
-fn push_answers(alloc: Global, found: Vec<Rows>, made: &mut Vec<Answers>) -> Result<(), AllocError>
+fn push_answers(
+    alloc: Global,
+    keys: Keys,
+    found: Vec<Rows>,
+    made: &mut Vec<Answers>,
+) -> Result<(), AllocError>
     requires { StandOnce found.items }
     ensures { OnOk result (made.new.items ≡ made.old.items ++ found.items ∷ []) }
 {
-    made.push(Answers::new(alloc, found)?)?;
+    made.push(Answers::new(alloc, keys, found)?)?;
     Ok(())
 }
 
@@ -111,12 +129,13 @@ pub(crate) fn all_answers(
         (λ entity. length (answers_of query.now instance.now.tables entity))) }
 {
     query.target.is_well_sorted();
+    let keys = keys_of(instance);
     let count = query.target.entities.len();
     let mut made = Vec::with_capacity(alloc, count)?;
     let mut kept = Kept::new(alloc);
     for entity in 0..count as u32 {
         match found_answers(alloc, query, instance, &mut kept, entity) {
-            Ok(found) => push_answers(alloc, found, &mut made)?,
+            Ok(found) => push_answers(alloc, keys, found, &mut made)?,
             Err(refusal) => return Err(refusal),
         }
     }

@@ -10,7 +10,7 @@ pub fn hashing_of(nodes: &[Node]) -> Hashing {
     for node in nodes {
         feed(node, &mut state);
     }
-    Hashing::of_text(&state.finish().to_le_bytes())
+    Hashing::of_state(&state)
 }
 
 fn feed(node: &Node, state: &mut DefaultHasher) {

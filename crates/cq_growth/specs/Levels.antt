@@ -1,5 +1,6 @@
 -- Rows by the depth of the terms that reach them.
-use Rattle.std.specs.Prelude.{ℕ, Bool, true, List, [], ◌∷◌, ◌++◌, Some, ◌≡◌, ◌<◌, ◌≤◌, ◌⊎◌, length, slice_get, slice_set, slice_index, slice_index_or, false}
+use Rattle.std.specs.Prelude.{ℕ, Bool, true, List, [], ◌∷◌, ◌++◌, Some, ◌≡◌, ◌<◌, ◌≤◌, ◌⊎◌, length, slice_get}
+use Rattle.std.specs.Prelude.{slice_set, slice_index, slice_index_or, false}
 use Rattle.cq_tables.specs.Content.{Content, keys_of, made_of, live_of, cell_of}
 use Rattle.cq_tables.specs.Content.{entity_of as row_entity}
 use Rattle.cq_rows.specs.Rows.{row_of_term}

@@ -31,5 +31,5 @@ pub fn hashing_of(files: &[EntityFile]) -> Hashing {
     for file in files {
         keys.write_u64(file.ids.hashing().build_hasher().finish());
     }
-    Hashing::of_text(&keys.finish().to_le_bytes())
+    Hashing::of_state(&keys)
 }

@@ -19,7 +19,8 @@ term_among terms label = slice_index_or terms label (Const (Named 0))
 -- each null has a term of its type that means it
 abbrev pub AreNullsSpelled : InstanceData → (ℕ → TypeTerm) → Type 0
 AreNullsSpelled j null_term = (label type : ℕ) → slice_get j.tables.algebra.nulls label ≡ Some type
-    → (type_of j.schema j.presentation.generators (null_term label) ≡ Some type) × (value_of j.tables j.assignment (null_term label) ≡ Null label)
+    → (type_of j.schema j.presentation.generators (null_term label) ≡ Some type)
+    × (value_of j.tables j.assignment (null_term label) ≡ Null label)
 
 abbrev pub is_null : ℕ → Value → Bool
 is_null label (Null n) = n == label

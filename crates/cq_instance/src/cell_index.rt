@@ -5,13 +5,12 @@ ghost use Rattle.cq_theory.specs.declared.value.Value.{Value};
 ghost use Rattle.cq_instance.specs.SameValue.{same_value};
 ghost use Rattle.cq_instance.specs.CellRows.{rows_with, group_rows, indexed_rows};
 
-use crate::digests::{digest, feed_all, hashing_by};
+use crate::digests::{add_values, digest};
 use crate::instance::Instance;
 use crate::values::{copied, equals};
-use cq_base::{Hashing, number_at};
+use cq_base::{Hashing, Keys, number_at};
 use cq_theory::{Value, empty_groups};
 use std::alloc::{AllocError, Global};
-use std::hash::DefaultHasher;
 use std::marker::Model;
 
 /// The rows, ascending, whose cells are a value.
@@ -141,9 +140,9 @@ fn lists_of(
 
 /// How the cells of a column are hashed: by a key of them all.
 fn hashing_of(column: &[Value]) -> Hashing {
-    let mut state = DefaultHasher::new();
-    feed_all(column, &mut state);
-    hashing_by(&state)
+    let mut keys = Keys::new();
+    add_values(column, &mut keys);
+    keys.hashing()
 }
 
 impl CellIndex {

@@ -5,7 +5,7 @@ ghost use Rattle.std.specs.Prelude.{◌≡◌, fold};
 ghost use Rattle.std.specs.Hash.DefaultHasher as sip;
 ghost use Rattle.cq_instance.specs.Digests.{fed_constant, fed_value, digest_of, digest_of_application};
 
-use cq_base::Hashing;
+use cq_base::{Hashing, Keys};
 use cq_theory::{Con, Value};
 use std::hash::{BuildHasher, DefaultHasher, Hash, Hasher};
 
@@ -45,16 +45,20 @@ fn feed(value: &Value, state: &mut DefaultHasher)
     }
 }
 
-/// Feeds values to the hasher, one behind the other.
-pub(crate) fn feed_all(values: &[Value], state: &mut DefaultHasher) {
+/// Adds values to what the key of a table is made of: of a text the key of its file, any other as it is.
+pub(crate) fn add_values(values: &[Value], keys: &mut Keys) {
     for value in values {
-        feed(value, state);
+        add_value(value, keys);
     }
 }
 
-/// How a table is to hash of which all keys were fed to this hasher.
-pub(crate) fn hashing_by(state: &DefaultHasher) -> Hashing {
-    Hashing::of_text(&state.finish().to_le_bytes())
+fn add_value(value: &Value, keys: &mut Keys) {
+    match value {
+        Value::Const(Con::Open(text)) => keys.add(text),
+        Value::Const(Con::Named(number)) => keys.add_number(u64::from(*number)),
+        Value::Null(label) => keys.add_number(*label),
+        Value::Fun(_, _) => keys.add_number(digest(Hashing::new(), value)),
+    }
 }
 
 /// The number of a value: one for all equal values.

@@ -4,13 +4,12 @@ ghost use Rattle.cq_theory.specs.Tables.{is_for as is_entry_for, entry_or_built}
 ghost use Rattle.cq_instance.specs.EntryLists.{AreEntryLists, entry_number, passing, first_among, list_for};
 
 use crate::application::{applied, is_for};
-use crate::digests::{application_digest, feed_all, hashing_by};
+use crate::digests::{add_values, application_digest};
 use crate::groups::grouped;
 use crate::values::copied;
-use cq_base::{Hashing, Seq};
+use cq_base::{Hashing, Keys, Seq};
 use cq_theory::{Algebra, Entry, Value};
 use std::alloc::{AllocError, Global};
-use std::hash::{DefaultHasher, Hasher};
 use std::marker::Model;
 
 /// Nulls and entries, with lists of the places of entries by the numbers of what they are for, from which the entry of
@@ -48,12 +47,12 @@ impl Drop for EntryTable {
 
 /// How entries are hashed: by a key of all their functions and arguments.
 fn hashing_of(entries: &[Entry]) -> Hashing {
-    let mut state = DefaultHasher::new();
+    let mut keys = Keys::new();
     for entry in entries {
-        state.write_u32(entry.function);
-        feed_all(entry.args.as_slice(), &mut state);
+        keys.add_number(u64::from(entry.function));
+        add_values(entry.args.as_slice(), &mut keys);
     }
-    hashing_by(&state)
+    keys.hashing()
 }
 
 /// The number of each entry.

@@ -1,5 +1,6 @@
 -- Names among the tokens of a file.
-use Rattle.std.specs.Prelude.{◌==◌, ◌&&◌, ◌||◌, ℕ, Bool, List, Option, Some, None, find, is_some, nat_eq, nat_lt, not, option_and_then, option_map, position, slice_get, ◌≡◌}
+use Rattle.std.specs.Prelude.{◌==◌, ◌&&◌, ◌||◌, ℕ, Bool, List, Option, Some, None, find, is_some, nat_eq, nat_lt, not}
+use Rattle.std.specs.Prelude.{option_and_then, option_map, position, slice_get, ◌≡◌}
 use Rattle.std.specs.Cmp.Lexicographic.{pointwise}
 use Rattle.cq_base.specs.declared.name.Name.{Name}
 use Rattle.cq_base.specs.declared.place.Place.{Place}

@@ -5,7 +5,8 @@ use Rattle.cq_syntax.specs.Grammar as grammar
 use Rattle.cq_productions.specs.Rules.{comma_name, plus_spot}
 use Rattle.cq_syntax.specs.Grammar.{name, spot, value, setting, placed_path, placed_term, group, edge, equation, path_equation, of_entity}
 use Rattle.cq_syntax.specs.Grammar.{observation, member, pair, bind, key_image, att_value, att_image, map_block, query_key, query_block}
-use Rattle.cq_syntax.specs.Grammar.{open_type, typeside, options, schema, schema_literal, colimit, mapping, mapping_literal, query, query_literal}
+use Rattle.cq_syntax.specs.Grammar.{open_type, typeside, options, schema, schema_literal, colimit, mapping}
+use Rattle.cq_syntax.specs.Grammar.{mapping_literal, query, query_literal}
 use Rattle.cq_syntax.specs.Grammar.{instance, instance_literal, coproduct, text, transform, transform_literal, move_form, declaration}
 
 pub spots : decides (many spot) ≡ true

@@ -9,7 +9,7 @@ pub fn hashing_of(presentation: &Presentation) -> Hashing {
     for equation in presentation.equations.as_slice() {
         feed_equation(equation, &mut state);
     }
-    Hashing::of_text(&state.finish().to_le_bytes())
+    Hashing::of_state(&state)
 }
 
 fn feed_equation(equation: &Equation, state: &mut DefaultHasher) {

@@ -64,7 +64,7 @@ pub record HasDerived (reason : Reason) (words : List ℕ) : Type 0 where
   pub words_are : words ≡ before ++ lines ++ after
   pub derived : IsDerived reason lines
 
--- the place that is shown of what is wrong with a declaration, and the words that follow: where it lacks a file, the place of the declaration
+-- The place that is shown of what is wrong with a declaration, and the words that follow. Where it lacks a file, that is the declaration's.
 abbrev pub IsToldOf : List Token → Decl → Fault → Place → List ℕ → Type 0
 IsToldOf tokens decl (Broken at reason) place words = IsShownOf tokens reason at place × HasDerived reason words
 IsToldOf tokens decl (Unread file cause) place words = place ≡ decl.place
@@ -92,8 +92,10 @@ module _ (depth : ℕ) (files : Told) where
 
   -- of tokens that are no program within the limits the place of the token is shown that decides
   pub data IsTokenFault (tokens : List Token) (place : Place) (words : List ℕ) : Type 0 where
-    no_tree : (refusal : ParseRefusal) → parsed.IsRefused tokens refusal → IsGrammaticalPlace refusal place → IsTokenFault tokens place words
-    no_meaning : (tree : Program) → IsProgram tokens tree → FitsLimits tree → IsProgramFault tokens tree place words → IsTokenFault tokens place words
+    no_tree : (refusal : ParseRefusal) → parsed.IsRefused tokens refusal → IsGrammaticalPlace refusal place
+        → IsTokenFault tokens place words
+    no_meaning : (tree : Program) → IsProgram tokens tree → FitsLimits tree → IsProgramFault tokens tree place words
+        → IsTokenFault tokens place words
 
   -- of a text without tokens the place is shown of the first that can't be made
   pub data IsTextFault (text : List ℕ) (place : Place) (words : List ℕ) : Type 0 where

@@ -1,7 +1,11 @@
 -- The words of which texts are put together.
 use Rattle.std.specs.Prelude.{ℕ, List, codes}
 use Rattle.cq_witness.specs.declared.phrases.Phrase.{Phrase}
-use Rattle.cq_witness.specs.declared.phrases.Phrase.TheVariants.{StillNew, Keys, GoesOn, Again, SayWhich, OrEnd, OrDeeper, OfDepth, ThereAre, RowsOf, NoneMore, WithDepth, TooMany, Split, AtOnce, Indent, TwoRows, TwoValues, And, LineEnd, Equation, Of, Image, Colon, OtherImages, Follow}
+use Rattle.cq_witness.specs.declared.phrases.Phrase.TheVariants.{StillNew, Keys, GoesOn, Again, SayWhich, OrEnd}
+use Rattle.cq_witness.specs.declared.phrases.Phrase.TheVariants.{OrDeeper, OfDepth, ThereAre, RowsOf, NoneMore}
+use Rattle.cq_witness.specs.declared.phrases.Phrase.TheVariants.{WithDepth, TooMany, Split, AtOnce, Indent, TwoRows}
+use Rattle.cq_witness.specs.declared.phrases.Phrase.TheVariants.{TwoValues, And, LineEnd, Equation, Of, Image, Colon}
+use Rattle.cq_witness.specs.declared.phrases.Phrase.TheVariants.{OtherImages, Follow}
 
 unfoldable pub words : Phrase → List ℕ
 words StillNew = codes "Still new with "
