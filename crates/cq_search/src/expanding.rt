@@ -14,7 +14,7 @@ pub struct Progress {
     followed: u64,
 }
 
-/// Puts equations in until the nodes are equal, and says whether they are. The nodes are gone through in the order in
+/// Puts equations in until the nodes are equal or there are more than so many nodes, and says whether they are. The nodes are gone through in the order in
 /// which they came, so that each equation is put in at each class some time. Foreign keys are followed from the next
 /// node only when all equations are in (Todd and Coxeter, A practical method for enumerating cosets of a finite
 /// abstract group, 1936).
@@ -22,20 +22,21 @@ pub fn join_by_equations(
     alloc: Global,
     graph: &mut Graph,
     schema: &Schema,
-    left: u64,
-    right: u64,
+    most: u64,
+    (left, right): (u64, u64),
 ) -> Result<bool, Halt> {
     let beginnings = Beginnings::of(alloc, schema)?;
-    let are_joined = advance_until(alloc, graph, schema, &beginnings, (left, right))?;
+    let are_joined = advance_until(alloc, graph, schema, &beginnings, most, (left, right))?;
     Ok(are_joined)
 }
 
-/// Goes on node by node until these nodes are equal, and says whether they are.
+/// Goes on node by node until these nodes are equal or there are too many, and says whether they are.
 fn advance_until(
     alloc: Global,
     graph: &mut Graph,
     schema: &Schema,
     beginnings: &Beginnings,
+    most: u64,
     (left, right): (u64, u64),
 ) -> Result<bool, Halt> {
     let mut progress = Progress {
@@ -45,6 +46,9 @@ fn advance_until(
     for _turn in 0..u64::MAX {
         if graph.are_joined(left, right) {
             return Ok(true);
+        }
+        if graph.terms.len() > most {
+            return Ok(false);
         }
         match advance(alloc, graph, schema, beginnings, progress)? {
             Some(next) => progress = next,

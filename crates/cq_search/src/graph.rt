@@ -21,6 +21,7 @@ pub struct Graph {
     table: HashMap<Node, u64, Hashing>,
     waiting: Vec<Link>,
     stale: Vec<u64>,
+    generators: Vec<Option<u64>>,
     hashing: Hashing,
     alloc: Global,
 }
@@ -35,6 +36,7 @@ impl Drop for Graph {
             table: _,
             waiting: _,
             stale: _,
+            generators: _,
             hashing: _,
             alloc: _,
         } = self;
@@ -42,9 +44,9 @@ impl Drop for Graph {
 }
 
 impl Graph {
-    /// No nodes. They are hashed as told.
-    pub fn new(alloc: Global, hashing: Hashing) -> Graph {
-        Graph {
+    /// No nodes, over so many generators. They are hashed as told.
+    pub fn new(alloc: Global, hashing: Hashing, generators: usize) -> Result<Graph, AllocError> {
+        Ok(Graph {
             terms: Terms::new(alloc, hashing),
             classes: Classes::new(alloc),
             forest: Forest::new(alloc),
@@ -52,9 +54,32 @@ impl Graph {
             table: HashMap::with_hasher(alloc, hashing),
             waiting: Vec::new(alloc),
             stale: Vec::new(alloc),
+            generators: vec![in alloc; None; generators]?,
             hashing,
             alloc,
+        })
+    }
+
+    /// The node of a generator that was put in.
+    pub fn generator(&self, number: u32) -> Result<u64, Halt> {
+        match self.generators.get(number as usize) {
+            Some(Some(node)) => Ok(*node),
+            _ => Err(Halt::Absent),
         }
+    }
+
+    /// Puts a generator in.
+    pub fn put_generator(
+        &mut self,
+        number: u32,
+        leaf: Node,
+        entity: Option<u32>,
+    ) -> Result<(), Halt> {
+        let node = self.put(leaf, entity)?;
+        if let Some(place) = self.generators.get_mut(number as usize) {
+            *place = Some(node);
+        }
+        Ok(())
     }
 
     /// How tables of nodes are to hash.

@@ -8,6 +8,7 @@ mod graph;
 mod halt;
 mod hashing;
 mod listing;
+mod near;
 mod needed;
 mod node;
 mod pruning;

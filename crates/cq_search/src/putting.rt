@@ -3,7 +3,9 @@ use crate::forest::Reason;
 use crate::graph::Graph;
 use crate::halt::Halt;
 use crate::hashing::hashing_of;
+use crate::near::Near;
 use crate::node::{Node, Symbol};
+use cq_base::Hashing;
 use cq_theory::{EntTerm, Equation, Presentation, Schema, Sort, TypeTerm};
 use smallvec::SmallVec;
 use std::alloc::Global;
@@ -30,9 +32,34 @@ pub fn graph_of(
     schema: &Schema,
     presentation: &Presentation,
 ) -> Result<Graph, Halt> {
-    let mut graph = Graph::new(alloc, hashing_of(presentation));
+    let count = presentation.generators.len();
+    let mut graph = Graph::new(alloc, hashing_of(presentation), count)?;
     put_generators(alloc, &mut graph, presentation)?;
     put_equations(alloc, &mut graph, schema, presentation)?;
+    graph.close()?;
+    Ok(graph)
+}
+
+/// A graph of some generators of a presentation and of some of its equations, in which no others stand; they are
+/// closed. So few need no key.
+pub fn graph_near(
+    alloc: Global,
+    schema: &Schema,
+    presentation: &Presentation,
+    near: &Near,
+) -> Result<Graph, Halt> {
+    let count = presentation.generators.len();
+    let mut graph = Graph::new(alloc, Hashing::new(), count)?;
+    for number in near.generators.as_slice() {
+        if let Some(generator) = presentation.generators.as_slice().get(*number as usize) {
+            put_generator(alloc, &mut graph, *number, generator.1)?;
+        }
+    }
+    for number in near.equations.as_slice() {
+        if let Some(equation) = presentation.equations.as_slice().get(*number as usize) {
+            put_equation(alloc, &mut graph, schema, u64::from(*number), equation)?;
+        }
+    }
     graph.close()?;
     Ok(graph)
 }
@@ -46,13 +73,17 @@ fn put_generators(
         let Ok(number) = u32::try_from(number) else {
             return Err(Halt::Absent);
         };
-        let entity = match generator.1 {
-            Sort::Entity(entity) => Some(entity),
-            Sort::Plain(_) => None,
-        };
-        graph.put(leaf(alloc, Symbol::Generator(number)), entity)?;
+        put_generator(alloc, graph, number, generator.1)?;
     }
     Ok(())
+}
+
+fn put_generator(alloc: Global, graph: &mut Graph, number: u32, sort: Sort) -> Result<(), Halt> {
+    let entity = match sort {
+        Sort::Entity(entity) => Some(entity),
+        Sort::Plain(_) => None,
+    };
+    graph.put_generator(number, leaf(alloc, Symbol::Generator(number)), entity)
 }
 
 fn put_equations(
@@ -62,9 +93,20 @@ fn put_equations(
     presentation: &Presentation,
 ) -> Result<(), Halt> {
     for (number, equation) in presentation.equations.as_slice().iter().enumerate() {
-        let (left, right) = put_sides(alloc, graph, schema, equation)?;
-        graph.equate(left, right, Reason::Given(number as u64))?;
+        put_equation(alloc, graph, schema, number as u64, equation)?;
     }
+    Ok(())
+}
+
+fn put_equation(
+    alloc: Global,
+    graph: &mut Graph,
+    schema: &Schema,
+    number: u64,
+    equation: &Equation,
+) -> Result<(), Halt> {
+    let (left, right) = put_sides(alloc, graph, schema, equation)?;
+    graph.equate(left, right, Reason::Given(number))?;
     Ok(())
 }
 
@@ -101,7 +143,7 @@ pub fn put_entity_term(
 ) -> Result<u64, Halt> {
     let start = match at {
         Some(node) => node,
-        None => u64::from(term.generator),
+        None => graph.generator(term.generator)?,
     };
     put_path(alloc, graph, schema, start, term.path.as_slice(), wanted)
 }
@@ -148,7 +190,7 @@ pub fn put_type_term(
     wanted: Wanted,
 ) -> Result<u64, Halt> {
     match term {
-        TypeTerm::Gen(number) => Ok(u64::from(*number)),
+        TypeTerm::Gen(number) => graph.generator(*number),
         TypeTerm::Const(constant) => {
             let symbol = graph.terms.put_constant(constant)?;
             graph.put(leaf(alloc, symbol), None)
