@@ -32,3 +32,27 @@ lists_full old found full = λ name.
 
 pub lists_one : (old new : List Fault) (fault : Fault) → new ≡ old ++ fault ∷ [] → Lists old new (λ name. listed name (Some fault))
 lists_one old new fault is = λ name. ap (λ l. take most_faults (map (shown name) l)) is ∙ ap (take most_faults) (map-append (shown name) old (fault ∷ []))
+
+-- a list to which a fault was added isn't empty
+some_first : {X : Type 0} (k : ℕ) (xs : List X) (y : X) → [] ≡ take (suc k) (xs ++ y ∷ []) → ⊥
+some_first k [] y is = cc is
+some_first k (x ∷ xs) y is = cc is
+
+pub lists_some : (old new : List Fault) (found : (ℕ → List ℕ) → Found) → Lists old new (λ name. found name ∷ []) → new ≡ [] → ⊥
+lists_some old new found lists none =
+    let name : ℕ → List ℕ = λ n. [] in
+    some_first 99 (map (shown name) old) (found name) (ap (λ l. take most_faults (map (shown name) l)) (sym none) ∙ lists name)
+
+-- what is empty was empty before
+empty_front : {X : Type 0} (k : ℕ) (xs ys : List X) → [] ≡ take (suc k) (xs ++ ys) → xs ≡ []
+empty_front k [] ys is = refl
+empty_front k (x ∷ xs) ys is = cc is
+
+none_shown : (name : ℕ → List ℕ) (faults : List Fault) → map (shown name) faults ≡ [] → faults ≡ []
+none_shown name [] is = refl
+none_shown name (x ∷ xs) is = cc is
+
+pub lists_was_empty : (old new : List Fault) (found : (ℕ → List ℕ) → List Found) → Lists old new found → new ≡ [] → old ≡ []
+lists_was_empty old new found lists none =
+    let name : ℕ → List ℕ = λ n. [] in
+    none_shown name old (empty_front 99 (map (shown name) old) (found name) (ap (λ l. take most_faults (map (shown name) l)) (sym none) ∙ lists name))

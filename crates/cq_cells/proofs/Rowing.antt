@@ -1,6 +1,6 @@
 -- Records of a file that are tested, or whose ids are noted, one after the other.
 use Rattle.std.proofs.Common.{ℕ, List, [], ◌∷◌, ◌++◌, ◌+◌, ◌≡◌, Some, None, true, false, length, refl, sym, ap, subst, ◌∙◌, append_assoc, arith}
-use Rattle.std.specs.Prelude.{if◌then◌else◌}
+use Rattle.std.specs.Prelude.{IfOk, Result, Ok, Err, drop, if◌then◌else◌}
 use Rattle.std.specs.Borrow.{Bor}
 use Rattle.std.proofs.lemmas.List.{append-nil, length_push}
 use Rattle.csv.specs.declared.reader.Reader.{Reader}
@@ -10,7 +10,7 @@ use Rattle.cq_import.specs.Records.{Record, Remains, Takes}
 use Rattle.cq_import.specs.Rows.{id_of, ids_of, row_fault, same_record}
 use Rattle.cq_cells.specs.declared.faults.Fault.{Fault}
 use Rattle.cq_cells.specs.Found.{Found, found_in, rows_found, sheet_found}
-use Rattle.cq_cells.specs.Index.{IsIndexOf}
+use Rattle.cq_cells.specs.Index.{AreRowsNoted, IsIndexOf}
 use Rattle.cq_cells.specs.Shown.{Lists}
 use Rattle.cq_cells.proofs.Indexing.{index_empty}
 use Rattle.cq_cells.proofs.Listing.{lists_none, lists_same, lists_then}
@@ -104,3 +104,9 @@ right_header file wanted first rows same = ap (λ b. if b then rows_found file (
 
 pub other_header : (file : List ℕ) (wanted first : Record) (rows : List Record) → same_record first wanted ≡ false → sheet_found file wanted (first ∷ rows) ≡ found_in (Some (BadHeader file)) None
 other_header file wanted first rows differs = ap (λ b. if b then rows_found file (length wanted) [] 1 rows else found_in (Some (BadHeader file)) None) differs
+
+-- what is noted of the records behind the first one
+pub noted_behind : {E : Type 0} (result : Result ℕ E) (rows : List Record) (first : Record) (others : List Record) (places : List (List ℕ × ℕ)) (faults : List Fault) → rows ≡ first ∷ others
+    → IfOk result (AreRowsNoted others places) → IfOk result (λ count. faults ≡ [] → AreRowsNoted (drop 1 rows) places count)
+noted_behind (Ok count) rows first others places faults is noted = λ none. subst (λ (l : List Record). AreRowsNoted (drop 1 l) places count) (sym is) noted
+noted_behind (Err e) rows first others places faults is noted = tt

@@ -1,18 +1,20 @@
 //! The faults of a folder.
-ghost use Rattle.std.specs.Prelude.{ℕ, List, ◌≡◌, [], Some, None, IfOk, OnOk, IfSome, length, map, take};
+ghost use Rattle.std.specs.Prelude.{ℕ, List, ◌≡◌, ◌++◌, ◌∷◌, [], Some, None, IfOk, OnOk, IfSome, length, map, take};
 ghost use Rattle.cq_import.specs.Cells.{all_cells};
 ghost use Rattle.cq_import.specs.Columns.{AreColumns, header_with};
 ghost use Rattle.cq_import.specs.Faults.{TooLarge};
 ghost use Rattle.cq_import.specs.Folders.{name_of};
 ghost use Rattle.cq_import.specs.Imports.{fault_of};
 ghost use Rattle.cq_cells.specs.Found.{cells_found, found_in};
+ghost use Rattle.cq_cells.specs.Index.{AreIndexed, IsIndexed};
 ghost use Rattle.cq_cells.specs.Passes.{IsOver, sheets_over, typeside_over};
 ghost use Rattle.cq_cells.specs.Readings.{contents_found, files_found, first_of, folder_found, reading_found};
+ghost use Rattle.cq_cells.specs.Readings.{text_in};
 ghost use Rattle.cq_cells.specs.Shown.{Lists, most_faults, shown};
 
 use crate::cells::{Over, Pass};
 use crate::faults::{Fault, Faults, Kind};
-use crate::index::{MOST_GENERATORS, find_total, hashing_of, index_files};
+use crate::index::{Indexed, MOST_GENERATORS, find_total, hashing_of};
 use crate::readings::{Reading, Unread, read_files};
 use crate::rows::{Tested, check_reading};
 use crate::tables::read_cells;
@@ -31,9 +33,10 @@ fn check_file(
     entity: u32,
     reading: &Reading,
     faults: &mut Faults,
-) -> Result<(), AllocError>
-    ensures { OnOk result (Lists faults.old faults.new
+) -> Result<Indexed, AllocError>
+    ensures found { OnOk result (Lists faults.old faults.new
         (λ name. reading_found (name entity) (header_with schema.now columns.now) reading.now)) }
+    ensures indexed { IfOk result (λ made. faults.new ≡ [] → IsIndexed (text_in reading.now) made) }
 {
     let wanted = header(alloc, schema, columns)?;
     let tested = Tested {
@@ -44,31 +47,36 @@ fn check_file(
     check_reading(&tested, reading, faults)
 }
 
-/// Tests what was read of the files of all entities.
+fn push_indexed(indexed: Indexed, made: &mut Vec<Indexed>) -> Result<(), AllocError>
+    ensures { OnOk result (made.new.items ≡ made.old.items ++ indexed ∷ []) }
+{
+    made.push(indexed)?;
+    Ok(())
+}
+
+/// Tests what was read of the files of all entities, and lists their ids. Where a fault is found, nothing is claimed of
+/// these lists.
 fn check_files(
     alloc: Global,
     schema: &Schema,
     columns: &[Vec<Column>],
     readings: &[Reading],
     faults: &mut Faults,
-) -> Result<(), AllocError>
+) -> Result<Vec<Indexed>, AllocError>
     requires columns { AreColumns schema.now columns.now }
     requires readings { length readings.now ≡ length schema.now.entities }
-    ensures { OnOk result (Lists faults.old faults.new (λ name. files_found name schema.now readings.now)) }
+    ensures found { OnOk result (Lists faults.old faults.new (λ name. files_found name schema.now readings.now)) }
+    ensures indexed { IfOk result (λ made. faults.new ≡ [] → AreIndexed readings.now made.items) }
 {
     schema.is_well_sorted();
+    let mut made = Vec::new(alloc);
     for entity in 0..schema.entities.len() as u32 {
         let list = columns[entity as usize].as_slice();
-        check_file(
-            alloc,
-            schema,
-            list,
-            entity,
-            &readings[entity as usize],
-            faults,
-        )?;
+        let reading = &readings[entity as usize];
+        let indexed = check_file(alloc, schema, list, entity, reading, faults)?;
+        push_indexed(indexed, &mut made)?;
     }
-    Ok(())
+    Ok(made)
 }
 
 /// Tests the cells, where there aren't too many records.
@@ -77,21 +85,22 @@ fn check_cells(
     schema: &Schema,
     columns: &[Vec<Column>],
     readings: &[Reading],
+    indexed: &[Indexed],
     faults: Faults,
 ) -> Result<Faults, AllocError>
     requires columns { AreColumns schema.now columns.now }
     requires readings { length readings.now ≡ length schema.now.entities }
+    requires indexed { AreIndexed readings.now indexed.now }
     ensures { IfOk result (λ made. Lists faults made (λ name. contents_found name schema.now readings.now)) }
 {
-    let indexed = index_files(alloc, readings)?;
-    let Some(total) = find_total(indexed.as_slice()) else {
+    let Some(total) = find_total(indexed) else {
         return too_large(faults);
     };
     let over = Over {
         alloc,
         schema,
         readings,
-        indexed: indexed.as_slice(),
+        indexed,
         columns,
         most: MOST_GENERATORS - total,
     };
@@ -149,11 +158,18 @@ pub fn find_faults(
     schema.is_well_sorted();
     let columns = columns(alloc, schema)?;
     let mut faults = Faults::new(alloc);
-    check_files(alloc, schema, columns.as_slice(), readings, &mut faults)?;
+    let indexed = check_files(alloc, schema, columns.as_slice(), readings, &mut faults)?;
     if !faults.is_empty() {
         return Ok(faults.into_list());
     }
-    let all = check_cells(alloc, schema, columns.as_slice(), readings, faults)?;
+    let all = check_cells(
+        alloc,
+        schema,
+        columns.as_slice(),
+        readings,
+        indexed.as_slice(),
+        faults,
+    )?;
     Ok(all.into_list())
 }
 

@@ -10,6 +10,7 @@ ghost use Rattle.cq_base.specs.Names.{same_name};
 
 use cq_base::Hashing;
 use indexmap::IndexMap;
+use indexmap::map::Entry;
 use std::alloc::{AllocError, Global};
 use std::hash::{Hash, Hasher};
 use std::marker::Model;
@@ -112,11 +113,12 @@ impl Places {
             → lookup (same_name other) self.new
             ≡ cond (same_name id other) (Some number) (lookup (same_name other) self.old)) }
     {
-        if let Some(before) = self.find(&id) {
-            return Ok(Some(before));
-        }
-        match self.places.insert(id, number) {
-            Ok(_) => Ok(None),
+        match self.places.entry(id) {
+            Ok(Entry::Occupied(found)) => Ok(Some(*found.get())),
+            Ok(Entry::Vacant(place)) => {
+                place.insert(number);
+                Ok(None)
+            }
             Err(_) => Err(AllocError),
         }
     }

@@ -1,16 +1,17 @@
 //! The records of a file, tested by themselves.
-ghost use Rattle.std.specs.Prelude.{ℕ, List, ◌≡◌, ◌+◌, ◌≤◌, ◌++◌, ◌∷◌, [], Some, None, IfOk, OnOk, length};
+ghost use Rattle.std.specs.Prelude.{ℕ, List, ◌≡◌, ◌+◌, ◌≤◌, ◌++◌, ◌∷◌, [], Some, None, IfOk, OnOk, drop, length};
 ghost use Rattle.csv.specs.Records.{fields_of};
 ghost use Rattle.cq_base.specs.Names.{number_of};
 ghost use Rattle.cq_import.specs.Records.{Record, Remains, records_of};
 ghost use Rattle.cq_import.specs.Rows.{id_of, row_fault};
 ghost use Rattle.cq_cells.specs.Found.{found_in, rows_found, sheet_found};
-ghost use Rattle.cq_cells.specs.Index.{IsIndexOf};
-ghost use Rattle.cq_cells.specs.Readings.{reading_found};
+ghost use Rattle.cq_cells.specs.Index.{AreRowsNoted, IsIndexOf, IsIndexed};
+ghost use Rattle.cq_cells.specs.Readings.{reading_found, text_in};
 ghost use Rattle.cq_cells.specs.Shown.{Lists, listed, told};
 
 use crate::faults::{Fault, Faults, Kind};
 use crate::ids::{Id, Places};
+use crate::index::Indexed;
 use crate::readings::Reading;
 use crate::records::{field, is_row, is_same, next, start};
 use cq_base::{Hashing, Name};
@@ -27,8 +28,9 @@ pub struct Tested<'a> {
 
 /// Adds a fault of the whole file.
 fn add_to_file(tested: &Tested, kind: Kind, faults: &mut Faults) -> Result<(), AllocError>
-    ensures { OnOk result (Lists faults.old faults.new
+    ensures found { OnOk result (Lists faults.old faults.new
         (λ name. found_in (Some (told kind (name tested.now.file) 0 0)) None)) }
+    ensures some { OnOk result (faults.new ≡ [] → ⊥) }
 {
     faults.add(Some(Fault {
         kind,
@@ -118,71 +120,93 @@ fn check_row(
     Ok(())
 }
 
-/// Tests the records that are left.
+/// Tests the records that are left, notes their ids and counts them.
 fn check_rows(
     tested: &Tested,
     reader: &mut Reader<&[u8]>,
     fields: &mut ByteRecord,
     places: &mut Places,
     faults: &mut Faults,
-) -> Result<(), AllocError>
+) -> Result<u32, AllocError>
     requires { places.old ≡ [] }
-    ensures { (rows : List Record) → Remains reader.old rows → OnOk result (Lists faults.old faults.new
+    ensures found { (rows : List Record) → Remains reader.old rows → OnOk result (Lists faults.old faults.new
         (λ name. rows_found (name tested.now.file) (length tested.now.wanted.now) [] 1 rows)) }
+    ensures noted { (rows : List Record) → Remains reader.old rows → IfOk result (AreRowsNoted rows places.new) }
 {
-    for number in 1..u32::MAX {
+    for number in 0..u32::MAX {
         if !next(reader, fields)? {
-            return Ok(());
+            return Ok(number);
         }
-        check_row(tested, number, fields, places, faults)?;
+        check_row(tested, number + 1, fields, places, faults)?;
     }
     Err(AllocError)
 }
 
-/// Tests the records that are left, the first of which has to be the header.
+/// Tests the records that are left, the first of which has to be the header, notes the ids of those behind it and
+/// counts them. Behind another header nothing is noted.
 fn check_records(
     tested: &Tested,
     reader: &mut Reader<&[u8]>,
     fields: &mut ByteRecord,
     places: &mut Places,
     faults: &mut Faults,
-) -> Result<(), AllocError>
+) -> Result<u32, AllocError>
     requires { places.old ≡ [] }
-    ensures { (rows : List Record) → Remains reader.old rows → OnOk result (Lists faults.old faults.new
+    ensures found { (rows : List Record) → Remains reader.old rows → OnOk result (Lists faults.old faults.new
         (λ name. sheet_found (name tested.now.file) tested.now.wanted.now rows)) }
+    ensures noted { (rows : List Record) → Remains reader.old rows
+        → IfOk result (λ count. faults.new ≡ [] → AreRowsNoted (drop 1 rows) places.new count) }
 {
     if !next(reader, fields)? {
-        return add_to_file(tested, Kind::BadHeader, faults);
+        add_to_file(tested, Kind::BadHeader, faults)?;
+        return Ok(0);
     }
     if !is_same(fields, tested.wanted) {
-        return add_to_file(tested, Kind::BadHeader, faults);
+        add_to_file(tested, Kind::BadHeader, faults)?;
+        return Ok(0);
     }
     check_rows(tested, reader, fields, places, faults)
 }
 
-/// Tests the text of a file.
-fn check_text(tested: &Tested, text: &[u8], faults: &mut Faults) -> Result<(), AllocError>
-    ensures { OnOk result (Lists faults.old faults.new
+/// Tests the text of a file, and lists its ids.
+fn check_text(tested: &Tested, text: &[u8], faults: &mut Faults) -> Result<Indexed, AllocError>
+    ensures found { OnOk result (Lists faults.old faults.new
         (λ name. sheet_found (name tested.now.file) tested.now.wanted.now (records_of text.now))) }
+    ensures indexed { IfOk result (λ made. faults.new ≡ [] → IsIndexed text.now made) }
 {
     let mut reader = start(tested.alloc, text);
     let mut fields = ByteRecord::new(tested.alloc);
     let mut places = Places::new(tested.alloc, Hashing::of_text(text));
-    check_records(tested, &mut reader, &mut fields, &mut places, faults)
+    let count = check_records(tested, &mut reader, &mut fields, &mut places, faults)?;
+    Ok(Indexed { places, count })
 }
 
-/// Tests what was read of a file.
+/// Tests what was read of a file, and lists its ids. Where a fault is found, nothing is claimed of that list.
 pub fn check_reading(
     tested: &Tested,
     reading: &Reading,
     faults: &mut Faults,
-) -> Result<(), AllocError>
-    ensures { OnOk result (Lists faults.old faults.new
+) -> Result<Indexed, AllocError>
+    ensures found { OnOk result (Lists faults.old faults.new
         (λ name. reading_found (name tested.now.file) tested.now.wanted.now reading.now)) }
+    ensures indexed { IfOk result (λ made. faults.new ≡ [] → IsIndexed (text_in reading.now) made) }
 {
     match reading {
-        Reading::Absent => add_to_file(tested, Kind::Absent, faults),
-        Reading::TooLong => add_to_file(tested, Kind::TooLong, faults),
+        Reading::Absent => check_unread(tested, Kind::Absent, faults),
+        Reading::TooLong => check_unread(tested, Kind::TooLong, faults),
         Reading::Text(text) => check_text(tested, text.as_slice(), faults),
     }
+}
+
+/// The fault of a file that was not read, which has no ids.
+fn check_unread(tested: &Tested, kind: Kind, faults: &mut Faults) -> Result<Indexed, AllocError>
+    ensures found { OnOk result (Lists faults.old faults.new
+        (λ name. found_in (Some (told kind (name tested.now.file) 0 0)) None)) }
+    ensures some { OnOk result (faults.new ≡ [] → ⊥) }
+{
+    add_to_file(tested, kind, faults)?;
+    Ok(Indexed {
+        places: Places::new(tested.alloc, Hashing::new()),
+        count: 0,
+    })
 }

@@ -3,8 +3,8 @@
 //! The part at a place (`part`) is looked at as it is written, over the names that may stand there with their sorts
 //! (`signature`, `sorted`; which these are, `over`). Sought are the symbol that is applied to another number of
 //! arguments than it takes (`counts`), and what doesn't fit together (`misfit`, `sorts`): in terms (`fitting`), in
-//! paths (`paths`), and of what a mapping, a query or a transform gives (`images`). The schemas of a colimit give joined
-//! names (`joined`), of which one may stand twice (`clash`).
+//! paths (`paths`), and of what a mapping, a query or a transform gives (`images`). The schemas of a colimit give
+//! joined names (`joined`), of which one may stand twice (`clash`).
 #![tactic(auto)]
 
 mod clash;

@@ -161,7 +161,8 @@ fn tokens_telling<F: Folder + Listing>(
     requires depth { depth ≤ 64 }
     requires stops { StopsAmong depth (F.state folder.old).files page.tokens.now stop.now }
     ensures files { (F.state folder.new).files ≡ (F.state folder.old).files }
-    ensures told { IfOk result (λ found. MatchOption found (AreMet depth (F.state folder.old).files page.entry.tokens.now)
+    ensures told { IfOk result (λ found. MatchOption found
+        (AreMet depth (F.state folder.old).files page.entry.tokens.now)
         (λ telling. IsTokenFault depth (F.state folder.old).files page.entry.tokens.now telling.place
         telling.words.items)) }
 {

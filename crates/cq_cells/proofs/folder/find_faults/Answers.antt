@@ -10,7 +10,7 @@ returns-then-not-is_empty c =
     let R = c.args.readings.now in
     let found = c.check_files.new.faults in
     listed_files found c.into_list.result.items (λ name. files_found name S R) (λ name. contents_found name S R) c.into_list.ensures.list c.into_list.ensures.few
-    (subst (λ l. Lists l found (λ name. files_found name S R)) c.new-faults.ensures c.in_ok-check_files.ensures) (sym c.is_empty.ensures ∙ c.if-not-is_empty.true)
+    (subst (λ l. Lists l found (λ name. files_found name S R)) c.new-faults.ensures c.in_ok-indexed.ensures.found) (sym c.is_empty.ensures ∙ c.if-not-is_empty.true)
 
 pub returns : goal.returns
 returns c =
@@ -18,4 +18,4 @@ returns c =
     let R = c.args.readings.now in
     let found = c.check_files.new.faults in
     listed_all found c.in_ok-all.all c.into_list-2.result.items (λ name. files_found name S R) (λ name. contents_found name S R) c.into_list-2.ensures.list c.into_list-2.ensures.few
-    (subst (λ l. Lists l found (λ name. files_found name S R)) c.new-faults.ensures c.in_ok-check_files.ensures) (sym c.is_empty.ensures ∙ c.if-not-is_empty.false) c.in_ok-all.ensures
+    (subst (λ l. Lists l found (λ name. files_found name S R)) c.new-faults.ensures c.in_ok-indexed.ensures.found) (sym c.is_empty.ensures ∙ c.if-not-is_empty.false) c.in_ok-all.ensures
