@@ -4,7 +4,7 @@ ghost use Rattle.std.specs.List.{list_all, prefix_len};
 ghost use Rattle.cq_theory.specs.ValueText.{is_word as is_word_text, is_word_byte as is_word_byte_of};
 ghost use Rattle.cq_values.specs.Reading.{as_name, function_for};
 
-use cq_base::{Name, NameRefusal};
+use cq_base::{Name, NameRefusal, Source};
 use cq_theory::Typeside;
 use std::alloc::{AllocError, Global};
 
@@ -38,14 +38,16 @@ pub(crate) fn is_word(bytes: &[u8]) -> bool
     }
 }
 
-/// The name with these bytes, if they are at most 255 bytes of UTF-8.
+/// The name with these bytes, if they are at most 255 bytes of UTF-8. It stands in memory of its own, with a key of its
+/// own, since who writes a value chooses its texts.
 pub fn name_of(alloc: Global, bytes: &[u8]) -> Result<Option<Name>, AllocError>
     ensures { IfOk result (λ found. found ≡ as_name bytes.now) }
 {
     let Ok(text) = str::from_utf8(bytes) else {
         return Ok(None);
     };
-    match Name::new(alloc, text) {
+    let mut source = Source::new(alloc, bytes)?;
+    match source.name(bytes.len(), text) {
         Ok(name) => Ok(Some(name)),
         Err(NameRefusal::Long) => Ok(None),
         Err(NameRefusal::Memory) => Err(AllocError),
