@@ -32,4 +32,5 @@ pub mod NamedLeaves
 pub mod AllNodes
 pub mod ModelMade
 pub mod BuildingRefusals
+pub mod Presenting
 pub mod CanonicalCloses

@@ -1,8 +1,8 @@
 -- What is made on the way to a listed model, and what refuses it.
 use Rattle.std.specs.Prelude.{ℕ, false, List, [], map, length}
 use Rattle.cq_tables.specs.Content.{Content}
-use Rattle.cq_model.specs.declared.building.BuildRefusal.{BuildRefusal}
-use Rattle.cq_model.specs.declared.building.BuildRefusal.TheVariants.{Depth, TooManyRows, Inconsistent, Memory}
+use Rattle.cq_model.specs.declared.refusal.BuildRefusal.{BuildRefusal}
+use Rattle.cq_model.specs.declared.refusal.BuildRefusal.TheVariants.{Depth, TooManyRows, Inconsistent, Memory}
 use Rattle.cq_model.specs.declared.building.ClosedRows.{ClosedRows}
 use Rattle.cq_model.specs.declared.building.ModelParts.{ModelParts}
 use Rattle.cq_names.specs.declared.numbers.NumberedRows.{NumberedRows}

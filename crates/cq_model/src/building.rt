@@ -14,7 +14,7 @@ ghost use Rattle.cq_names.specs.NamedRows.{AreNamedRows};
 ghost use Rattle.cq_instance.specs.InstanceData.{IsInstance};
 ghost use Rattle.cq_instance.specs.Listed.{IsListed};
 ghost use Rattle.cq_instance.specs.Standing.{meaning};
-ghost use Rattle.cq_model.specs.declared.building.BuildRefusal.TheVariants.{Depth, TooManyRows, Inconsistent, Memory};
+ghost use Rattle.cq_model.specs.declared.refusal.BuildRefusal.TheVariants.{Depth, TooManyRows, Inconsistent, Memory};
 
 use crate::equations::{push_given, push_observations};
 use crate::leaves::{first_places, push_generators, push_leaves, ranks};
@@ -22,6 +22,7 @@ use crate::nodes::NodeList;
 use crate::nulls::count_nulls;
 use crate::places::{ClosedPlaces, Ground, Places};
 use crate::reading::{read_algebra, read_sheet, read_standings};
+use crate::refusal::BuildRefusal;
 use cq_base::Seq;
 use cq_flat::Flat;
 use cq_instance::{EntryTable, Instance, Standing, grouped, sources, targets};
@@ -31,29 +32,6 @@ use cq_tables::Tables;
 use cq_theory::{Con, Presentation, Schema, Sheet};
 use std::alloc::{AllocError, Global};
 use std::rc::Rc;
-
-/// Why there is no instance.
-#[derive(Drop)]
-pub enum BuildRefusal {
-    /// The presentation closes at no depth up to the given one.
-    Depth,
-    /// A stage of the rows ended with more than 200,000 of them.
-    TooManyRows,
-    /// Two constants are equal: the least, in the order of constants, that is equal to a greater one, and the least
-    /// such greater one.
-    Inconsistent(Con, Con),
-    Memory,
-}
-
-impl From<AllocError> for BuildRefusal {
-    ghost use Rattle.cq_model.specs.declared.building.BuildRefusal.TheVariants.{Memory};
-
-    ghost from_gives = { λ _ e. e ≡ Memory };
-
-    fn from(_error: AllocError) -> BuildRefusal {
-        BuildRefusal::Memory
-    }
-}
 
 /// The cells and the generators of types as nodes, and their places.
 fn place_leaves(

@@ -18,14 +18,16 @@ mod building;
 mod equations;
 pub mod laws;
 mod leaves;
-mod moving;
 mod nodes;
 mod nulls;
 mod places;
+mod presented;
 mod reading;
+mod refusal;
 
-pub use building::{BuildRefusal, build};
+pub use building::build;
 pub use cq_instance::{
     CellIndex, Image, Instance, KeyIndex, Standing, TablesRefusal, Transform, copied,
 };
-pub use moving::MoveRefusal;
+pub use presented::build_presented;
+pub use refusal::{BuildRefusal, MoveRefusal};

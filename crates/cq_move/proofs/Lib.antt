@@ -2,3 +2,4 @@ pub mod Normal
 pub mod Pulled
 pub mod Tests
 pub mod MadeColumns
+pub mod MovedPresentations

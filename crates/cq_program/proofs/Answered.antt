@@ -1,14 +1,11 @@
 -- What the answers of calls say of presentations that are made of others.
-use Rattle.std.proofs.Common.{ℕ, Bool, true, false, List, [], Option, Some, ◌≡◌, ◌≤◌, ◌<◌, ◌||◌, refl, sym, ap, subst, ◌∙◌, inl, inr, length, arith}
-use Rattle.std.specs.Prelude.{Result, Ok, Err, IfOk, nat_lt, map, slice_index_or}
-use Rattle.std.proofs.lemmas.Bool.Decides.{nat_tests}
-use Rattle.std.proofs.lemmas.List.{length-map}
+use Rattle.std.proofs.Common.{ℕ, Bool, true, false, List, [], ◌≡◌, refl, sym, ap, subst, ◌∙◌, inl, inr}
+use Rattle.std.specs.Prelude.{Result, Ok, Err, IfOk, slice_index_or}
 use Rattle.std.proofs.lemmas.Option.{get_or_from_slice_get}
 use Rattle.cq_base.specs.declared.name.Name.{Name}
 use Rattle.cq_base.specs.declared.place.Place.{Place}
 use Rattle.cq_theory.specs.declared.constant.Con.{Con}
 use Rattle.cq_theory.specs.declared.presentation.Presentation.{Presentation}
-use Rattle.cq_theory.specs.declared.presentation.Sort.{Sort}
 use Rattle.cq_theory.specs.declared.term.EntTerm.{EntTerm}
 use Rattle.cq_theory.specs.declared.value.Value.TheVariants.{Const}
 use Rattle.cq_theory.specs.Closing.{IsInconsistent, IsInconsistentAt}
@@ -18,17 +15,16 @@ use Rattle.cq_theory.specs.Schema.{IsSchema}
 use Rattle.cq_theory.specs.SchemaData.{SchemaData}
 use Rattle.cq_theory.specs.TypesideData.{TypesideData}
 use Rattle.cq_theory.specs.ValueText.{value_text, is_named_con}
-use Rattle.cq_rows.specs.Saturated.{NoneCloses, SomeWide}
-use Rattle.cq_mapping.specs.Duties.{is_too_large as is_moved_too_large}
-use Rattle.cq_mapping.specs.Images.{sigma, sort_image}
+use Rattle.cq_mapping.specs.Images.{sigma}
 use Rattle.cq_mapping.specs.MappingData.{MappingData}
 use Rattle.cq_mapping.specs.Mapping.{IsMapping}
 use Rattle.cq_mapping.proofs.ImagedPresentations.{sigma-is_presentation}
 use Rattle.cq_instance.specs.InstanceData.{InstanceData, name_at}
 use Rattle.cq_instance.specs.Listed.{IsListed}
-use Rattle.cq_model.specs.Moving.{SaysSize}
-use Rattle.cq_model.specs.declared.moving.MoveRefusal.{MoveRefusal}
-use Rattle.cq_model.specs.declared.moving.MoveRefusal.TheVariants.{Depth, TooManyRows, TooLarge, Inconsistent as Clashing}
+use Rattle.cq_model.specs.Moving.{IsModelOrCause, SaysSize}
+use Rattle.cq_move.proofs.MovedPresentations.{moved_size}
+use Rattle.cq_model.specs.declared.refusal.MoveRefusal.{MoveRefusal}
+use Rattle.cq_model.specs.declared.refusal.MoveRefusal.TheVariants.{Depth, TooManyRows, TooLarge, Inconsistent as Clashing}
 use Rattle.cq_query.specs.QueryData.{QueryData}
 use Rattle.cq_query.specs.IsQuery.{IsQuery}
 use Rattle.cq_query.specs.Coeval.{coeval_of}
@@ -75,12 +71,14 @@ module _ (S : SchemaData) (P : Presentation) (depth : ℕ) (answer : Result Inst
       record { schema = schema; presentation = presentation size; over = over; presents = presents; listed = listed; consistent = consistent }
   model_in (Err refusal) schema presentation over presents listed consistent size = tt
 
-  pub answer_of : IsSchema S → (is_too_large P ≡ false → IsPresentation S P) → IfOk answer (λ made. made.schema ≡ S) → IfOk answer (λ made. made.presentation ≡ P)
-      → IfOk answer IsListed → IfOk answer (λ _. IsInconsistent S P → ⊥) → SaysSize answer (is_too_large P)
-      → (answer ≡ Err Depth → NoneCloses S P depth) → (answer ≡ Err TooManyRows → SomeWide S P depth) → ((c d : Con) → answer ≡ Err (Clashing c d) → IsInconsistentAt S P c d)
-      → IsAnswerOf S P depth answer
-  answer_of schema presentation over presents listed consistent size deep many clash =
-      record { model = model_in answer schema presentation over presents listed consistent size; size = size; deep = deep; many = many; clash = clash }
+  pub answer_of : IsSchema S → (is_too_large P ≡ false → IsPresentation S P) → IsModelOrCause S P depth answer → IsAnswerOf S P depth answer
+  answer_of schema presentation is = record {
+    model = model_in answer schema presentation is.schema is.presentation is.listed is.consistent is.size;
+    size = is.size;
+    deep = is.deep;
+    many = is.many;
+    clash = is.unequal;
+  }
 
   module _ (of : IsAnswerOf S P depth answer) where
     -- constants that clash are constants of the typeside
@@ -117,24 +115,11 @@ module _ (S : SchemaData) (P : Presentation) (depth : ℕ) (answer : Result Inst
         told_clash at name c d refusal (subst (λ (r : Result InstanceData MoveRefusal). SaysSize r (is_too_large P)) is of.size) (of.clash c d is)
         (subst (λ (U : TypesideData). TellsConstants at (value_text U (Const c)) (value_text U (Const d)) refusal) typeside told)
 
--- The limits of the moves are one limit.
-few : (n : ℕ) → n ≤ 16000000 → nat_lt 16000000 n ≡ false
-few n within = grind (arith, nat_tests)
-
-pub moved_size : (F : MappingData) (P : Presentation) → length P.generators ≤ 16000000 → is_moved_too_large F P ≡ is_too_large (sigma F P)
-moved_size F P within =
-    let count : length (sigma F P).generators ≤ 16000000 = omega (arith, within, length-map {B = Name × Sort} P.generators (λ (g : Name × Sort). (g.0, sort_image F g.1))) in
-    sym (ap (λ (b : Bool). b || is_moved_too_large F P) (few (length (sigma F P).generators) count))
-
 -- What the calls of the moves say.
 pub sigma_answers : (F : MappingData) (P : Presentation) (depth : ℕ) (answer : Result InstanceData MoveRefusal) → IsMapping F → IsPresentation F.source P
-    → IfOk answer (λ made. made.schema ≡ F.target) → IfOk answer (λ made. made.presentation ≡ sigma F P)
-    → IfOk answer IsListed → IfOk answer (λ _. IsInconsistent F.target (sigma F P) → ⊥) → SaysSize answer (is_moved_too_large F P)
-    → (answer ≡ Err Depth → NoneCloses F.target (sigma F P) depth) → (answer ≡ Err TooManyRows → SomeWide F.target (sigma F P) depth)
-    → ((c d : Con) → answer ≡ Err (Clashing c d) → IsInconsistentAt F.target (sigma F P) c d) → IsAnswerOf F.target (sigma F P) depth answer
-sigma_answers F P depth answer mapping is over presents listed consistent size deep many clash =
-    answer_of F.target (sigma F P) depth answer mapping.target (λ short. sigma-is_presentation F mapping P is (moved_size F P is.count ∙ short)) over presents listed consistent
-    (subst (SaysSize answer) (moved_size F P is.count) size) deep many clash
+    → IsModelOrCause F.target (sigma F P) depth answer → IsAnswerOf F.target (sigma F P) depth answer
+sigma_answers F P depth answer mapping is of =
+    answer_of F.target (sigma F P) depth answer mapping.target (λ short. sigma-is_presentation F mapping P is (moved_size F P is.count ∙ short)) of
 
 pub sigma_named : (F : MappingData) (P : Presentation) (depth : ℕ) (answer : Result InstanceData MoveRefusal) → IsMapping F → IsPresentation F.source P
     → IsAnswerOf F.target (sigma F P) depth answer → (T : TypesideData) → T ≡ F.target.typeside → (c d : Con) → answer ≡ Err (Clashing c d)
@@ -143,13 +128,8 @@ sigma_named F P depth answer mapping is of T typeside c d clash =
     clash_named F.target (sigma F P) depth answer of T typeside mapping.target (λ short. sigma-is_presentation F mapping P is (moved_size F P is.count ∙ short)) c d clash
 
 pub coeval_answers : (Q : QueryData) (M : Tables) (depth : ℕ) (answer : Result InstanceData MoveRefusal) → IsQuery Q → IsWellFormed Q.target M
-    → IfOk answer (λ made. made.schema ≡ Q.source) → IfOk answer (λ made. made.presentation ≡ coeval_of Q M)
-    → IfOk answer IsListed → IfOk answer (λ _. IsInconsistent Q.source (coeval_of Q M) → ⊥) → SaysSize answer (is_too_large (coeval_of Q M))
-    → (answer ≡ Err Depth → NoneCloses Q.source (coeval_of Q M) depth) → (answer ≡ Err TooManyRows → SomeWide Q.source (coeval_of Q M) depth)
-    → ((c d : Con) → answer ≡ Err (Clashing c d) → IsInconsistentAt Q.source (coeval_of Q M) c d) → IsAnswerOf Q.source (coeval_of Q M) depth answer
-coeval_answers Q M depth answer query formed over presents listed consistent size deep many clash =
-    answer_of Q.source (coeval_of Q M) depth answer query.source (λ short. coeval_is Q query M formed short) over presents listed consistent
-    size deep many clash
+    → IsModelOrCause Q.source (coeval_of Q M) depth answer → IsAnswerOf Q.source (coeval_of Q M) depth answer
+coeval_answers Q M depth answer query formed of = answer_of Q.source (coeval_of Q M) depth answer query.source (λ short. coeval_is Q query M formed short) of
 
 pub coeval_named : (Q : QueryData) (M : Tables) (depth : ℕ) (answer : Result InstanceData MoveRefusal) → IsQuery Q → IsWellFormed Q.target M
     → IsAnswerOf Q.source (coeval_of Q M) depth answer → (T : TypesideData) → T ≡ Q.source.typeside → (c d : Con) → answer ≡ Err (Clashing c d)

@@ -1,33 +1,22 @@
 -- Coproducts and pushouts of presentations are presentations, within the limits.
-use Rattle.std.proofs.Common.{ℕ, List, [], ◌∷◌, ◌++◌, ◌≡◌, ◌≤◌, false, refl, length, arith, subst, sym}
-use Rattle.std.specs.Prelude.{All, nat_lt}
-use Rattle.std.specs.List.{list_any}
+use Rattle.std.proofs.Common.{List, [], ◌∷◌, ◌++◌, ◌≡◌, false, length, subst, sym}
+use Rattle.std.specs.Prelude.{All}
 use Rattle.cq_theory.specs.declared.presentation.Equation.{Equation}
 use Rattle.cq_theory.specs.declared.presentation.Presentation.{Presentation}
 use Rattle.cq_theory.specs.declared.presentation.Sort.{Sort}
-use Rattle.cq_theory.specs.Canonical.{named}
-use Rattle.cq_theory.specs.Presentation.{IsPresentation, has_long_side, is_oversized}
+use Rattle.cq_theory.specs.Presentation.{IsPresentation, is_oversized}
 use Rattle.cq_theory.specs.SchemaData.{SchemaData}
-use Rattle.cq_theory.proofs.Faults.{neither, at_most}
 use Rattle.cq_instance.specs.InstanceData.{InstanceData}
 use Rattle.cq_instance.specs.declared.transform.Transform.{Transform}
 use Rattle.cq_transform.specs.Transforms.{GoesFrom}
-use Rattle.cq_transform.specs.Gluing.{coproduct_of, equations_from, glued_images, presented, pushout_of, sorts_of}
+use Rattle.cq_transform.specs.Gluing.{coproduct_of, equations_from, glued_images, pushout_of, sorts_of}
 use Rattle.cq_push.proofs.Beside.{two_presented}
 use Rattle.cq_push.proofs.Glued.{images_of}
 use Rattle.cq_push.proofs.Limits.{is_presentation}
-use Rattle.cq_terms.proofs.Naming.{named_length}
 use Rattle.cq_push.proofs.Presented.{AreImagesOf, coproduct_sorted, pushout_sorted, sorts_in}
 
-few : (sorts : List Sort) (equations : List Equation) → is_oversized (presented sorts equations) ≡ false → length sorts ≤ 16000000
-few sorts equations short =
-    let count : length (named sorts) ≤ 16000000 = at_most 16000000 (length (named sorts)) (neither (nat_lt 16000000 (length (named sorts))) (list_any has_long_side equations) short).0 in
-    omega (arith, named_length sorts, count)
-
 pub coproduct_is : (S : SchemaData) (parts : List Presentation) → All (IsPresentation S) parts → is_oversized (coproduct_of parts) ≡ false → IsPresentation S (coproduct_of parts)
-coproduct_is S parts presented short =
-    is_presentation S (sorts_of parts) (equations_from 0 parts) (coproduct_of parts) refl (sorts_in S parts presented) (few (sorts_of parts) (equations_from 0 parts) short)
-    (coproduct_sorted S parts presented) short
+coproduct_is S parts presented short = is_presentation S (sorts_of parts) (equations_from 0 parts) (sorts_in S parts presented) (coproduct_sorted S parts presented) short
 
 pub pushout_is : (S : SchemaData) (f g : Transform) (start left right : InstanceData) → start.schema ≡ S → GoesFrom f start left → GoesFrom g start right
     → IsPresentation S left.presentation → IsPresentation S right.presentation → is_oversized (pushout_of f g left.presentation right.presentation) ≡ false
@@ -35,8 +24,7 @@ pub pushout_is : (S : SchemaData) (f g : Transform) (start left right : Instance
 pushout_is S f g start left right is to_left to_right on_left on_right short =
     let sorts : List Sort = sorts_of (left.presentation ∷ right.presentation ∷ []) in
     let equations : List Equation = equations_from 0 (left.presentation ∷ right.presentation ∷ []) ++ glued_images (length left.presentation.generators) f.images g.images in
-    is_presentation S sorts equations (pushout_of f g left.presentation right.presentation) refl
-    (sorts_in S (left.presentation ∷ right.presentation ∷ []) (two_presented S left.presentation right.presentation on_left on_right)) (few sorts equations short)
+    is_presentation S sorts equations (sorts_in S (left.presentation ∷ right.presentation ∷ []) (two_presented S left.presentation right.presentation on_left on_right))
     (pushout_sorted S left.presentation right.presentation f.images g.images on_left on_right
     (λ n l r at there. subst (λ (T : SchemaData). AreImagesOf T left.presentation right.presentation l r) is (images_of f g start left right to_left to_right n l r at there))) short
 

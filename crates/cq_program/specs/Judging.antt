@@ -11,8 +11,8 @@ use Rattle.cq_theory.specs.Presentation.{is_oversized as is_too_large}
 use Rattle.cq_rows.specs.Saturated.{NoneCloses, SomeWide}
 use Rattle.cq_instance.specs.InstanceData.{InstanceData}
 use Rattle.cq_model.specs.Moving.{SaysSize}
-use Rattle.cq_model.specs.declared.moving.MoveRefusal.{MoveRefusal}
-use Rattle.cq_model.specs.declared.moving.MoveRefusal.TheVariants.{Depth, TooManyRows, Inconsistent as Clashing}
+use Rattle.cq_model.specs.declared.refusal.MoveRefusal.{MoveRefusal}
+use Rattle.cq_model.specs.declared.refusal.MoveRefusal.TheVariants.{Depth, TooManyRows, Inconsistent as Clashing}
 use Rattle.cq_stating.specs.declared.reason.Reason.TheVariants.{Inconsistent}
 use Rattle.cq_stating.specs.declared.reason.ProgramRefusal.{ProgramRefusal}
 use Rattle.cq_stating.specs.declared.reason.ReadCause.{ReadCause}

@@ -52,11 +52,14 @@ refusal_of halt.Memory = program_refusal.Memory
 
 -- what a halt tells: where the program stops, and the first rule that it breaks or a file that was not read; or want of memory
 abbrev pub Halts : ℕ → FolderData → FolderData → Program → Halt → Type 0
-Halts depth old new program (halt.Stopped stop) = StopsAt depth old.files program stop × RefusesProgram depth old new program (refusal_at stop.fault)
+Halts depth old new program (halt.Stopped stop) = StopsAt depth old.files program stop
+    × RefusesProgram depth old new program (refusal_at stop.fault)
 Halts depth old new program halt.Memory = Unit {0}
 
 -- what is made of a refusal: a stop with these names and this number, or want of memory
 abbrev pub IsHalt : TheEnvironment → ℕ → ProgramRefusal → Halt → Type 0
-IsHalt env number (program_refusal.Broken place reason) made = made ≡ halt.Stopped (record { env = env; number = number; fault = Broken place reason })
-IsHalt env number (program_refusal.Read file cause) made = made ≡ halt.Stopped (record { env = env; number = number; fault = Unread file cause })
+IsHalt env number (program_refusal.Broken place reason) made = made
+    ≡ halt.Stopped (record { env = env; number = number; fault = Broken place reason })
+IsHalt env number (program_refusal.Read file cause) made = made
+    ≡ halt.Stopped (record { env = env; number = number; fault = Unread file cause })
 IsHalt env number program_refusal.Memory made = made ≡ halt.Memory

@@ -1,6 +1,6 @@
 //! What presentations stand for that are made of others.
 ghost use Rattle.std.specs.Prelude.{ℕ, ◌≡◌, true, Err, IfOk, IfErr};
-ghost use Rattle.cq_model.specs.declared.moving.MoveRefusal.TheVariants.{Inconsistent as Clashing};
+ghost use Rattle.cq_model.specs.declared.refusal.MoveRefusal.TheVariants.{Inconsistent as Clashing};
 ghost use Rattle.cq_theory.specs.declared.constant.Con.{Con};
 ghost use Rattle.cq_theory.specs.declared.presentation.Presentation.{Presentation};
 ghost use Rattle.cq_theory.specs.SchemaData.{SchemaData};

@@ -4,7 +4,7 @@ ghost use Rattle.cq_program.specs.Stop.{IsHalt, refusal_at, refusal_of};
 
 use cq_base::Place;
 use cq_stating::{Environment, ProgramRefusal, ReadCause, Reason};
-use std::alloc::{AllocError, AllocFailed};
+use std::alloc::AllocError;
 
 /// What is wrong with a declaration.
 #[derive(Drop)]

@@ -1,24 +1,22 @@
 -- Presentations beside one another, and glued, make a presentation over their schema.
-use Rattle.std.proofs.Common.{ℕ, zero, suc, List, [], ◌∷◌, ◌++◌, Some, ◌≡◌, ◌<◌, ◌+◌, map, length, get_or, refl, sym, ap, subst, ◌∙◌, append_assoc, length-append, arith}
+use Rattle.std.proofs.Common.{ℕ, suc, List, [], ◌∷◌, ◌++◌, Some, ◌≡◌, ◌+◌, map, length, refl, sym, ap, subst, ◌∙◌, append_assoc, length-append, arith}
 use Rattle.std.specs.Prelude.{slice_get, All}
-use Rattle.std.proofs.lemmas.Option.{slice_get_within, slice_get-get_or}
 use Rattle.cq_base.specs.declared.name.Name.{Name}
 use Rattle.cq_theory.specs.declared.presentation.Sort.{Sort}
 use Rattle.cq_theory.specs.declared.presentation.Sort.TheVariants.{Plain, Entity}
-use Rattle.cq_theory.specs.declared.presentation.Equation.{Equation}
 use Rattle.cq_theory.specs.declared.presentation.Presentation.{Presentation}
 use Rattle.cq_theory.specs.declared.term.Term.TheVariants.{Ent, Typ}
 use Rattle.cq_theory.specs.SchemaData.{SchemaData as Schema}
 use Rattle.cq_theory.specs.Canonical.{named}
 use Rattle.cq_theory.specs.Presentation.{IsSort, IsPresentation}
 use Rattle.cq_theory.specs.Sorts.{Generators, entity_of, type_of, sort_of}
-use Rattle.cq_theory.proofs.Every.{Every, Every-from, Every-append, Every-map, Every-flat_map, Every-at, Every-from_All}
+use Rattle.cq_theory.proofs.Every.{Every, Every-append, Every-map, Every-flat_map, Every-at, Every-from_All}
 use Rattle.cq_theory.proofs.ResolvedSorts.{map_some}
 use Rattle.cq_instance.specs.declared.transform.Image.{Image}
 use Rattle.cq_instance.specs.declared.transform.Image.TheVariants.{Row, Value}
 use Rattle.cq_instance.proofs.Lists.{get-map, get-append, get-append_front, All_at, All_from}
 use Rattle.cq_transform.specs.Transforms.{term_of}
-use Rattle.cq_transform.specs.Shifted.{shifted_equation, shifted_term}
+use Rattle.cq_transform.specs.Shifted.{shifted_equation}
 use Rattle.cq_transform.specs.Gluing.{sorts_of, equations_from, glued, glued_images}
 use Rattle.cq_push.specs.Sorted.{HasOneSort, AreSorted}
 use Rattle.cq_terms.proofs.Naming.{has_sort}

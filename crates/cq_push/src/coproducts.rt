@@ -1,18 +1,13 @@
 //! Coproducts.
-ghost use Rattle.std.specs.Prelude.{◌≡◌, ◌≤◌, ◌<◌, ◌⊎◌, IfOk, IfErr, Err, All, length, map};
-ghost use Rattle.cq_rows.specs.Saturated.{NoneCloses, SomeWide};
-ghost use Rattle.cq_theory.specs.declared.constant.Con.{Con};
+ghost use Rattle.std.specs.Prelude.{◌≡◌, ◌≤◌, ◌<◌, ◌⊎◌, IfOk, IfErr, All, length, map};
 ghost use Rattle.cq_theory.specs.SchemaData.{SchemaData as AnySchema};
-ghost use Rattle.cq_theory.specs.Presentation.{IsPresentation, is_oversized};
-ghost use Rattle.cq_theory.specs.Closing.{IsInconsistent, IsInconsistentAt};
-ghost use Rattle.cq_instance.specs.Listed.{IsListed};
-ghost use Rattle.cq_model.specs.Moving.{SaysSize};
-ghost use Rattle.cq_model.specs.declared.moving.MoveRefusal.TheVariants.{Depth, TooManyRows, Inconsistent};
+ghost use Rattle.cq_theory.specs.Presentation.{IsPresentation};
+ghost use Rattle.cq_model.specs.Moving.{Presents, IsModelOrCause};
 ghost use Rattle.cq_transform.specs.Gluing.{sorts_of, equations_from, coproduct_of};
 
 use crate::gluing::Gluing;
-use cq_model::{Instance, MoveRefusal};
-use cq_theory::{Schema, SizeRefusal};
+use cq_model::{Instance, MoveRefusal, build_presented};
+use cq_theory::{Presentation, Schema, SizeRefusal};
 use std::alloc::Global;
 use std::rc::Rc;
 
@@ -29,26 +24,25 @@ pub fn coproduct(
 ) -> Result<Instance, MoveRefusal>
     requires over { All (λ part. part.value.schema ≡ schema.value) parts.now }
     requires depth { depth ≤ 64 }
-    ensures schema { IfOk result (λ made. made.schema ≡ schema.value) }
-    ensures presentation { IfOk result (λ made.
-        made.presentation ≡ coproduct_of (map (λ part. part.value.presentation) parts.now)) }
-    ensures listed { IfOk result (λ made. IsListed made) }
-    ensures consistent { IfOk result (λ _.
-        IsInconsistent schema.value (coproduct_of (map (λ part. part.value.presentation) parts.now)) → ⊥) }
-    ensures size { SaysSize result (is_oversized (coproduct_of (map (λ part. part.value.presentation) parts.now))) }
-    ensures open { result ≡ Err Depth
-        → NoneCloses schema.value (coproduct_of (map (λ part. part.value.presentation) parts.now)) depth }
-    ensures many { result ≡ Err TooManyRows
-        → SomeWide schema.value (coproduct_of (map (λ part. part.value.presentation) parts.now)) depth }
-    ensures inconsistent { (c d : Con) → result ≡ Err (Inconsistent c d)
-        → IsInconsistentAt schema.value (coproduct_of (map (λ part. part.value.presentation) parts.now)) c d }
+    ensures { IsModelOrCause schema.value (coproduct_of (map (λ part. part.value.presentation) parts.now)) depth result }
 {
-    let gluing = match side_by_side(alloc, parts) {
-        Ok(gluing) => gluing,
-        Err(SizeRefusal::TooLarge) => return Err(MoveRefusal::TooLarge),
-        Err(SizeRefusal::Memory) => return Err(MoveRefusal::Memory),
-    };
-    gluing.build(alloc, schema, depth)
+    let presented = coproduct_presentation(alloc, parts);
+    build_presented(alloc, schema, presented, depth)
+}
+
+/// The presentation of which `coproduct` makes the model. It is one over a schema that all instances are over.
+fn coproduct_presentation(
+    alloc: Global,
+    parts: &[Rc<Instance>],
+) -> Result<Presentation, SizeRefusal>
+    ensures presents { Presents (coproduct_of (map (λ part. part.value.presentation) parts.now)) result }
+    ensures presentation { (S : AnySchema) → All (λ part. part.value.schema ≡ S) parts.now
+        → IfOk result (λ made. IsPresentation S made) }
+{
+    match side_by_side(alloc, parts) {
+        Ok(gluing) => gluing.into_presentation(alloc),
+        Err(refusal) => Err(refusal),
+    }
 }
 
 /// The presentations of instances beside one another. `TooLarge` is answered exactly where there would be over

@@ -1,21 +1,16 @@
 //! Presentations that are glued together, part by part.
-ghost use Rattle.std.specs.Prelude.{◌≡◌, ◌≤◌, ◌<◌, ◌+◌, ◌++◌, ◌⊎◌, [], true, false, IfOk, IfErr, OnOk, All, length};
+ghost use Rattle.std.specs.Prelude.{◌≡◌, ◌≤◌, ◌<◌, ◌+◌, ◌++◌, ◌⊎◌, [], true, false, IfOk, IfErr, OnOk, length};
 ghost use Rattle.std.specs.Prelude.{map};
-ghost use Rattle.cq_theory.specs.Canonical.{named};
-ghost use Rattle.cq_theory.specs.Presentation.{IsSort, is_oversized};
+ghost use Rattle.cq_theory.specs.Presentation.{is_oversized};
 ghost use Rattle.cq_transform.specs.Shifted.{shifted_equation};
 ghost use Rattle.cq_transform.specs.Gluing.{presented};
-ghost use Rattle.cq_push.specs.Sorted.{AreSorted};
-ghost use Rattle.cq_push.specs.Answers.{IsModelOrCause};
 
 use crate::generators::push_sorts;
 use crate::shifting::push_shifted;
 use cq_base::Seq;
-use cq_model::{Instance, MoveRefusal, build};
 use cq_terms::name_generators;
-use cq_theory::{Equation, Presentation, Schema, SizeRefusal, Sort, has_long_sides};
+use cq_theory::{Equation, Presentation, SizeRefusal, Sort, has_long_sides};
 use std::alloc::{AllocError, Global};
-use std::rc::Rc;
 
 /// The most generators of a presentation.
 const MOST_GENERATORS: u32 = 16_000_000;
@@ -115,29 +110,5 @@ impl Gluing {
             generators: Seq::from_vec(generators),
             equations: Seq::from_vec(equations),
         })
-    }
-
-    /// The listed model of the presentation, of which the limit on terms is tested first.
-    pub(crate) fn build(
-        self,
-        alloc: Global,
-        schema: Rc<Schema>,
-        depth: u32,
-    ) -> Result<Instance, MoveRefusal>
-        requires sorts { All (IsSort schema.value) self.sorts.items }
-        requires few { length self.sorts.items ≤ 16000000 }
-        requires sorted { AreSorted schema.value (named self.sorts.items) self.equations.items }
-        requires depth { depth ≤ 64 }
-        ensures { IsModelOrCause schema.value (presented self.sorts.items self.equations.items) depth result }
-    {
-        let presentation = match self.into_presentation(alloc) {
-            Ok(presentation) => presentation,
-            Err(SizeRefusal::TooLarge) => return Err(MoveRefusal::TooLarge),
-            Err(SizeRefusal::Memory) => return Err(MoveRefusal::Memory),
-        };
-        match build(alloc, schema, presentation, depth) {
-            Ok(made) => Ok(made),
-            Err(refusal) => Err(MoveRefusal::from(refusal)),
-        }
     }
 }

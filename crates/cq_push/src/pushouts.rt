@@ -1,21 +1,15 @@
 //! Pushouts.
-ghost use Rattle.std.specs.Prelude.{◌≡◌, ◌≤◌, ◌<◌, ◌+◌, ◌++◌, ◌⊎◌, ◌∷◌, [], IfOk, IfErr, OnOk, Err, length, true};
-ghost use Rattle.cq_rows.specs.Saturated.{NoneCloses, SomeWide};
-ghost use Rattle.cq_theory.specs.declared.constant.Con.{Con as AnyCon};
+ghost use Rattle.std.specs.Prelude.{◌≡◌, ◌≤◌, ◌<◌, ◌+◌, ◌++◌, ◌⊎◌, ◌∷◌, [], IfOk, IfErr, OnOk, length};
 ghost use Rattle.cq_theory.specs.declared.constant.Con.TheVariants.{Named};
 ghost use Rattle.cq_theory.specs.declared.presentation.Equation.TheVariants.{Typ as TypEquation};
 ghost use Rattle.cq_theory.specs.declared.term.TypeTerm.TheVariants.{Const};
-ghost use Rattle.cq_theory.specs.Closing.{IsInconsistent, IsInconsistentAt};
-ghost use Rattle.cq_instance.specs.Listed.{IsListed};
-ghost use Rattle.cq_model.specs.Moving.{SaysSize};
-ghost use Rattle.cq_model.specs.declared.moving.MoveRefusal.TheVariants.{Depth, TooManyRows, Inconsistent};
+ghost use Rattle.cq_model.specs.Moving.{Presents, IsModelOrCause};
 ghost use Rattle.cq_transform.specs.Transforms.{GoesFrom};
-ghost use Rattle.cq_theory.specs.Presentation.{is_oversized};
 ghost use Rattle.cq_transform.specs.Gluing.{sorts_of, equations_from, glued, glued_images, pushout_of};
 
 use crate::gluing::Gluing;
 use crate::shifting::{shift_ent, shift_type};
-use cq_model::{Image, Instance, MoveRefusal, Transform};
+use cq_model::{Image, Instance, MoveRefusal, Transform, build_presented};
 use cq_terms::{copy_entity_term, copy_type_term};
 use cq_theory::{Con, Equation, Presentation, SizeRefusal, TypeTerm};
 use std::alloc::{AllocError, Global};
@@ -39,38 +33,14 @@ pub fn pushout(
     requires first { GoesFrom first.now start.now left.now }
     requires second { GoesFrom second.now start.now right.now }
     requires depth { depth ≤ 64 }
-    ensures schema { IfOk result (λ made. made.schema ≡ start.now.schema) }
-    ensures presentation { IfOk result (λ made.
-        made.presentation ≡ pushout_of first.now second.now left.now.presentation right.now.presentation) }
-    ensures listed { IfOk result (λ made. IsListed made) }
-    ensures consistent { IfOk result (λ _.
-        IsInconsistent start.now.schema
-        (pushout_of first.now second.now left.now.presentation right.now.presentation) → ⊥) }
-    ensures size { SaysSize result
-        (is_oversized (pushout_of first.now second.now left.now.presentation right.now.presentation)) }
-    ensures open { result ≡ Err Depth
-        → NoneCloses start.now.schema
-        (pushout_of first.now second.now left.now.presentation right.now.presentation) depth }
-    ensures many { result ≡ Err TooManyRows
-        → SomeWide start.now.schema
-        (pushout_of first.now second.now left.now.presentation right.now.presentation) depth }
-    ensures inconsistent { (c d : AnyCon) → result ≡ Err (Inconsistent c d)
-        → IsInconsistentAt start.now.schema
-        (pushout_of first.now second.now left.now.presentation right.now.presentation) c d }
+    ensures { IsModelOrCause start.now.schema
+        (pushout_of first.now second.now left.now.presentation right.now.presentation) depth result }
 {
-    let gluing = match glue(
-        alloc,
-        first.images.as_slice(),
-        second.images.as_slice(),
-        left.presentation(),
-        right.presentation(),
-    ) {
-        Ok(gluing) => gluing,
-        Err(SizeRefusal::TooLarge) => return Err(MoveRefusal::TooLarge),
-        Err(SizeRefusal::Memory) => return Err(MoveRefusal::Memory),
-    };
+    left.is_instance();
+    right.is_instance();
     let schema = start.schema().clone()?;
-    gluing.build(alloc, schema, depth)
+    let presented = pushout_presentation(alloc, first, second, left, right);
+    build_presented(alloc, schema, presented, depth)
 }
 
 /// The presentation of which `pushout` makes the model: those of two instances, `left` and `right`, side by side, with
@@ -85,11 +55,7 @@ pub fn pushout_presentation(
     right: &Instance,
 ) -> Result<Presentation, SizeRefusal>
     requires { length first.now.images ≡ length second.now.images }
-    ensures made { IfOk result (λ made.
-        made ≡ pushout_of first.now second.now left.now.presentation right.now.presentation) }
-    ensures refused { IfErr result (λ refusal. (refusal ≡ SizeRefusal.Memory)
-        ⊎ ((refusal ≡ SizeRefusal.TooLarge)
-        × (is_oversized (pushout_of first.now second.now left.now.presentation right.now.presentation) ≡ true))) }
+    ensures { Presents (pushout_of first.now second.now left.now.presentation right.now.presentation) result }
 {
     match glue(
         alloc,

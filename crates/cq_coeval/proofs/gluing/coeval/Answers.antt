@@ -1,43 +1,22 @@
-use Rattle.std.proofs.Common.{◌≡◌, sym, ap, subst, ◌∙◌}
-use Rattle.std.specs.Prelude.{Result, Err}
-use Rattle.cq_rows.specs.Saturated.{NoneCloses, SomeWide}
+use Rattle.std.proofs.Common.{IfOk, sym, ap, subst, ◌∙◌}
 use Rattle.cq_theory.specs.declared.presentation.Presentation.{Presentation}
-use Rattle.cq_theory.specs.Closing.{IsInconsistentAt}
+use Rattle.cq_theory.specs.Presentation.{IsPresentation}
 use Rattle.cq_theory.specs.SchemaData.{SchemaData as Schema}
 use Rattle.cq_query.specs.Coeval.{coeval_of}
 use Rattle.cq_query.specs.QueryData.{QueryData as Query}
-use Rattle.cq_instance.specs.InstanceData.{InstanceData}
-use Rattle.cq_model.specs.declared.moving.MoveRefusal.{MoveRefusal}
-use Rattle.cq_model.proofs.BuildingRefusals.{is_depth, is_many, is_inconsistent}
+use Rattle.cq_model.specs.Moving.{IsModelOrCause}
 use Rattle.cq_coeval.proofs.gluing.coeval.Goals as goal
 
-same_refusal : (a b : MoveRefusal) → ◌≡◌ {A = Result InstanceData MoveRefusal} (Err a) (Err b) → a ≡ b
-same_refusal a b h = cc
+pub build_presented-requires : goal.build_presented-requires
+build_presented-requires c =
+    let source = c.in_ok-source.ensures.cases ∙ ap (λ (Q : Query). Q.source) c.query.view_is in
+    record {
+      presentation = subst (λ (S : Schema). IfOk c.present_coeval-presented.result (λ made. IsPresentation S made)) (sym source) c.present_coeval-presented.ensures.presentation;
+      depth = c.requires.depth;
+    }
 
--- a claim on a schema and a presentation, on equal ones
-carried : (X : Schema → Presentation → Type 0) (S T : Schema) (P R : Presentation) → S ≡ T → P ≡ R → X S P → X T R
-carried X S T P R schemas presentations x = let same : X S P ≡ X T R = λ i. X (schemas i) (presentations i) in subst (λ (Y : Type 0). Y) same x
-
-pub returns-in-Err-clause-open : goal.returns-in-Err-clause-open
-returns-in-Err-clause-open c = λ h.
-    let Q : Query = c.args.query.now in
-    let source = c.in_ok-source.ensures.cases ∙ ap (λ (R : Query). R.source) c.query.view_is in
-    let depth = is_depth c.in-Err.refusal (sym c.from.ensures ∙ same_refusal _ _ h) in
-    carried (λ S P. NoneCloses S P c.args.depth) c.in_ok-source.source.value Q.source c.in-Ok.presentation (coeval_of Q c.args.instance.now.tables) source c.in-Ok.ensures.made
-    (c.in-Err.ensures.open (ap Err depth))
-
-pub returns-in-Err-clause-many : goal.returns-in-Err-clause-many
-returns-in-Err-clause-many c = λ h.
-    let Q : Query = c.args.query.now in
-    let source = c.in_ok-source.ensures.cases ∙ ap (λ (R : Query). R.source) c.query.view_is in
-    let many = is_many c.in-Err.refusal (sym c.from.ensures ∙ same_refusal _ _ h) in
-    carried (λ S P. SomeWide S P c.args.depth) c.in_ok-source.source.value Q.source c.in-Ok.presentation (coeval_of Q c.args.instance.now.tables) source c.in-Ok.ensures.made
-    (c.in-Err.ensures.many (ap Err many))
-
-pub returns-in-Err-clause-inconsistent : goal.returns-in-Err-clause-inconsistent
-returns-in-Err-clause-inconsistent c = λ least greater h.
-    let Q : Query = c.args.query.now in
-    let source = c.in_ok-source.ensures.cases ∙ ap (λ (R : Query). R.source) c.query.view_is in
-    let equal = is_inconsistent c.in-Err.refusal least greater (sym c.from.ensures ∙ same_refusal _ _ h) in
-    carried (λ S P. IsInconsistentAt S P least greater) c.in_ok-source.source.value Q.source c.in-Ok.presentation (coeval_of Q c.args.instance.now.tables) source c.in-Ok.ensures.made
-    (c.in-Err.ensures.inconsistent least greater (ap Err equal))
+pub returns : goal.returns
+returns c =
+    let P : Presentation = coeval_of c.args.query.now c.args.instance.now.tables in
+    let source = c.in_ok-source.ensures.cases ∙ ap (λ (Q : Query). Q.source) c.query.view_is in
+    subst (λ (S : Schema). IsModelOrCause S P c.args.depth c.build_presented.result) source (c.build_presented.ensures P c.present_coeval-presented.ensures.presents)

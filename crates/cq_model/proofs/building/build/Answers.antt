@@ -6,7 +6,7 @@ use Rattle.cq_rows.specs.Rows.{AllFilled}
 use Rattle.cq_rows.specs.Saturated.{NoneCloses, SomeWide}
 use Rattle.cq_theory.specs.SchemaData.{SchemaData as Schema}
 use Rattle.cq_theory.specs.Presentation.{IsPresentation}
-use Rattle.cq_model.specs.declared.building.BuildRefusal.TheVariants.{Depth, TooManyRows, Inconsistent}
+use Rattle.cq_model.specs.declared.refusal.BuildRefusal.TheVariants.{Depth, TooManyRows, Inconsistent}
 use Rattle.cq_model.specs.BuiltParts.{IsRefusal}
 use Rattle.cq_names.specs.Closed.{AreClosed}
 use Rattle.cq_model.proofs.building.build.Goals as goal

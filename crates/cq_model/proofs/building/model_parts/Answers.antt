@@ -6,7 +6,7 @@ use Rattle.cq_theory.specs.SchemaData.{SchemaData as Schema}
 use Rattle.cq_names.specs.declared.numbers.NumberedRows.{NumberedRows}
 use Rattle.cq_model.specs.Built.{IsBuilt}
 use Rattle.cq_model.specs.BuiltParts.{IsRefusal, instance_of}
-use Rattle.cq_model.specs.declared.building.BuildRefusal.TheVariants.{Inconsistent}
+use Rattle.cq_model.specs.declared.refusal.BuildRefusal.TheVariants.{Inconsistent}
 use Rattle.cq_instance.specs.Listed.{IsListed}
 use Rattle.cq_model.proofs.BuiltListed.{inconsistent}
 use Rattle.cq_model.proofs.ModelMade.{earlier_arguments, sides_within, parts_instance, parts_listed, listed_consistent}

@@ -44,8 +44,7 @@ made-requires-clause-named c =
     let presented = pushout_is start.schema c.deref-first.result.now c.deref-second.result.now start left right refl first second
     (presented_in start.schema left c.is_instance.ensures first.schema) (presented_in start.schema right c.is_instance-2.ensures second.schema) in
     let of : IsAnswerOf start.schema P c.args.depth c.pushout-answer.result =
-    answer_of start.schema P c.args.depth c.pushout-answer.result c.is_over_schema.ensures presented c.pushout-answer.ensures.schema c.pushout-answer.ensures.presentation
-    c.pushout-answer.ensures.listed c.pushout-answer.ensures.consistent c.pushout-answer.ensures.size c.pushout-answer.ensures.open c.pushout-answer.ensures.many c.pushout-answer.ensures.inconsistent in
+    answer_of start.schema P c.args.depth c.pushout-answer.result c.is_over_schema.ensures presented c.pushout-answer.ensures in
     λ least greater clash. clash_named start.schema P c.args.depth c.pushout-answer.result of c.typeside_of.result.now c.typeside_of.ensures c.is_over_schema.ensures presented least greater clash
 
 pub returns-clause-stands : goal.returns-clause-stands
@@ -63,8 +62,7 @@ returns-clause-stands c =
     let presented = pushout_is start.schema c.deref-first.result.now c.deref-second.result.now start left right refl first second
     (presented_in start.schema left c.is_instance.ensures first.schema) (presented_in start.schema right c.is_instance-2.ensures second.schema) in
     let of : IsAnswerOf start.schema P c.args.depth c.pushout-answer.result =
-    answer_of start.schema P c.args.depth c.pushout-answer.result c.is_over_schema.ensures presented c.pushout-answer.ensures.schema c.pushout-answer.ensures.presentation
-    c.pushout-answer.ensures.listed c.pushout-answer.ensures.consistent c.pushout-answer.ensures.size c.pushout-answer.ensures.open c.pushout-answer.ensures.many c.pushout-answer.ensures.inconsistent in
+    answer_of start.schema P c.args.depth c.pushout-answer.result c.is_over_schema.ensures presented c.pushout-answer.ensures in
     let posed : a_made c.in_ok-name.name start.schema P ≡ pushed_out f g =
     λ i. a_made (c.in_ok-name.ensures.cases i) ((c.deref-start.ensures i).schema)
     (pushout_of (c.deref-first.ensures i) (c.deref-second.ensures i) ((c.deref-into_left.ensures i).presentation) ((c.deref-into_right.ensures i).presentation)) in
@@ -88,8 +86,7 @@ returns-clause-withholds c =
     let presented = pushout_is start.schema c.deref-first.result.now c.deref-second.result.now start left right refl first second
     (presented_in start.schema left c.is_instance.ensures first.schema) (presented_in start.schema right c.is_instance-2.ensures second.schema) in
     let of : IsAnswerOf start.schema P c.args.depth c.pushout-answer.result =
-    answer_of start.schema P c.args.depth c.pushout-answer.result c.is_over_schema.ensures presented c.pushout-answer.ensures.schema c.pushout-answer.ensures.presentation
-    c.pushout-answer.ensures.listed c.pushout-answer.ensures.consistent c.pushout-answer.ensures.size c.pushout-answer.ensures.open c.pushout-answer.ensures.many c.pushout-answer.ensures.inconsistent in
+    answer_of start.schema P c.args.depth c.pushout-answer.result c.is_over_schema.ensures presented c.pushout-answer.ensures in
     let posed : a_made c.in_ok-name.name start.schema P ≡ pushed_out f g =
     λ i. a_made (c.in_ok-name.ensures.cases i) ((c.deref-start.ensures i).schema)
     (pushout_of (c.deref-first.ensures i) (c.deref-second.ensures i) ((c.deref-into_left.ensures i).presentation) ((c.deref-into_right.ensures i).presentation)) in

@@ -17,8 +17,7 @@ made-requires-clause-named c =
     let schema : IsSchema S = subst IsSchema c.deref.ensures c.is_well_sorted.ensures in
     let all : All (IsPresentation S) parts = c.are_presented.ensures S c.requires.over in
     let of : IsAnswerOf S (coproduct_of parts) c.args.depth c.coproduct-answer.result =
-    answer_of S (coproduct_of parts) c.args.depth c.coproduct-answer.result schema (coproduct_is S parts all) c.coproduct-answer.ensures.schema c.coproduct-answer.ensures.presentation
-    c.coproduct-answer.ensures.listed c.coproduct-answer.ensures.consistent c.coproduct-answer.ensures.size c.coproduct-answer.ensures.open c.coproduct-answer.ensures.many c.coproduct-answer.ensures.inconsistent in
+    answer_of S (coproduct_of parts) c.args.depth c.coproduct-answer.result schema (coproduct_is S parts all) c.coproduct-answer.ensures in
     let typeside : c.deref-3.result.now ≡ S.typeside = c.deref-3.ensures ∙ ap (λ (T : SchemaData). T.typeside) (c.behind-over.view_is ∙ c.deref-2.ensures ∙ c.in_ok-over.ensures.cases) in
     λ least greater clash. clash_named S (coproduct_of parts) c.args.depth c.coproduct-answer.result of c.deref-3.result.now typeside schema (coproduct_is S parts all) least greater clash
 
@@ -29,8 +28,7 @@ returns-clause-stands c =
     let schema : IsSchema S = subst IsSchema c.deref.ensures c.is_well_sorted.ensures in
     let all : All (IsPresentation S) parts = c.are_presented.ensures S c.requires.over in
     let of : IsAnswerOf S (coproduct_of parts) c.args.depth c.coproduct-answer.result =
-    answer_of S (coproduct_of parts) c.args.depth c.coproduct-answer.result schema (coproduct_is S parts all) c.coproduct-answer.ensures.schema c.coproduct-answer.ensures.presentation
-    c.coproduct-answer.ensures.listed c.coproduct-answer.ensures.consistent c.coproduct-answer.ensures.size c.coproduct-answer.ensures.open c.coproduct-answer.ensures.many c.coproduct-answer.ensures.inconsistent in
+    answer_of S (coproduct_of parts) c.args.depth c.coproduct-answer.result schema (coproduct_is S parts all) c.coproduct-answer.ensures in
     c.made.ensures.stands S (coproduct_of parts) c.args.depth of
 
 pub made-requires-clause-modelled : goal.made-requires-clause-modelled
@@ -43,7 +41,6 @@ returns-clause-withholds c =
     let schema : IsSchema S = subst IsSchema c.deref.ensures c.is_well_sorted.ensures in
     let all : All (IsPresentation S) parts = c.are_presented.ensures S c.requires.over in
     let of : IsAnswerOf S (coproduct_of parts) c.args.depth c.coproduct-answer.result =
-    answer_of S (coproduct_of parts) c.args.depth c.coproduct-answer.result schema (coproduct_is S parts all) c.coproduct-answer.ensures.schema c.coproduct-answer.ensures.presentation
-    c.coproduct-answer.ensures.listed c.coproduct-answer.ensures.consistent c.coproduct-answer.ensures.size c.coproduct-answer.ensures.open c.coproduct-answer.ensures.many c.coproduct-answer.ensures.inconsistent in
+    answer_of S (coproduct_of parts) c.args.depth c.coproduct-answer.result schema (coproduct_is S parts all) c.coproduct-answer.ensures in
     let typeside : c.deref-3.result.now ≡ S.typeside = c.deref-3.ensures ∙ ap (λ (T : SchemaData). T.typeside) (c.behind-over.view_is ∙ c.deref-2.ensures ∙ c.in_ok-over.ensures.cases) in
     c.made.ensures.withholds S (coproduct_of parts) c.args.depth typeside of

@@ -15,8 +15,7 @@ made-requires-clause-named c =
     let P : Presentation = c.args.instance.now.presentation in
     let is : IsPresentation F.source P = subst (λ (S : SchemaData). IsPresentation S P) c.requires.over c.is_instance.ensures.presented in
     let of : IsAnswerOf F.target (sigma F P) c.args.depth c.sigma-answer.result =
-    sigma_answers F P c.args.depth c.sigma-answer.result c.is_well_sorted.ensures is c.sigma-answer.ensures.schema c.sigma-answer.ensures.presentation c.sigma-answer.ensures.listed
-    c.sigma-answer.ensures.consistent c.sigma-answer.ensures.size c.sigma-answer.ensures.open c.sigma-answer.ensures.many c.sigma-answer.ensures.inconsistent in
+    sigma_answers F P c.args.depth c.sigma-answer.result c.is_well_sorted.ensures is c.sigma-answer.ensures in
     let typeside : c.deref-2.result.now ≡ F.target.typeside =
     c.deref-2.ensures ∙ ap (λ (S : SchemaData). S.typeside) (c.behind-mapping.view_is ∙ c.deref.ensures) ∙ ap (λ (G : MappingData). G.target.typeside) c.mapping.view_is in
     λ least greater clash. sigma_named F P c.args.depth c.sigma-answer.result c.is_well_sorted.ensures is of c.deref-2.result.now typeside least greater clash
@@ -27,8 +26,7 @@ returns-clause-stands c =
     let P : Presentation = c.args.instance.now.presentation in
     let is : IsPresentation F.source P = subst (λ (S : SchemaData). IsPresentation S P) c.requires.over c.is_instance.ensures.presented in
     let of : IsAnswerOf F.target (sigma F P) c.args.depth c.sigma-answer.result =
-    sigma_answers F P c.args.depth c.sigma-answer.result c.is_well_sorted.ensures is c.sigma-answer.ensures.schema c.sigma-answer.ensures.presentation c.sigma-answer.ensures.listed
-    c.sigma-answer.ensures.consistent c.sigma-answer.ensures.size c.sigma-answer.ensures.open c.sigma-answer.ensures.many c.sigma-answer.ensures.inconsistent in
+    sigma_answers F P c.args.depth c.sigma-answer.result c.is_well_sorted.ensures is c.sigma-answer.ensures in
     c.made.ensures.stands F.target (sigma F P) c.args.depth of
 
 pub made-requires-clause-modelled : goal.made-requires-clause-modelled
@@ -40,8 +38,7 @@ returns-clause-withholds c =
     let P : Presentation = c.args.instance.now.presentation in
     let is : IsPresentation F.source P = subst (λ (S : SchemaData). IsPresentation S P) c.requires.over c.is_instance.ensures.presented in
     let of : IsAnswerOf F.target (sigma F P) c.args.depth c.sigma-answer.result =
-    sigma_answers F P c.args.depth c.sigma-answer.result c.is_well_sorted.ensures is c.sigma-answer.ensures.schema c.sigma-answer.ensures.presentation c.sigma-answer.ensures.listed
-    c.sigma-answer.ensures.consistent c.sigma-answer.ensures.size c.sigma-answer.ensures.open c.sigma-answer.ensures.many c.sigma-answer.ensures.inconsistent in
+    sigma_answers F P c.args.depth c.sigma-answer.result c.is_well_sorted.ensures is c.sigma-answer.ensures in
     let typeside : c.deref-2.result.now ≡ F.target.typeside =
     c.deref-2.ensures ∙ ap (λ (S : SchemaData). S.typeside) (c.behind-mapping.view_is ∙ c.deref.ensures) ∙ ap (λ (G : MappingData). G.target.typeside) c.mapping.view_is in
     c.made.ensures.withholds F.target (sigma F P) c.args.depth typeside of

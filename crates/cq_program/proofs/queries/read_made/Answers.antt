@@ -14,8 +14,7 @@ made-requires-clause-named c =
     let M : Tables = c.args.instance.now.tables in
     let is : IsWellFormed Q.target M = subst (λ (S : SchemaData). IsWellFormed S M) c.requires.over c.is_instance.ensures.well_formed in
     let of : IsAnswerOf Q.source (coeval_of Q M) c.args.depth c.coeval-answer.result =
-    coeval_answers Q M c.args.depth c.coeval-answer.result c.is_well_sorted.ensures is c.coeval-answer.ensures.schema c.coeval-answer.ensures.presentation c.coeval-answer.ensures.listed
-    c.coeval-answer.ensures.consistent c.coeval-answer.ensures.size c.coeval-answer.ensures.open c.coeval-answer.ensures.many c.coeval-answer.ensures.inconsistent in
+    coeval_answers Q M c.args.depth c.coeval-answer.result c.is_well_sorted.ensures is c.coeval-answer.ensures in
     let typeside : c.deref-2.result.now ≡ Q.source.typeside =
     c.deref-2.ensures ∙ ap (λ (S : SchemaData). S.typeside) (c.behind-query.view_is ∙ c.deref.ensures) ∙ ap (λ (R : QueryData). R.source.typeside) c.query.view_is in
     λ least greater clash. coeval_named Q M c.args.depth c.coeval-answer.result c.is_well_sorted.ensures is of c.deref-2.result.now typeside least greater clash
@@ -26,8 +25,7 @@ returns-clause-stands c =
     let M : Tables = c.args.instance.now.tables in
     let is : IsWellFormed Q.target M = subst (λ (S : SchemaData). IsWellFormed S M) c.requires.over c.is_instance.ensures.well_formed in
     let of : IsAnswerOf Q.source (coeval_of Q M) c.args.depth c.coeval-answer.result =
-    coeval_answers Q M c.args.depth c.coeval-answer.result c.is_well_sorted.ensures is c.coeval-answer.ensures.schema c.coeval-answer.ensures.presentation c.coeval-answer.ensures.listed
-    c.coeval-answer.ensures.consistent c.coeval-answer.ensures.size c.coeval-answer.ensures.open c.coeval-answer.ensures.many c.coeval-answer.ensures.inconsistent in
+    coeval_answers Q M c.args.depth c.coeval-answer.result c.is_well_sorted.ensures is c.coeval-answer.ensures in
     c.made.ensures.stands Q.source (coeval_of Q M) c.args.depth of
 
 pub made-requires-clause-modelled : goal.made-requires-clause-modelled
@@ -39,8 +37,7 @@ returns-clause-withholds c =
     let M : Tables = c.args.instance.now.tables in
     let is : IsWellFormed Q.target M = subst (λ (S : SchemaData). IsWellFormed S M) c.requires.over c.is_instance.ensures.well_formed in
     let of : IsAnswerOf Q.source (coeval_of Q M) c.args.depth c.coeval-answer.result =
-    coeval_answers Q M c.args.depth c.coeval-answer.result c.is_well_sorted.ensures is c.coeval-answer.ensures.schema c.coeval-answer.ensures.presentation c.coeval-answer.ensures.listed
-    c.coeval-answer.ensures.consistent c.coeval-answer.ensures.size c.coeval-answer.ensures.open c.coeval-answer.ensures.many c.coeval-answer.ensures.inconsistent in
+    coeval_answers Q M c.args.depth c.coeval-answer.result c.is_well_sorted.ensures is c.coeval-answer.ensures in
     let typeside : c.deref-2.result.now ≡ Q.source.typeside =
     c.deref-2.ensures ∙ ap (λ (S : SchemaData). S.typeside) (c.behind-query.view_is ∙ c.deref.ensures) ∙ ap (λ (R : QueryData). R.source.typeside) c.query.view_is in
     c.made.ensures.withholds Q.source (coeval_of Q M) c.args.depth typeside of

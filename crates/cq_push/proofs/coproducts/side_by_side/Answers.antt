@@ -1,13 +1,11 @@
-use Rattle.std.proofs.Common.{List, ◌≡◌, ◌<◌, ◌≤◌, ◌+◌, ◌++◌, map, length, get_or, sym, ap, subst, ◌∙◌, arith}
+use Rattle.std.proofs.Common.{List, ◌≡◌, ◌<◌, ◌+◌, ◌++◌, map, length, get_or, ap, subst, ◌∙◌, arith}
 use Rattle.std.proofs.lemmas.List.{take_all}
 use Rattle.std.specs.Prelude.{All}
-use Rattle.cq_theory.specs.SchemaData.{SchemaData as Schema}
 use Rattle.cq_theory.specs.declared.presentation.Presentation.{Presentation}
 use Rattle.cq_theory.specs.declared.presentation.Sort.{Sort}
 use Rattle.cq_theory.specs.Presentation.{IsPresentation}
 use Rattle.cq_instance.specs.InstanceData.{IsInstance}
 use Rattle.cq_transform.specs.Shifted.{shifted_equation}
-use Rattle.cq_transform.specs.Gluing.{sorts_of}
 use Rattle.cq_push.proofs.Beside.{own_sorts, sorts_more, equations_more, presented_more, presented_in, few_more, count_within}
 use Rattle.cq_push.proofs.Limits.{still_many}
 use Rattle.cq_push.proofs.coproducts.side_by_side.Goals as goal

@@ -1,9 +1,31 @@
-//! Why there is no instance that is built of other instances.
+//! Why there is no listed model.
 ghost use Rattle.std.specs.Prelude.{◌≡◌};
 
-use crate::building::BuildRefusal;
 use cq_theory::Con;
 use std::alloc::AllocError;
+
+/// Why there is no instance.
+#[derive(Drop)]
+pub enum BuildRefusal {
+    /// The presentation closes at no depth up to the given one.
+    Depth,
+    /// A stage of the rows ended with more than 200,000 of them.
+    TooManyRows,
+    /// Two constants are equal: the least, in the order of constants, that is equal to a greater one, and the least
+    /// such greater one.
+    Inconsistent(Con, Con),
+    Memory,
+}
+
+impl From<AllocError> for BuildRefusal {
+    ghost use Rattle.cq_model.specs.declared.refusal.BuildRefusal.TheVariants.{Memory};
+
+    ghost from_gives = { λ _ e. e ≡ Memory };
+
+    fn from(_error: AllocError) -> BuildRefusal {
+        BuildRefusal::Memory
+    }
+}
 
 /// Why there is no instance that is built of other instances. `TooLarge` is tried first, the others are those of
 /// `build`.
@@ -22,7 +44,7 @@ pub enum MoveRefusal {
 }
 
 impl From<AllocError> for MoveRefusal {
-    ghost use Rattle.cq_model.specs.declared.moving.MoveRefusal.TheVariants.{Memory};
+    ghost use Rattle.cq_model.specs.declared.refusal.MoveRefusal.TheVariants.{Memory};
 
     ghost from_gives = { λ _ e. e ≡ Memory };
 
