@@ -2,20 +2,21 @@
 ghost use Rattle.std.specs.Prelude.{◌≡◌, ◌<◌, ◌^◌, IfOk};
 ghost use Rattle.cq_clash.specs.Clash.{Tells};
 ghost use Rattle.cq_parts.specs.Few.{part_count};
-ghost use Rattle.cq_stating.specs.Environment.{AreSettled, environment_of};
-ghost use Rattle.cq_stating.specs.Environment.{transform_meant};
-ghost use Rattle.cq_stating.specs.Posing.{AreSpan, IsPosed};
+ghost use Rattle.cq_environment.specs.Environment.{AreSettled, environment_of};
+ghost use Rattle.cq_environment.specs.Environment.{transform_meant};
+ghost use Rattle.cq_program.specs.Posing.{AreSpan, IsPosed};
 
 use crate::parts::{Asked, push_glued, push_image, push_own, push_parts};
 use crate::writing::source_of;
 use cq_base::Name;
 use cq_conflict::{Constants, Rest};
+use cq_environment::{Environment, NamedTransform, ProgramRefusal};
 use cq_instance::{Instance, Transform};
 use cq_io::Folder;
 use cq_lazy::LazyQuery;
 use cq_mapping::Mapping;
+use cq_program::{Statement, read_stated, state};
 use cq_push::pushout_presentation;
-use cq_stating::{Environment, NamedTransform, ProgramRefusal, Statement, read_stated, state};
 use cq_syntax::{Body, Decl, InstanceExp};
 use cq_theory::{Presentation, Schema, SizeRefusal};
 use std::alloc::{AllocError, Global};

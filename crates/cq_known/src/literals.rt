@@ -5,7 +5,7 @@ mod theories;
 
 use crate::scope::Look;
 use cq_base::Place;
-use cq_stating::Environment;
+use cq_environment::Environment;
 use cq_syntax::{Body, InstanceExp, MappingExp, QueryExp, SchemaExp, TransformExp};
 use std::alloc::{AllocError, Global};
 pub use theories::{joined_name, schema_of};

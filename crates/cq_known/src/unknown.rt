@@ -6,9 +6,9 @@ use crate::literals::look_at;
 use crate::role::{Known, Use};
 use crate::spelled::first_spelled;
 use cq_base::{Name, Place};
+use cq_environment::Environment;
 use cq_lex::Token;
 use cq_near::nearest;
-use cq_stating::Environment;
 use cq_syntax::Body;
 use std::alloc::{AllocError, Global};
 

@@ -1,7 +1,7 @@
 //! The names that a declaration uses: of theories, instances, and what goes between them.
 use crate::unknown::near_among;
 use cq_base::{Name, Place, Seq};
-use cq_stating::{Environment, Meaning};
+use cq_environment::{Environment, Meaning};
 use cq_syntax::{Body, InstanceExp, MappingExp, MoveForm, QueryExp, SchemaExp, Spot, TransformExp};
 use std::alloc::{AllocError, Global};
 

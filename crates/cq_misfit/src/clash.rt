@@ -1,7 +1,7 @@
 //! The joined name that a colimit would have twice.
 use crate::joined::{Joined, JoinedSchema};
 use cq_base::{Hashing, Name};
-use cq_stating::Environment;
+use cq_environment::Environment;
 use cq_syntax::Body;
 use cq_theory::Typeside;
 use indexmap::IndexSet;

@@ -3,7 +3,7 @@ use crate::over::terms_over;
 use crate::part::{Part, part_at};
 use crate::signature::Signature;
 use cq_base::{Name, Place, Raw};
-use cq_stating::Environment;
+use cq_environment::Environment;
 use cq_syntax::{AttSyn, Body};
 use std::alloc::{AllocError, Global};
 

@@ -2,8 +2,8 @@
 use crate::signature::Signature;
 use crate::sorted::{Arrow, NamedSort, numbered_sort};
 use cq_base::Name;
+use cq_environment::{Environment, Meaning};
 use cq_known::{Kind, joined_name};
-use cq_stating::{Environment, Meaning};
 use cq_syntax::{ColimitLit, PairSyn};
 use cq_theory::{Edge, Schema};
 use std::alloc::{AllocError, Global};

@@ -2,8 +2,8 @@
 use crate::joined::Joined;
 use crate::signature::Signature;
 use cq_base::Name;
+use cq_environment::{Environment, Meaning};
 use cq_known::{Kind, schema_of};
-use cq_stating::{Environment, Meaning};
 use cq_syntax::{
     Body, ColimitLit, InstanceExp, InstanceLit, MappingExp, QueryExp, SchemaExp, SchemaLit, Spot,
     TransformExp,

@@ -7,7 +7,7 @@ use Rattle.cq_theory.specs.Tables.{Tables}
 use Rattle.cq_query.specs.QueryData.{QueryData}
 use Rattle.cq_query.specs.Answers.{AreAnswers}
 use Rattle.cq_adjoint.specs.Copies.{AreAllAnswers, answers_at}
-use Rattle.cq_program.specs.Movements.{Answered}
+use Rattle.cq_program.specs.MovedImages.{Answered}
 
 -- the answers for the first entities, so many
 pub record AreSoFar (Q : QueryData) (M : Tables) (answers : Answered) (entity : ℕ) : Type 0 where

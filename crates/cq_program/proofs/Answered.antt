@@ -30,11 +30,11 @@ use Rattle.cq_query.specs.IsQuery.{IsQuery}
 use Rattle.cq_query.specs.Coeval.{coeval_of}
 use Rattle.cq_query.proofs.CopiedPresentations.{coeval_is}
 use Rattle.cq_theory.specs.Tables.{Tables, IsWellFormed}
-use Rattle.cq_stating.specs.declared.reason.Reason.TheVariants as reason
-use Rattle.cq_stating.specs.declared.reason.ProgramRefusal.{ProgramRefusal}
-use Rattle.cq_stating.specs.declared.reason.ProgramRefusal.TheVariants as program_refusal
-use Rattle.cq_stating.specs.Checks.{a_made}
-use Rattle.cq_stating.specs.Environment.{IsTermModel}
+use Rattle.cq_environment.specs.declared.reason.Reason.TheVariants as reason
+use Rattle.cq_environment.specs.declared.reason.ProgramRefusal.{ProgramRefusal}
+use Rattle.cq_environment.specs.declared.reason.ProgramRefusal.TheVariants as program_refusal
+use Rattle.cq_program.specs.Checks.{a_made}
+use Rattle.cq_environment.specs.Environment.{IsTermModel}
 use Rattle.cq_program.specs.Judging.{IsAnswerOf, TellsConstants, Withholds}
 use Rattle.cq_program.specs.Program.{IsModelOf}
 use Rattle.cq_program.proofs.Constants.{constants_within}

@@ -14,12 +14,12 @@ use Rattle.cq_instance.specs.InstanceData.{InstanceData}
 use Rattle.cq_instance.specs.Given.{is_oversized}
 use Rattle.cq_mapping.specs.Moved.{delta_tables}
 use Rattle.cq_compose.specs.Composite.{composite, is_large}
-use Rattle.cq_stating.specs.declared.reason.Reason.{Reason}
-use Rattle.cq_stating.specs.Meanings.{Meant, Environment, Checked, binding}
-use Rattle.cq_stating.specs.Checks.{Posed, a_typeside, a_schema, a_mapping, an_identity, a_colimit, an_inclusion, a_query, a_composite, a_mapping_query, a_presentation, a_made, a_delta, an_eval, a_transform, a_move, Stated, stated_by}
-use Rattle.cq_stating.specs.declared.reason.ReadCause.{ReadCause}
-use Rattle.cq_stating.specs.declared.reason.ReadCause.TheVariants.{Failed}
-use Rattle.cq_stating.specs.Folders.{Reads, TellsFault, LacksFile}
+use Rattle.cq_environment.specs.declared.reason.Reason.{Reason}
+use Rattle.cq_environment.specs.Meanings.{Meant, Environment, Checked, binding}
+use Rattle.cq_program.specs.Checks.{Posed, a_typeside, a_schema, a_mapping, an_identity, a_colimit, an_inclusion, a_query, a_composite, a_mapping_query, a_presentation, a_made, a_delta, an_eval, a_transform, a_move, Stated, stated_by}
+use Rattle.cq_environment.specs.declared.reason.ReadCause.{ReadCause}
+use Rattle.cq_environment.specs.declared.reason.ReadCause.TheVariants.{Failed}
+use Rattle.cq_program.specs.Folders.{Reads, TellsFault, LacksFile}
 use Rattle.cq_program.specs.Program.{IsModelOf, Stands, TellsMade, Fails, ExceedsAtDuty, ExceedsAtQueryDuty, ExceedsAtModel, Exceeds, IsLimit, IsWithinLimits, Declares, Breach, by_rule, by_fault, by_failure, by_limit, Follow, Listing, Means, Breaks, Lacks}
 use Rattle.cq_program.proofs.Constants.{one_clash}
 use Rattle.cq_program.proofs.Unkept.{kept, one_unkept, kept_query, one_unsound}

@@ -26,15 +26,15 @@ use Rattle.cq_theory.proofs.Constants.{lesser-irreflexive, at_most-both, named_w
 use Rattle.cq_theory.proofs.Sorted.{sort_of-derived}
 use Rattle.cq_theory.proofs.Sound.{meaning_of-derived}
 use Rattle.cq_theory.proofs.TypeTerms.{fold-Const}
-use Rattle.cq_stating.specs.declared.reason.Reason.{Reason}
-use Rattle.cq_stating.specs.declared.reason.Reason.TheVariants.{Inconsistent}
+use Rattle.cq_environment.specs.declared.reason.Reason.{Reason}
+use Rattle.cq_environment.specs.declared.reason.Reason.TheVariants.{Inconsistent}
 use Rattle.cq_program.specs.Program.{TellsClash}
 use Rattle.cq_base.specs.declared.name.Name.{Name}
 use Rattle.cq_base.specs.declared.place.Place.{Place}
-use Rattle.cq_stating.specs.Checks.{a_presentation}
+use Rattle.cq_program.specs.Checks.{a_presentation}
 use Rattle.cq_program.specs.Judging.{TellsConstants, Withholds}
-use Rattle.cq_stating.specs.declared.reason.ProgramRefusal.{ProgramRefusal}
-use Rattle.cq_stating.specs.declared.reason.ProgramRefusal.TheVariants as program_refusal
+use Rattle.cq_environment.specs.declared.reason.ProgramRefusal.{ProgramRefusal}
+use Rattle.cq_environment.specs.declared.reason.ProgramRefusal.TheVariants as program_refusal
 
 -- what a map of an option gives was given
 mapped : {A B : Type 0} (f : A → B) (o : Option A) (b : B) → option_map f o ≡ Some b → (a : A) × (o ≡ Some a)

@@ -8,16 +8,16 @@ use Rattle.cq_syntax.specs.declared.program.Decl.{Decl}
 use Rattle.cq_syntax.specs.declared.program.Program.{Program}
 use Rattle.cq_io.specs.FolderData.{FolderData}
 use Rattle.cq_import.specs.Folders.{Keeps}
-use Rattle.cq_stating.specs.declared.reason.ProgramRefusal.{ProgramRefusal}
-use Rattle.cq_stating.specs.declared.reason.ProgramRefusal.TheVariants as program_refusal
-use Rattle.cq_stating.specs.declared.reason.ReadCause.{ReadCause}
-use Rattle.cq_stating.specs.declared.reason.ReadCause.TheVariants.{Absent, TooLong, Failed}
-use Rattle.cq_stating.specs.Meanings.{Environment, Meant, binding}
-use Rattle.cq_stating.specs.Checks.{Posed, Stated, stated_by}
-use Rattle.cq_stating.specs.Folders.{Told, Reads, LacksFile, Raised}
-use Rattle.cq_stating.specs.Environment.{Refuses}
+use Rattle.cq_environment.specs.declared.reason.ProgramRefusal.{ProgramRefusal}
+use Rattle.cq_environment.specs.declared.reason.ProgramRefusal.TheVariants as program_refusal
+use Rattle.cq_environment.specs.declared.reason.ReadCause.{ReadCause}
+use Rattle.cq_environment.specs.declared.reason.ReadCause.TheVariants.{Absent, TooLong, Failed}
+use Rattle.cq_environment.specs.Meanings.{Environment, Meant, binding}
+use Rattle.cq_program.specs.Checks.{Posed, Stated, stated_by}
+use Rattle.cq_program.specs.Folders.{Told, Reads, LacksFile, Raised}
+use Rattle.cq_environment.specs.Environment.{Refuses}
 use Rattle.cq_program.specs.Program.{Breach, by_rule, by_fault, by_failure, by_limit, Follow}
-use Rattle.cq_stating.specs.Posing.{RefusesReading}
+use Rattle.cq_program.specs.Posing.{RefusesReading}
 use Rattle.cq_program.specs.Judging.{AddsDecl, RefusesDecl, RefusesProgram, Withholds}
 
 pub Follow-more : (told : Told) (env : Environment) (ds : List Decl) (d : Decl) (mid after : Environment)

@@ -5,8 +5,8 @@ use Rattle.cq_base.specs.declared.name.Name.{Name}
 use Rattle.cq_theory.proofs.Every.{Every-at, Every-filter_map}
 use Rattle.cq_theory.proofs.OnValues.{All_at}
 use Rattle.cq_instance.proofs.Lists.{All_from}
-use Rattle.cq_stating.specs.Environment.{AreSettled, IsSettled}
-use Rattle.cq_stating.specs.Meanings.{Binding, Environment, Meant, typeside, schema, colimit, mapping, query, instance, transform}
+use Rattle.cq_environment.specs.Environment.{AreSettled, IsSettled}
+use Rattle.cq_environment.specs.Meanings.{Binding, Environment, Meant, typeside, schema, colimit, mapping, query, instance, transform}
 use Rattle.cq_program.specs.Initial.{AreInitial, IsInitial}
 use Rattle.cq_program.specs.Program.{Listing, listing_named, listing_of}
 

@@ -1,3 +1,14 @@
+pub mod Given
+pub mod Poses
+pub mod Settled
+pub mod Uses
+pub mod Operands
+pub mod ColimitsPosed
+pub mod ToldParts
+pub mod ImagesPosed
+pub mod Readings
+pub mod Known
+pub mod Fitting
 pub mod Constants
 pub mod Listings
 pub mod Following
@@ -10,8 +21,8 @@ pub mod OneReading
 pub mod OneMove
 pub mod OneMeaning
 pub mod AllAnswers
-pub mod Known
-pub mod Moving
+pub mod KnownDeclared
+pub mod MovedAsAsked
 pub mod Breaches
 pub mod GluedPresentations
 pub mod Answered

@@ -2,7 +2,7 @@
 use Rattle.std.proofs.Common.{◌≡◌, List, [], ◌∷◌, ◌++◌, Option, Some, None, refl, ap, ◌∙◌}
 use Rattle.std.specs.Prelude.{option_to_list}
 use Rattle.std.specs.List.{filter_map, flat_map, cons_option}
-use Rattle.cq_stating.specs.Environment.{Entry, environment_of, meant}
+use Rattle.cq_environment.specs.Environment.{Entry, environment_of, meant}
 use Rattle.cq_program.specs.Program.{Listing, listing_named, listing_of}
 use Rattle.cq_program.specs.Named.{listings_in}
 

@@ -23,14 +23,14 @@ use Rattle.cq_query.proofs.Once.{one_answers, answers_once, one_place}
 use Rattle.cq_eval.specs.Refused.{HasMany, IsFirstMany, IsTooLarge, TellsEval}
 use Rattle.cq_eval.specs.declared.refusal.EvalRefusal.{EvalRefusal}
 use Rattle.cq_eval.specs.declared.refusal.EvalRefusal.TheVariants as eval
-use Rattle.cq_stating.specs.declared.reason.Reason.{Reason}
-use Rattle.cq_stating.specs.declared.reason.Reason.TheVariants.{TooManyAnswers, Oversized}
+use Rattle.cq_environment.specs.declared.reason.Reason.{Reason}
+use Rattle.cq_environment.specs.declared.reason.Reason.TheVariants.{TooManyAnswers, Oversized}
 use Rattle.cq_base.specs.declared.name.Name.{Name}
 use Rattle.cq_base.specs.declared.place.Place.{Place}
-use Rattle.cq_stating.specs.declared.reason.ProgramRefusal.{ProgramRefusal}
-use Rattle.cq_stating.specs.declared.reason.ProgramRefusal.TheVariants as program_refusal
-use Rattle.cq_stating.specs.Checks.{an_eval}
-use Rattle.cq_stating.specs.Environment.{Tells}
+use Rattle.cq_environment.specs.declared.reason.ProgramRefusal.{ProgramRefusal}
+use Rattle.cq_environment.specs.declared.reason.ProgramRefusal.TheVariants as program_refusal
+use Rattle.cq_program.specs.Checks.{an_eval}
+use Rattle.cq_environment.specs.Environment.{Tells}
 use Rattle.cq_program.specs.Judging.{Withholds}
 use Rattle.cq_program.specs.Program.{IsEvalWithin, TellsMany, TellsAnswers}
 

@@ -12,11 +12,11 @@ use Rattle.cq_adjoint.specs.AnswerNames.{from_eval_images}
 use Rattle.cq_adjoint.specs.Copies.{AreAllAnswers, answers_at}
 use Rattle.cq_adjoint.specs.QueryMoves.{eval_images, to_eval_images}
 use Rattle.cq_adjoint.specs.Units.{identity_of}
-use Rattle.cq_stating.specs.Meanings.{Ends}
-use Rattle.cq_stating.specs.Movements.{Movement, moved_along, there_and_back}
-use Rattle.cq_stating.specs.Posing.{Carried, carried}
-use Rattle.cq_stating.specs.Routes.{Route, by_sigma, by_delta, by_eval, by_coeval}
-use Rattle.cq_program.specs.Movements.{Answered, AreAround, AreImages, AreMoved}
+use Rattle.cq_environment.specs.Meanings.{Ends}
+use Rattle.cq_program.specs.Movements.{Movement, moved_along, there_and_back}
+use Rattle.cq_program.specs.Posing.{Carried, carried}
+use Rattle.cq_environment.specs.Routes.{Route, by_sigma, by_delta, by_eval, by_coeval}
+use Rattle.cq_program.specs.MovedImages.{Answered, AreAround, AreImages, AreMoved}
 
 -- the answers of a query to tables are one list
 pub one_answered : (Q : QueryData) (M : Tables) (one other : Answered) → AreAllAnswers Q M one → AreAllAnswers Q M other → one ≡ other

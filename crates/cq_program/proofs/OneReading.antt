@@ -4,12 +4,12 @@ use Rattle.std.specs.Prelude.{option_and_then}
 use Rattle.cq_io.specs.Content.{File}
 use Rattle.cq_import.specs.Entries.{entries_text, fault2_of}
 use Rattle.cq_import.specs.Imports.{fault_of}
-use Rattle.cq_stating.specs.declared.stating.Format.TheVariants.{First, Second}
-use Rattle.cq_stating.specs.declared.reason.Reason.{Reason}
-use Rattle.cq_stating.specs.declared.reason.ReadCause.{ReadCause}
-use Rattle.cq_stating.specs.declared.reason.ReadCause.TheVariants.{Absent, TooLong, Failed}
-use Rattle.cq_stating.specs.Checks.{Posed, Stated, at_once, a_folder}
-use Rattle.cq_stating.specs.Folders.{Content, content_1, content_2, Reads, TellsFault, LacksFile, IsUnreadIn, rule_of}
+use Rattle.cq_program.specs.declared.imports.stating.Format.TheVariants.{First, Second}
+use Rattle.cq_environment.specs.declared.reason.Reason.{Reason}
+use Rattle.cq_environment.specs.declared.reason.ReadCause.{ReadCause}
+use Rattle.cq_environment.specs.declared.reason.ReadCause.TheVariants.{Absent, TooLong, Failed}
+use Rattle.cq_program.specs.Checks.{Posed, Stated, at_once, a_folder}
+use Rattle.cq_program.specs.Folders.{Content, content_1, content_2, Reads, TellsFault, LacksFile, IsUnreadIn, rule_of}
 
 none_some : {X : Type 0} (x : X) → None ≡ Some x → ⊥
 none_some x h = absurd (cc h)

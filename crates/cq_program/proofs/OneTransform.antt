@@ -13,10 +13,10 @@ use Rattle.cq_transform.specs.Agreement.{Agrees}
 use Rattle.cq_transform.specs.Refusals.{IsBrokenAt, IsKept}
 use Rattle.cq_transform.specs.Transforms.{GoesFrom, meanings_in}
 use Rattle.cq_transform.proofs.ExactlyOne.{one_homomorphism}
-use Rattle.cq_stating.specs.declared.reason.Reason.{Reason}
-use Rattle.cq_stating.specs.declared.reason.Reason.TheVariants.{Broken}
-use Rattle.cq_stating.specs.Meanings.{Ends}
-use Rattle.cq_stating.specs.Posing.{IsTransformOf}
+use Rattle.cq_environment.specs.declared.reason.Reason.{Reason}
+use Rattle.cq_environment.specs.declared.reason.Reason.TheVariants.{Broken}
+use Rattle.cq_environment.specs.Meanings.{Ends}
+use Rattle.cq_program.specs.Posing.{IsTransformOf}
 use Rattle.cq_program.specs.Program.{TellsBroken}
 
 -- the images of a transform keep each equation of its start

@@ -14,8 +14,8 @@ use Rattle.cq_mapping.specs.declared.duties.Duty.{Duty}
 use Rattle.cq_query.specs.QueryData.{QueryData}
 use Rattle.cq_query.specs.Duties.{Sound, all_duties, duties, frozen}
 use Rattle.cq_check.specs.Answers.{IsDerived, IsFirstUnmet, over, equation_of, frozen_over, duty_equation}
-use Rattle.cq_stating.specs.declared.reason.Reason.{Reason}
-use Rattle.cq_stating.specs.declared.reason.Reason.TheVariants.{NotPreserved}
+use Rattle.cq_environment.specs.declared.reason.Reason.{Reason}
+use Rattle.cq_environment.specs.declared.reason.Reason.TheVariants.{NotPreserved}
 use Rattle.cq_program.specs.Program.{TellsUnkept, TellsUnsound}
 
 -- one duty is the first that isn't derivable

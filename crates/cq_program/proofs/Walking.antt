@@ -4,12 +4,12 @@ use Rattle.std.proofs.lemmas.Option.{slice_get-get_or}
 use Rattle.cq_io.specs.FolderData.{FolderData}
 use Rattle.cq_syntax.specs.declared.program.Decl.{Decl}
 use Rattle.cq_syntax.specs.declared.program.Program.{Program}
-use Rattle.cq_stating.specs.declared.environment.Environment.{Environment as TheEnvironment}
-use Rattle.cq_stating.specs.declared.reason.ProgramRefusal.{ProgramRefusal}
-use Rattle.cq_stating.specs.declared.reason.ProgramRefusal.TheVariants as program_refusal
-use Rattle.cq_stating.specs.Environment.{AreSettled, environment_of}
-use Rattle.cq_stating.specs.Folders.{LacksFile, Told}
-use Rattle.cq_stating.specs.Meanings.{Environment}
+use Rattle.cq_environment.specs.declared.environment.Environment.{Environment as TheEnvironment}
+use Rattle.cq_environment.specs.declared.reason.ProgramRefusal.{ProgramRefusal}
+use Rattle.cq_environment.specs.declared.reason.ProgramRefusal.TheVariants as program_refusal
+use Rattle.cq_environment.specs.Environment.{AreSettled, environment_of}
+use Rattle.cq_program.specs.Folders.{LacksFile, Told}
+use Rattle.cq_environment.specs.Meanings.{Environment}
 use Rattle.cq_program.specs.Judging.{RefusesDecl, RefusesProgram}
 use Rattle.cq_program.specs.Program.{Breach, Follow}
 use Rattle.cq_program.specs.declared.stops.Fault.{Fault}

@@ -1,6 +1,6 @@
 -- A transform that is moved, and the instances about it, as the definitions see them.
-use Rattle.cq_program.specs.declared.carrying.Carrying.{Carrying}
-use Rattle.cq_stating.specs.Posing.{Carried}
+use Rattle.cq_program.specs.declared.movements.carrying.Carrying.{Carrying}
+use Rattle.cq_program.specs.Posing.{Carried}
 
 abbrev pub carried_as : Carrying → Carried
 carried_as c = record {

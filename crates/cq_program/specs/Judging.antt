@@ -13,14 +13,14 @@ use Rattle.cq_instance.specs.InstanceData.{InstanceData}
 use Rattle.cq_model.specs.Moving.{SaysSize}
 use Rattle.cq_model.specs.declared.refusal.MoveRefusal.{MoveRefusal}
 use Rattle.cq_model.specs.declared.refusal.MoveRefusal.TheVariants.{Depth, TooManyRows, Inconsistent as Clashing}
-use Rattle.cq_stating.specs.declared.reason.Reason.TheVariants.{Inconsistent}
-use Rattle.cq_stating.specs.declared.reason.ProgramRefusal.{ProgramRefusal}
-use Rattle.cq_stating.specs.declared.reason.ReadCause.{ReadCause}
-use Rattle.cq_stating.specs.declared.reason.ProgramRefusal.TheVariants as program_refusal
+use Rattle.cq_environment.specs.declared.reason.Reason.TheVariants.{Inconsistent}
+use Rattle.cq_environment.specs.declared.reason.ProgramRefusal.{ProgramRefusal}
+use Rattle.cq_environment.specs.declared.reason.ReadCause.{ReadCause}
+use Rattle.cq_environment.specs.declared.reason.ProgramRefusal.TheVariants as program_refusal
 use Rattle.cq_io.specs.FolderData.{FolderData}
-use Rattle.cq_stating.specs.Folders.{Told, LacksFile, Raised}
-use Rattle.cq_stating.specs.Meanings.{Environment, Meant, binding}
-use Rattle.cq_stating.specs.Checks.{Stated, stated_by, Posed}
+use Rattle.cq_program.specs.Folders.{Told, LacksFile, Raised}
+use Rattle.cq_environment.specs.Meanings.{Environment, Meant, binding}
+use Rattle.cq_program.specs.Checks.{Stated, stated_by, Posed}
 use Rattle.cq_program.specs.Program.{Breach, Breaks, Lacks, Fails, Declares, Exceeds, IsModelOf}
 
 -- the refusal tells why nothing is made of what is posed, at the declaration's place, or want of memory

@@ -1,5 +1,11 @@
-pub mod Carrying
+pub mod Images
 pub mod Movements
+pub mod Checks
+pub mod Folders
+pub mod Views
+pub mod Posing
+pub mod Carrying
+pub mod MovedImages
 pub mod Program
 pub mod Judging
 pub mod Named

@@ -1,7 +1,7 @@
 -- What contracts see of a named instance.
 use Rattle.std.specs.Prelude.{List, option_to_list}
 use Rattle.cq_program.specs.declared.declarations.Named.{Named}
-use Rattle.cq_stating.specs.Environment.{Entry, meant}
+use Rattle.cq_environment.specs.Environment.{Entry, meant}
 use Rattle.cq_program.specs.Program.{Listing, listing_named}
 
 abbrev pub listed_as : Named → Listing

@@ -20,9 +20,10 @@ use Rattle.cq_instance.specs.InstanceData.{InstanceData}
 use Rattle.cq_instance.specs.Listed.{IsListed}
 use Rattle.cq_instance.specs.declared.transform.Image.{Image}
 use Rattle.cq_instance.specs.declared.transform.Transform.{Transform}
-use Rattle.cq_stating.specs.declared.reason.Reason.{Reason}
-use Rattle.cq_stating.specs.declared.reason.Reason.TheVariants.{NotPreserved, DutyDepth, DutyRows, Broken, Depth, TooManyRows, Inconsistent}
-use Rattle.cq_stating.specs.declared.reason.Reason.TheVariants.{Oversized, TooManyAnswers}
+use Rattle.cq_environment.specs.declared.reason.Reason.{Reason}
+use Rattle.cq_environment.specs.declared.reason.Reason.TheVariants.{NotPreserved, DutyDepth, DutyRows, Broken, Depth, TooManyRows}
+use Rattle.cq_environment.specs.declared.reason.Reason.TheVariants.{Inconsistent}
+use Rattle.cq_environment.specs.declared.reason.Reason.TheVariants.{Oversized, TooManyAnswers}
 use Rattle.cq_mapping.specs.MappingData.{MappingData}
 use Rattle.cq_mapping.specs.Mapping.{identity_of}
 use Rattle.cq_mapping.specs.declared.duties.Duty.{Duty}
@@ -38,16 +39,16 @@ use Rattle.cq_eval.specs.Refused.{NoneHasMany, IsFirstMany, IsTooLarge}
 use Rattle.cq_transform.specs.Composing.{has_long}
 use Rattle.cq_transform.specs.Refusals.{IsBrokenAt}
 use Rattle.cq_check.specs.Answers.{IsDerivedWithin, IsNotPreserved, IsTooDeepDuty, IsTooWideDuty, IsUnsoundAt, IsTooDeepAt, IsTooWideAt}
-use Rattle.cq_program.specs.Movements.{AreImages, AreLong}
-use Rattle.cq_stating.specs.Meanings.{Binding, binding, Meant, typeside, schema, colimit, mapping, query, instance, transform, Ends}
-use Rattle.cq_stating.specs.Meanings.{Environment}
-use Rattle.cq_stating.specs.Checks.{Posed, a_typeside}
-use Rattle.cq_stating.specs.Checks.{a_schema, a_mapping, an_identity, a_colimit, an_inclusion, a_query, a_presentation}
-use Rattle.cq_stating.specs.Checks.{a_composite, a_mapping_query, a_made, a_delta, an_eval, a_transform, a_move}
-use Rattle.cq_stating.specs.Checks.{Stated, stated_by}
-use Rattle.cq_stating.specs.Posing.{IsTransformOf}
-use Rattle.cq_stating.specs.declared.reason.ReadCause.{ReadCause}
-use Rattle.cq_stating.specs.Folders.{Told, Reads, TellsFault, LacksFile}
+use Rattle.cq_program.specs.MovedImages.{AreImages, AreLong}
+use Rattle.cq_environment.specs.Meanings.{Binding, binding, Meant, typeside, schema, colimit, mapping, query, instance, transform, Ends}
+use Rattle.cq_environment.specs.Meanings.{Environment}
+use Rattle.cq_program.specs.Checks.{Posed, a_typeside}
+use Rattle.cq_program.specs.Checks.{a_schema, a_mapping, an_identity, a_colimit, an_inclusion, a_query, a_presentation}
+use Rattle.cq_program.specs.Checks.{a_composite, a_mapping_query, a_made, a_delta, an_eval, a_transform, a_move}
+use Rattle.cq_program.specs.Checks.{Stated, stated_by}
+use Rattle.cq_program.specs.Posing.{IsTransformOf}
+use Rattle.cq_environment.specs.declared.reason.ReadCause.{ReadCause}
+use Rattle.cq_program.specs.Folders.{Told, Reads, TellsFault, LacksFile}
 
 -- the listed model of a presentation over a schema, both well sorted, which makes no two constants equal
 pub record IsModelOf (S : SchemaData) (P : Presentation) (i : InstanceData) : Type 0 where

@@ -2,13 +2,13 @@
 ghost use Rattle.std.specs.Prelude.{ℕ, ◌≡◌};
 ghost use Rattle.cq_check.specs.declared.duties.CheckRefusal.TheVariants as of_check;
 ghost use Rattle.cq_program.specs.Program.{Exceeds, Fails};
-ghost use Rattle.cq_stating.specs.Checks.{Posed};
+ghost use Rattle.cq_program.specs.Checks.{Posed};
 ghost use Rattle.cq_program.specs.Judging.{Withholds};
-ghost use Rattle.cq_stating.specs.declared.reason.Reason.TheVariants as reason;
+ghost use Rattle.cq_environment.specs.declared.reason.Reason.TheVariants as reason;
 
 use cq_base::Place;
 use cq_check::CheckRefusal;
-use cq_stating::{ProgramRefusal, Reason};
+use cq_environment::{ProgramRefusal, Reason};
 
 /// The refusal of the declaration at a place, of whose duties one isn't derived.
 pub fn unmet(place: Place, refusal: CheckRefusal) -> ProgramRefusal

@@ -3,7 +3,7 @@ ghost use Rattle.std.specs.Prelude.{◌≡◌};
 ghost use Rattle.cq_program.specs.Stop.{IsHalt, refusal_at, refusal_of};
 
 use cq_base::Place;
-use cq_stating::{Environment, ProgramRefusal, ReadCause, Reason};
+use cq_environment::{Environment, ProgramRefusal, ReadCause, Reason};
 use std::alloc::AllocError;
 
 /// What is wrong with a declaration.

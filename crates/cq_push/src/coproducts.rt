@@ -24,7 +24,8 @@ pub fn coproduct(
 ) -> Result<Instance, MoveRefusal>
     requires over { All (λ part. part.value.schema ≡ schema.value) parts.now }
     requires depth { depth ≤ 64 }
-    ensures { IsModelOrCause schema.value (coproduct_of (map (λ part. part.value.presentation) parts.now)) depth result }
+    ensures { IsModelOrCause schema.value (coproduct_of (map (λ part. part.value.presentation) parts.now)) depth
+        result }
 {
     let presented = coproduct_presentation(alloc, parts);
     build_presented(alloc, schema, presented, depth)

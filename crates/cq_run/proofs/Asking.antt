@@ -4,7 +4,7 @@ use Rattle.std.specs.Prelude.{IfOk, Result, Ok, Err}
 use Rattle.cq_explain.specs.Question.{Asks}
 use Rattle.cq_instance.specs.InstanceData.{InstanceData}
 use Rattle.cq_theory.specs.declared.presentation.Equation.{Equation}
-use Rattle.cq_stating.specs.Folders.{Told}
+use Rattle.cq_program.specs.Folders.{Told}
 use Rattle.cq_program.specs.Program.{Listing}
 use Rattle.cq_run.specs.Asked.{IsReply, IsReplyAbout, instance_named}
 use Rattle.cq_run.specs.Meaning.{Means}

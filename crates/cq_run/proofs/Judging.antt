@@ -12,7 +12,7 @@ use Rattle.cq_parse.specs.declared.refusal.ParseRefusal.{ParseRefusal}
 use Rattle.cq_parse.specs.declared.refusal.ParseRefusal.TheVariants as grammatical
 use Rattle.cq_parse.specs.Parsed.{IsRefused, RefusedWith}
 use Rattle.cq_io.specs.FolderData.{FolderData}
-use Rattle.cq_stating.specs.Folders.{Told}
+use Rattle.cq_program.specs.Folders.{Told}
 use Rattle.cq_program.specs.Judging.{RefusesProgram}
 use Rattle.cq_program.specs.Stop.{Halts, refusal_at}
 use Rattle.cq_program.specs.declared.stops.Fault.{Fault}

@@ -19,7 +19,7 @@ use Rattle.cq_run.specs.Meaning.{IsTreeIn, IsTreeOf}
 use Rattle.cq_run.specs.Stops.{AllMeet, HasStop}
 use Rattle.cq_run.specs.declared.answer.Answer.{Answer}
 use Rattle.cq_run.specs.declared.answer.Answer.TheVariants as answer
-use Rattle.cq_stating.specs.Folders.{Told}
+use Rattle.cq_program.specs.Folders.{Told}
 use Rattle.cq_syntax.specs.Program.{IsProgram, FitsLimits}
 use Rattle.cq_syntax.specs.declared.program.Program.{Program}
 

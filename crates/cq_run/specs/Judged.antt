@@ -7,13 +7,13 @@ use Rattle.cq_parse.specs.declared.refusal.ParseRefusal.{ParseRefusal}
 use Rattle.cq_parse.specs.declared.refusal.ParseRefusal.TheVariants as grammatical
 use Rattle.cq_syntax.specs.declared.program.Program.{Program}
 use Rattle.cq_io.specs.FolderData.{FolderData}
-use Rattle.cq_stating.specs.Folders.{Told}
+use Rattle.cq_program.specs.Folders.{Told}
 use Rattle.cq_program.specs.Initial.{AreInitial}
 use Rattle.cq_program.specs.Named.{listed_as}
 use Rattle.cq_program.specs.Program as program
 use Rattle.cq_program.specs.declared.stops.Fault.{Fault}
 use Rattle.cq_program.specs.declared.stops.Fault.TheVariants.{Broken, Unread}
-use Rattle.cq_stating.specs.Lines.{reason_line}
+use Rattle.cq_environment.specs.Lines.{reason_line}
 use Rattle.cq_run.specs.Answer.{SaysUnread}
 use Rattle.cq_run.specs.Meaning.{IsSound, IsTreeIn, BreaksRule, MissesFile, RefusesTokens, lex_line, parse_line}
 use Rattle.cq_run.specs.declared.answer.Answer.{Answer}

@@ -4,7 +4,7 @@ use Rattle.cq_program.specs.Stop.{MeetRules, StopsAt}
 use Rattle.cq_program.specs.declared.stops.Stop.{Stop}
 use Rattle.cq_run.specs.declared.answer.Answer.{Answer}
 use Rattle.cq_run.specs.declared.answer.Answer.TheVariants as answer
-use Rattle.cq_stating.specs.Folders.{Told}
+use Rattle.cq_program.specs.Folders.{Told}
 use Rattle.cq_syntax.specs.declared.program.Program.{Program}
 
 -- each program of this kind meets its rules, unless memory was wanting

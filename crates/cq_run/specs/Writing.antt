@@ -5,7 +5,7 @@ use Rattle.cq_export.specs.Handing.{HandsOver}
 use Rattle.cq_export.specs.declared.handing.Handed.{Handed}
 use Rattle.cq_export.specs.declared.handing.Handed.TheVariants as handed
 use Rattle.cq_io.specs.Writes.{Appends}
-use Rattle.cq_stating.specs.Folders.{Told}
+use Rattle.cq_program.specs.Folders.{Told}
 use Rattle.cq_program.specs.Program.{Listing}
 use Rattle.cq_run.specs.Asked.{IsReply}
 use Rattle.cq_run.specs.Clause.{Loses}

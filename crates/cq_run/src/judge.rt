@@ -7,7 +7,7 @@ ghost use Rattle.cq_syntax.specs.declared.program.Program.{Program};
 ghost use Rattle.cq_parse.specs.Parsed.{IsRefused};
 ghost use Rattle.cq_parse.specs.declared.refusal.ParseRefusal.{ParseRefusal};
 ghost use Rattle.cq_import.specs.Folders.{Keeps};
-ghost use Rattle.cq_stating.specs.Lines.{line_of};
+ghost use Rattle.cq_environment.specs.Lines.{line_of};
 ghost use Rattle.cq_run.specs.Answer.{Judges};
 ghost use Rattle.cq_run.specs.Judged.{JudgesProgram, JudgesTokens, SaysFault, SaysRefused, TellsLex, TellsParse};
 ghost use Rattle.cq_run.specs.Meaning.{IsTreeIn, IsTreeOf};

@@ -4,7 +4,7 @@ ghost use Rattle.std.specs.Prelude.{◌≡◌, ℕ, List, Some};
 ghost use Rattle.cq_io.specs.Content.{File};
 ghost use Rattle.cq_program.specs.Initial.{AreInitial};
 ghost use Rattle.cq_program.specs.Program.{Listing};
-ghost use Rattle.cq_stating.specs.Folders.{Told};
+ghost use Rattle.cq_program.specs.Folders.{Told};
 ghost use Rattle.cq_run.specs.Meaning.{Means, transcripts_of};
 
 /// Over the files of a folder a text means at most one list of instances, so that there is one transcript of it.

@@ -14,10 +14,10 @@ pub struct Progress {
     followed: u64,
 }
 
-/// Puts equations in until the nodes are equal or there are more than so many nodes, and says whether they are. The nodes are gone through in the order in
-/// which they came, so that each equation is put in at each class some time. Foreign keys are followed from the next
-/// node only when all equations are in (Todd and Coxeter, A practical method for enumerating cosets of a finite
-/// abstract group, 1936).
+/// Puts equations in until the nodes are equal or there are too many, and says whether they are. Nodes are gone through
+/// as they came, so that each equation is put in at each class some time. Foreign keys are followed from the next node
+/// only when all equations are in (Todd and Coxeter, A practical method for enumerating cosets of a finite abstract
+/// group, 1936).
 pub fn join_by_equations(
     alloc: Global,
     graph: &mut Graph,

@@ -16,10 +16,10 @@ use Rattle.cq_known.specs.declared.unknown.Unknown.{Unknown as Found}
 use Rattle.cq_lex.specs.Tokens as lexed
 use Rattle.cq_lex.specs.declared.token.Token.{Token}
 use Rattle.cq_place.specs.Shown.{shown_at}
-use Rattle.cq_stating.specs.Folders.{Told}
-use Rattle.cq_stating.specs.declared.reason.ReadCause.{ReadCause}
-use Rattle.cq_stating.specs.declared.reason.Reason.{Reason}
-use Rattle.cq_stating.specs.declared.reason.Reason.TheVariants.{Inconsistent, Unknown}
+use Rattle.cq_program.specs.Folders.{Told}
+use Rattle.cq_environment.specs.declared.reason.ReadCause.{ReadCause}
+use Rattle.cq_environment.specs.declared.reason.Reason.{Reason}
+use Rattle.cq_environment.specs.declared.reason.Reason.TheVariants.{Inconsistent, Unknown}
 use Rattle.cq_program.specs.Stop.{MeetRules, StopsAt}
 use Rattle.cq_program.specs.declared.stops.Fault.{Fault}
 use Rattle.cq_program.specs.declared.stops.Fault.TheVariants.{Broken, Unread}

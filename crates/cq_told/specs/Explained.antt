@@ -15,9 +15,9 @@ use Rattle.cq_parse.specs.Parsed as parsed
 use Rattle.cq_parse.specs.declared.refusal.ParseRefusal.{ParseRefusal}
 use Rattle.cq_parse.specs.declared.refusal.ParseRefusal.TheVariants as grammatical
 use Rattle.cq_place.specs.Shown.{shown_at}
-use Rattle.cq_stating.specs.Folders.{Told}
-use Rattle.cq_stating.specs.declared.reason.Reason.{Reason}
-use Rattle.cq_stating.specs.declared.reason.Reason.TheVariants.{Inconsistent, Unknown}
+use Rattle.cq_program.specs.Folders.{Told}
+use Rattle.cq_environment.specs.declared.reason.Reason.{Reason}
+use Rattle.cq_environment.specs.declared.reason.Reason.TheVariants.{Inconsistent, Unknown}
 use Rattle.cq_program.specs.Stop.{MeetRules, StopsAt}
 use Rattle.cq_program.specs.declared.stops.Fault.{Fault}
 use Rattle.cq_program.specs.declared.stops.Fault.TheVariants.{Broken, Unread}

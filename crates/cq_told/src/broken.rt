@@ -2,7 +2,7 @@
 ghost use Rattle.std.specs.Prelude.{◌≡◌, ◌<◌, ◌≤◌, ◌^◌, IfOk, IfSome, MatchOption};
 ghost use Rattle.cq_known.specs.Spelled.{IsSpelledFrom};
 ghost use Rattle.cq_parts.specs.Few.{part_count};
-ghost use Rattle.cq_stating.specs.Environment.{AreSettled, environment_of};
+ghost use Rattle.cq_environment.specs.Environment.{AreSettled, environment_of};
 ghost use Rattle.cq_told.specs.Explained.{HasDerived, IsShownOf};
 
 use crate::case::Case;
@@ -14,11 +14,11 @@ use crate::page::{append_line, append_remedy, append_where, has_remedy};
 use crate::telling::{Telling, one_text};
 use crate::texts::{append_number, name_text, number_text, one, quoted_text, three, two};
 use cq_base::{Name, Place};
+use cq_environment::Reason;
 use cq_io::Folder;
 use cq_known::{Unknown, known_as, near_used, unknown_in_part, wanted_at};
 use cq_lex::{Kind, Token};
 use cq_sentences::Code;
-use cq_stating::Reason;
 use std::alloc::{AllocError, Global};
 
 /// What is told of a declaration that breaks a rule.

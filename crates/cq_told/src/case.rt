@@ -1,7 +1,7 @@
 //! A file, and a declaration of it that breaks a rule, with all that is known of it.
 use crate::page::Page;
 use cq_base::Place;
-use cq_stating::Environment;
+use cq_environment::Environment;
 use cq_syntax::{Decl, Program};
 use std::alloc::Global;
 

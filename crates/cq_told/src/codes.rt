@@ -1,10 +1,10 @@
 //! The code of each rule.
 ghost use Rattle.std.specs.Prelude.{◌≡◌};
 ghost use Rattle.cq_sentences.specs.Code.{number_of};
-ghost use Rattle.cq_stating.specs.Lines.{code_of};
+ghost use Rattle.cq_environment.specs.Lines.{code_of};
 
+use cq_environment::{ReadCause, Reason};
 use cq_sentences::{Code, Unread};
-use cq_stating::{ReadCause, Reason};
 
 /// The code of a rule that a declaration breaks: that which the line of the refusal has.
 pub fn code_of(reason: &Reason) -> Code

@@ -2,15 +2,15 @@
 ghost use Rattle.std.specs.Prelude.{◌≡◌, ◌<◌, ◌≤◌, ◌^◌, ◌⊎◌, [], IfOk};
 ghost use Rattle.cq_clash.specs.Clash.{TellsClash};
 ghost use Rattle.cq_parts.specs.Few.{part_count};
-ghost use Rattle.cq_stating.specs.Environment.{AreSettled, environment_of};
+ghost use Rattle.cq_environment.specs.Environment.{AreSettled, environment_of};
 ghost use Rattle.cq_told.specs.Explained.{IsDerived};
 
 use crate::case::Case;
 use crate::folders::append_folder_faults;
 use crate::limits::append_limit;
 use cq_clash::{Constants, Declared, push_clash};
+use cq_environment::Reason;
 use cq_io::Folder;
-use cq_stating::Reason;
 use std::alloc::AllocError;
 
 /// What more is known.

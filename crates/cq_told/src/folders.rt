@@ -1,14 +1,14 @@
 //! The faults of a folder of CSV files.
 ghost use Rattle.std.specs.Prelude.{◌≡◌, ◌<◌, ◌^◌};
 ghost use Rattle.cq_parts.specs.Few.{part_count};
-ghost use Rattle.cq_stating.specs.Environment.{AreSettled, environment_of};
+ghost use Rattle.cq_environment.specs.Environment.{AreSettled, environment_of};
 
 use crate::case::Case;
 use crate::posed::stated_again;
 use cq_cell_texts::{append_folder, append_folder2};
 use cq_cells::Unread;
 use cq_io::Folder;
-use cq_stating::{FolderImport, Format, Stated};
+use cq_program::{FolderImport, Format, Stated};
 use std::alloc::{AllocError, Global};
 
 /// Appends the faults of the folder that a declaration names.

@@ -1,16 +1,17 @@
 //! Rows that go on or are too many, duties that aren't met, and images that don't keep an equation.
 ghost use Rattle.std.specs.Prelude.{◌≡◌, ◌<◌, ◌≤◌, ◌^◌};
 ghost use Rattle.cq_parts.specs.Few.{part_count};
-ghost use Rattle.cq_stating.specs.Environment.{AreSettled, environment_of};
-ghost use Rattle.cq_stating.specs.Posing.{IsPosed};
+ghost use Rattle.cq_environment.specs.Environment.{AreSettled, environment_of};
+ghost use Rattle.cq_program.specs.Posing.{IsPosed};
 ghost use Rattle.cq_theory.specs.Presentation.{IsPresentation};
 
 use crate::case::Case;
 use crate::posed::posed_again;
+use cq_environment::Reason;
 use cq_io::Folder;
 use cq_mapping::Mapping;
+use cq_program::{BrokenImages, Statement};
 use cq_query::Query;
-use cq_stating::{BrokenImages, Reason, Statement};
 use cq_theory::{Presentation, Schema};
 use cq_unmet::{Asked, append_duty, append_underivable, mapping_duty, query_duty};
 use cq_witness::{Ends, append_broken, append_depth, append_rows};

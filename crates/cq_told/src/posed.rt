@@ -1,12 +1,13 @@
 //! What a declaration poses, once more.
 ghost use Rattle.std.specs.Prelude.{◌≡◌, ◌<◌, ◌^◌, IfOk, IfSome};
 ghost use Rattle.cq_parts.specs.Few.{part_count};
-ghost use Rattle.cq_stating.specs.Environment.{AreSettled, environment_of};
-ghost use Rattle.cq_stating.specs.Posing.{IsPosed, IsStated};
+ghost use Rattle.cq_environment.specs.Environment.{AreSettled, environment_of};
+ghost use Rattle.cq_program.specs.Posing.{IsPosed, IsStated};
 
 use crate::case::Case;
+use cq_environment::ProgramRefusal;
 use cq_io::Folder;
-use cq_stating::{ProgramRefusal, Stated, Statement, read_stated, state};
+use cq_program::{Stated, Statement, read_stated, state};
 use std::alloc::AllocError;
 
 /// What a declaration states, if its names and parts break no rule.

@@ -2,7 +2,7 @@
 use crate::role::{Kind, Role, Side};
 use crate::scope::Look;
 use cq_base::Place;
-use cq_stating::{Environment, Meaning};
+use cq_environment::{Environment, Meaning};
 use cq_syntax::{AttImage, AttSyn, KeyImage, MapBlock, MappingLit, Spot, TransformLit};
 use std::alloc::AllocError;
 

@@ -2,7 +2,7 @@
 use crate::role::{Kind, Role, Side};
 use crate::scope::Look;
 use cq_base::Place;
-use cq_stating::Environment;
+use cq_environment::Environment;
 use cq_syntax::{Bind, QueryBlock, QueryKey, QueryLit};
 use std::alloc::AllocError;
 

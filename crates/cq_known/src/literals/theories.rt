@@ -3,7 +3,7 @@ use crate::role::{Kind, Role, Side};
 use crate::scope::Look;
 use crate::terms::has_spot;
 use cq_base::{Name, NameRefusal, Place};
-use cq_stating::{Environment, Meaning};
+use cq_environment::{Environment, Meaning};
 use cq_syntax::{ColimitLit, FunSyn, InstanceLit, PairSyn, SchemaLit, Spot, TypesideLit};
 use cq_theory::{Edge, Schema};
 use std::alloc::{AllocError, Global};

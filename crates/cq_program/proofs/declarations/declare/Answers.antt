@@ -1,6 +1,6 @@
 use Rattle.std.proofs.Common.{◌≡◌, IfErr, OnErr, OnOk, sym, subst}
-use Rattle.cq_stating.specs.Meanings.{Environment}
-use Rattle.cq_stating.specs.Environment.{AreSettled, environment_of}
+use Rattle.cq_environment.specs.Meanings.{Environment}
+use Rattle.cq_environment.specs.Environment.{AreSettled, environment_of}
 use Rattle.cq_program.specs.Judging.{AddsDecl, RefusesDecl}
 use Rattle.cq_program.proofs.declarations.declare.Goals as goal
 

@@ -1,7 +1,7 @@
 use Rattle.std.proofs.Common.{◌<◌, length, arith, ap, ◌+◌, ℕ}
 use Rattle.cq_io.specs.FolderData.{FolderData}
-use Rattle.cq_stating.specs.Environment.{environment_of}
-use Rattle.cq_stating.proofs.Readings.{keeps_then}
+use Rattle.cq_environment.specs.Environment.{environment_of}
+use Rattle.cq_program.proofs.Readings.{keeps_then}
 use Rattle.cq_program.proofs.Following.{refuses_at, follows_more}
 use Rattle.cq_program.proofs.Walking.{halts_at, refused_at}
 use Rattle.cq_program.proofs.declarations.declare_all.Goals as goal

@@ -1,6 +1,6 @@
 use Rattle.std.proofs.Common.{[], take, ◌≡◌}
 use Rattle.cq_import.specs.Folders.{Keeps}
-use Rattle.cq_stating.specs.Environment.{AreSettled, environment_of}
+use Rattle.cq_environment.specs.Environment.{AreSettled, environment_of}
 use Rattle.cq_program.specs.Program.{Follow}
 use Rattle.cq_program.proofs.declarations.declare_all.Given as goal
 

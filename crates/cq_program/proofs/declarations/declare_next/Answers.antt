@@ -1,9 +1,9 @@
 use Rattle.std.proofs.Common.{◌≡◌, ◌∷◌, ◌++◌, [], subst, sym, ◌∙◌}
-use Rattle.cq_stating.specs.Meanings.{Environment, binding}
-use Rattle.cq_stating.specs.Environment.{AreSettled, environment_of, meant}
-use Rattle.cq_stating.proofs.Poses.{fresh}
-use Rattle.cq_stating.proofs.Settled.{AreSettled-more}
-use Rattle.cq_program.proofs.Known.{declared_known}
+use Rattle.cq_environment.specs.Meanings.{Environment, binding}
+use Rattle.cq_environment.specs.Environment.{AreSettled, environment_of, meant}
+use Rattle.cq_program.proofs.Poses.{fresh}
+use Rattle.cq_program.proofs.Settled.{AreSettled-more}
+use Rattle.cq_program.proofs.KnownDeclared.{declared_known}
 use Rattle.cq_program.proofs.declarations.declare_next.Goals as goal
 
 pub returns-clause-declares : goal.returns-clause-declares

@@ -1,10 +1,10 @@
 use Rattle.std.proofs.lemmas.Result.{err_from_is_err_and}
 use Rattle.cq_io.specs.FolderData.{FolderData}
-use Rattle.cq_stating.specs.Environment.{environment_of, meant}
-use Rattle.cq_stating.specs.Posing.{posed_as, stated_as}
+use Rattle.cq_environment.specs.Environment.{environment_of, meant}
+use Rattle.cq_program.specs.Posing.{posed_as, stated_as}
 use Rattle.cq_program.proofs.Following.{refuses_reading, refuses_result}
 use Rattle.cq_program.proofs.Standing.{settled_result}
-use Rattle.cq_stating.proofs.Settled.{grounded_reading}
+use Rattle.cq_program.proofs.Settled.{grounded_reading}
 use Rattle.cq_program.proofs.declarations.judge.Goals as goal
 
 pub returns-in_err-statement-clause-refuses : goal.returns-in_err-statement-clause-refuses

@@ -1,5 +1,5 @@
 use Rattle.std.proofs.Common.{map}
-use Rattle.cq_stating.specs.Environment.{environment_of}
+use Rattle.cq_environment.specs.Environment.{environment_of}
 use Rattle.cq_program.specs.Named.{listed_as}
 use Rattle.cq_program.proofs.Initials.{are_initial}
 use Rattle.cq_program.proofs.declarations.meaning_or_stop.Goals as goal

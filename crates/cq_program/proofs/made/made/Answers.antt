@@ -2,7 +2,7 @@ use Rattle.std.proofs.Common.{◌≡◌, true, subst, sym, Ok}
 use Rattle.std.specs.Prelude.{IfOk}
 use Rattle.cq_theory.specs.declared.constant.Con.{Con}
 use Rattle.cq_theory.specs.ValueText.{is_named_con}
-use Rattle.cq_stating.specs.Environment.{IsTermModel}
+use Rattle.cq_environment.specs.Environment.{IsTermModel}
 use Rattle.cq_program.proofs.Answered.{told_of, withholds_clash_made, withholds_deep, withholds_large, withholds_wide}
 use Rattle.cq_program.proofs.made.made.Goals as goal
 

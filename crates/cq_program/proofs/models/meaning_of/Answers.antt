@@ -7,12 +7,12 @@ use Rattle.std.specs.Prelude.{IfOk, IfErr}
 use Rattle.cq_mapping.specs.MappingData.{MappingData}
 use Rattle.cq_mapping.specs.Duties.{Preserves}
 use Rattle.cq_mapping.specs.Images.{sigma}
-use Rattle.cq_stating.specs.declared.posing.Statement.{Statement}
-use Rattle.cq_stating.specs.declared.reason.ProgramRefusal.TheVariants as program_refusal
-use Rattle.cq_stating.specs.declared.reason.Reason.TheVariants as reason
-use Rattle.cq_stating.specs.Checks.{Posed, a_composite, a_delta, a_made, a_mapping_query, an_eval}
-use Rattle.cq_stating.specs.Environment.{meant}
-use Rattle.cq_stating.specs.Posing.{IsPosed, posed_as}
+use Rattle.cq_program.specs.declared.statement.Statement.{Statement}
+use Rattle.cq_environment.specs.declared.reason.ProgramRefusal.TheVariants as program_refusal
+use Rattle.cq_environment.specs.declared.reason.Reason.TheVariants as reason
+use Rattle.cq_program.specs.Checks.{Posed, a_composite, a_delta, a_made, a_mapping_query, an_eval}
+use Rattle.cq_environment.specs.Environment.{meant}
+use Rattle.cq_program.specs.Posing.{IsPosed, posed_as}
 use Rattle.cq_program.specs.Judging.{Withholds}
 use Rattle.cq_program.specs.Program.{Stands}
 use Rattle.cq_program.proofs.models.meaning_of.Goals as goal

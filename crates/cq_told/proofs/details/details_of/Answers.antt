@@ -1,5 +1,5 @@
 use Rattle.std.proofs.Common.{sym, ◌∙◌}
-use Rattle.cq_stating.specs.declared.reason.Reason.TheVariants.{Inconsistent}
+use Rattle.cq_environment.specs.declared.reason.Reason.TheVariants.{Inconsistent}
 use Rattle.cq_told.proofs.Claims.{derived_ok, other_ok}
 use Rattle.cq_told.proofs.details.details_of.Goals as goal
 

@@ -1,0 +1,3 @@
+//! Folders of files.
+pub(crate) mod reading;
+pub(crate) mod stating;

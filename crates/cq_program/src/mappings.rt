@@ -1,0 +1,3 @@
+//! Mappings and identities.
+pub(crate) mod meaning;
+pub(crate) mod stating;

@@ -1,0 +1,2 @@
+//! Schemas.
+pub(crate) mod stating;

@@ -1,0 +1,3 @@
+//! Transforms.
+pub(crate) mod meaning;
+pub(crate) mod stating;

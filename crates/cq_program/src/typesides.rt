@@ -1,0 +1,3 @@
+//! Typesides.
+pub(crate) mod meaning;
+pub(crate) mod stating;

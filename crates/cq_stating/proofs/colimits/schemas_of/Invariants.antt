@@ -1,9 +1,0 @@
-use Rattle.std.proofs.Common.{◌≡◌, take}
-use Rattle.std.specs.Prelude.{Ok}
-use Rattle.cq_stating.specs.Checks.{parts_used}
-use Rattle.cq_stating.specs.Environment.{environment_of, useds_meant}
-use Rattle.cq_stating.proofs.colimits.schemas_of.Given as goal
-
--- the schemas so far
-abbrev pub invariant-loop-spot : goal.invariant-loop-spot
-invariant-loop-spot l = parts_used (environment_of l.env.names.entries) (take l.spot-index l.used) ≡ Ok (useds_meant l.parts.items)

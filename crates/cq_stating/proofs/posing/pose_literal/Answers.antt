@@ -1,7 +1,0 @@
-use Rattle.cq_stating.specs.Environment.{environment_of, schema_meant}
-use Rattle.cq_stating.proofs.Settled.{schema_printed}
-use Rattle.cq_stating.proofs.posing.pose_literal.Goals as goal
-
-pub returns-clause-grounded : goal.returns-clause-grounded
-returns-clause-grounded c = λ name.
-    schema_printed (environment_of c.args.env.now.names.entries) c.args.literal.now.schema (schema_meant c.in_ok-over.over) c.requires.settled c.in_ok-over.ensures
