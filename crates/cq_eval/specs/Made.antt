@@ -1,8 +1,9 @@
 -- The answers of a query and the tables of eval, as they are made.
-use Rattle.std.specs.Prelude.{ℕ, List, Some, ◌≡◌, map, filter, length, position, nat_eq, slice_get}
+use Rattle.std.specs.Prelude.{ℕ, List, Some, IsSorted, ◌≡◌, map, filter, length, position, nat_eq, slice_get}
 use Rattle.std.specs.List.{list_all, enumerate_from}
 use Rattle.std.specs.Option.{unwrap_or}
-use Rattle.std.specs.Cmp.Lexicographic.{pointwise}
+use Rattle.std.specs.Cmp.Lexicographic.{pointwise, slice_cmp}
+use Rattle.std.specs.Ordering.{nat_cmp}
 use Rattle.cq_theory.specs.declared.presentation.Equation.{Equation}
 use Rattle.cq_theory.specs.declared.schema.Edge.{Edge}
 use Rattle.cq_theory.specs.declared.value.Value.{Value}
@@ -21,6 +22,10 @@ answers_with M tests counts = filter (λ rows. list_all (holds_at M rows) tests)
 -- no list stands twice
 abbrev pub StandOnce : List (List ℕ) → Type 0
 StandOnce lists = (p q : ℕ) (rows : List ℕ) → slice_get lists p ≡ Some rows → slice_get lists q ≡ Some rows → p ≡ q
+
+-- no list stands behind one that comes after it in lexicographic order
+abbrev pub AreAscending : List (List ℕ) → Type 0
+AreAscending lists = IsSorted (slice_cmp nat_cmp) lists
 
 -- the place at which a list of rows stands among others, or 0 where it doesn't
 abbrev pub place_in : List (List ℕ) → List ℕ → ℕ

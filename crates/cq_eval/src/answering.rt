@@ -7,7 +7,7 @@ ghost use Rattle.cq_theory.specs.Tables.{count_of};
 ghost use Rattle.cq_query.specs.Answers.{AreAnswers, IsTuple};
 ghost use Rattle.cq_eval.specs.Join.{IsTested};
 ghost use Rattle.cq_eval.specs.Kept.{AreKept};
-ghost use Rattle.cq_eval.specs.Made.{answers_with, answers_of, StandOnce};
+ghost use Rattle.cq_eval.specs.Made.{answers_with, answers_of, AreAscending, StandOnce};
 ghost use Rattle.cq_eval.specs.Order.{IsOrder};
 ghost use Rattle.cq_eval.specs.Refused.{TellsMany, TellsOver};
 ghost use Rattle.cq_eval.specs.Testing.{IsTestAt};
@@ -98,6 +98,7 @@ pub(crate) fn found_answers(
     ensures few { IfOk result (λ found. length found.items ≤ 1000000) }
     ensures refused { IfErr result (TellsOver entity (length (answers_of query.now instance.now.tables entity))) }
     ensures once { StandOnce (answers_of query.now instance.now.tables entity) }
+    ensures ascend { AreAscending (answers_of query.now instance.now.tables entity) }
 {
     query.is_well_sorted();
     instance.is_instance();

@@ -1,74 +1,43 @@
 //! Answers with their places.
 ghost use Rattle.std.specs.Prelude.{◌≡◌, ◌<◌, ◌≤◌, ◌++◌, ◌∷◌, [], All, IfOk, IfErr, OnOk, Some, length, map, slice_get};
 ghost use Rattle.cq_theory.specs.Canonical.{below};
-ghost use Rattle.cq_eval.specs.Made.{answers_of, place_in, StandOnce};
+ghost use Rattle.cq_eval.specs.Made.{answers_of, place_in, AreAscending, StandOnce};
 ghost use Rattle.cq_eval.specs.Refused.{TellsFirst};
 
 use crate::answering::found_answers;
 use crate::kept::Kept;
 use crate::refusal::EvalRefusal;
 use crate::rows::Rows;
-use cq_base::{Hashing, Keys};
 use cq_instance::Instance;
 use cq_query::Query;
-use indexmap::IndexSet;
 use std::alloc::{AllocError, Global};
-use std::hash::{DefaultHasher, Hash, Hasher};
 use std::marker::Model;
 
-/// The answers for an entity in their order, from each of which its place is found. Contracts see the list.
+/// The answers for an entity in their order, by which the place of each is found. Contracts see the list.
+#[derive(Drop)]
 pub(crate) struct Answers {
-    rows: IndexSet<Rows, Hashing>,
+    rows: Vec<Rows>,
 }
 
 impl Model for Answers {
     ghost use Rattle.std.specs.Prelude.{ℕ, List};
+    ghost use Rattle.cq_eval.specs.Made.{AreAscending, StandOnce};
 
     ghost Value = { List (List ℕ) };
 
-    ghost view = { λ answers. answers.rows.keys };
-}
+    ghost view = { λ answers. answers.rows.items };
 
-impl Drop for Answers {
-    fn drop(self) {
-        let Self { rows: _ } = self;
-    }
-}
-
-/// The keys of the files that the names of an instance's generators come from.
-fn keys_of(instance: &Instance) -> Keys {
-    let mut keys = Keys::new();
-    for generator in instance.presentation().generators.as_slice() {
-        keys.add(&generator.0);
-    }
-    keys
-}
-
-/// How answers are hashed, which are rows of an instance: by a key of the files that its names come from, or of all
-/// answers where these names are the program's own, as those of an instance that was moved.
-fn hashing_of(keys: Keys, answers: &[Rows]) -> Hashing {
-    if !keys.is_empty() {
-        return keys.hashing();
-    }
-    let mut state = DefaultHasher::new();
-    for rows in answers {
-        rows.hash(&mut state);
-    }
-    Hashing::of_state(&state)
+    ghost invariant = { λ answers. StandOnce answers.rows.items × AreAscending answers.rows.items };
 }
 
 impl Answers {
-    /// The table of these answers over an instance whose names have these keys.
-    fn new(alloc: Global, keys: Keys, found: Vec<Rows>) -> Result<Answers, AllocError>
-        requires { StandOnce found.items }
-        ensures { IfOk result (λ answers. answers ≡ found.items) }
+    /// The table of these answers, which takes no memory.
+    fn from_vec(rows: Vec<Rows>) -> Answers
+        requires once { StandOnce rows.items }
+        requires ascend { AreAscending rows.items }
+        ensures { result ≡ rows.items }
     {
-        let hashing = hashing_of(keys, found.as_slice());
-        let mut answers = IndexSet::with_capacity_and_hasher(alloc, found.len(), hashing)?;
-        for rows in found {
-            answers.insert(rows)?;
-        }
-        Ok(Answers { rows: answers })
+        Answers { rows }
     }
 
     /// How many answers there are.
@@ -83,10 +52,7 @@ impl Answers {
         requires { place < length self.now }
         ensures { slice_get self.now place ≡ Some result.now }
     {
-        match self.rows.get_index(place) {
-            Some(rows) => rows.as_slice(),
-            None => unreachable!(),
-        }
+        self.rows[place].as_slice()
     }
 
     /// The place of an answer.
@@ -94,24 +60,20 @@ impl Answers {
         ensures place { result ≡ place_in self.now rows.now }
         ensures within { result ≤ length self.now }
     {
-        match self.rows.get_index_of(rows) {
-            Some(place) => place,
-            None => 0,
+        match self.rows.as_slice().binary_search(rows) {
+            Ok(place) => place,
+            Err(_) => 0,
         }
     }
 }
 
 /// Puts the table of these answers behind others.
-fn push_answers(
-    alloc: Global,
-    keys: Keys,
-    found: Vec<Rows>,
-    made: &mut Vec<Answers>,
-) -> Result<(), AllocError>
-    requires { StandOnce found.items }
+fn push_answers(found: Vec<Rows>, made: &mut Vec<Answers>) -> Result<(), AllocError>
+    requires once { StandOnce found.items }
+    requires ascend { AreAscending found.items }
     ensures { OnOk result (made.new.items ≡ made.old.items ++ found.items ∷ []) }
 {
-    made.push(Answers::new(alloc, keys, found)?)?;
+    made.push(Answers::from_vec(found))?;
     Ok(())
 }
 
@@ -129,13 +91,12 @@ pub(crate) fn all_answers(
         (λ entity. length (answers_of query.now instance.now.tables entity))) }
 {
     query.target.is_well_sorted();
-    let keys = keys_of(instance);
     let count = query.target.entities.len();
     let mut made = Vec::with_capacity(alloc, count)?;
     let mut kept = Kept::new(alloc);
     for entity in 0..count as u32 {
         match found_answers(alloc, query, instance, &mut kept, entity) {
-            Ok(found) => push_answers(alloc, keys, found, &mut made)?,
+            Ok(found) => push_answers(found, &mut made)?,
             Err(refusal) => return Err(refusal),
         }
     }

@@ -1,12 +1,12 @@
 -- What cells and generators teach of the terms of nulls.
-use Rattle.std.proofs.Common.{ℕ, zero, suc, Bool, true, false, cond, List, [], ◌∷◌, ◌++◌, Option, Some, None, ◌≡◌, ◌<◌, ◌+◌, ◌==◌, IfSome, map, filter, take, length, get_or, refl, sym, ap, subst, ◌∙◌, arith}
+use Rattle.std.proofs.Common.{ℕ, zero, suc, Bool, true, false, List, [], ◌∷◌, ◌++◌, Option, Some, ◌≡◌, ◌<◌, ◌+◌, ◌==◌, map, take, length, get_or, refl, sym, ap, ◌∙◌, arith}
 use Rattle.std.specs.Prelude.{slice_get, slice_index_or, if◌then◌else◌}
-use Rattle.std.specs.List.{flat_map, filter_map, cons_option, enumerate_from}
-use Rattle.std.proofs.lemmas.Bool.{eqb-true, ne_eqb, cases_eq}
+use Rattle.std.specs.List.{flat_map, filter_map, enumerate_from}
+use Rattle.std.proofs.lemmas.Bool.{eqb-true}
 use Rattle.std.proofs.lemmas.List.Elements.{filter_map-append}
 use Rattle.std.proofs.lemmas.List.Folds.{flat_map-map}
 use Rattle.std.proofs.lemmas.List.FromFn.{fill_by_all, length-map-range_with_len}
-use Rattle.std.proofs.lemmas.Option.{slice_get-get_or, slice_get_within}
+use Rattle.std.proofs.lemmas.Option.{slice_get-get_or}
 use Rattle.cq_base.specs.declared.name.Name.{Name}
 use Rattle.cq_theory.specs.declared.presentation.Sort.{Sort}
 use Rattle.cq_theory.specs.declared.presentation.Sort.TheVariants.{Plain, Entity}
@@ -18,12 +18,12 @@ use Rattle.cq_theory.specs.declared.value.Value.{Value}
 use Rattle.cq_theory.specs.Canonical.{below, edges_from}
 use Rattle.cq_theory.specs.declared.groups.Groups.{Groups}
 use Rattle.cq_theory.specs.Groups.{positions_from, positions, edge_sources, AreGroups}
-use Rattle.cq_theory.specs.Listed.{cell_nodes, generator_node}
-use Rattle.cq_theory.specs.Tables.{Meaning, AtRow, cell_at, count_of, row_of, value_in, value_of, value_step}
+use Rattle.cq_theory.specs.Listed.{generator_node}
+use Rattle.cq_theory.specs.Tables.{Meaning, AtRow, cell_at, count_of, row_of, value_in, value_step}
 use Rattle.cq_theory.proofs.Every.{at_range}
 use Rattle.cq_theory.proofs.TypeTerms.{fold-Gen, fold-Att}
 use Rattle.cq_instance.specs.InstanceData.{InstanceData, IsInstance, names_at, name_at}
-use Rattle.cq_instance.specs.Learning.{lacks, learned, learned_from}
+use Rattle.cq_instance.specs.Learning.{learned, learned_from}
 use Rattle.cq_instance.proofs.EdgeNumbers.{edge_numbers}
 use Rattle.cq_instance.proofs.Enumerated.{numbered_more}
 use Rattle.cq_instance.proofs.Learnt.{learned_then}

@@ -1,6 +1,6 @@
 -- Terms of nulls as they are learned, term by term.
-use Rattle.std.proofs.Common.{ℕ, zero, suc, Bool, true, false, cond, List, [], ◌∷◌, ◌++◌, Option, Some, None, ◌≡◌, ◌≢◌, ◌<◌, ◌≤◌, ◌+◌, ◌==◌, map, take, length, get_or, slice_set, find, refl, sym, ap, ◌∙◌, arith, eq-eqb}
-use Rattle.std.specs.Prelude.{slice_get, slice_index_or, fold, if◌then◌else◌}
+use Rattle.std.proofs.Common.{ℕ, zero, suc, Bool, true, false, cond, List, [], ◌∷◌, ◌++◌, Option, Some, None, ◌≡◌, ◌<◌, ◌+◌, ◌==◌, map, take, length, get_or, slice_set, find, refl, sym, ap, ◌∙◌, arith, eq-eqb}
+use Rattle.std.specs.Prelude.{slice_get, if◌then◌else◌}
 use Rattle.std.specs.Option.{unwrap_or}
 use Rattle.std.specs.List.{range_with_len, flat_map, enumerate_from}
 use Rattle.std.proofs.lemmas.Bool.{ne_eqb, eqb-true}
@@ -16,7 +16,7 @@ use Rattle.cq_theory.specs.declared.value.Value.{Value}
 use Rattle.cq_theory.specs.declared.value.Value.TheVariants.{Const, Null}
 use Rattle.cq_theory.specs.Tables.{value_of}
 use Rattle.cq_instance.specs.InstanceData.{InstanceData}
-use Rattle.cq_instance.specs.Spelling.{is_null, means_null, first_node}
+use Rattle.cq_instance.specs.Spelling.{is_null, means_null}
 use Rattle.cq_instance.specs.Learning.{is_open, lacks, learned_of, learned, seen, learned_from}
 use Rattle.cq_instance.proofs.Lists.{map-map}
 use Rattle.cq_instance.proofs.Pushed.{below_more}

@@ -1,13 +1,13 @@
 -- What equations teach of the terms of nulls.
-use Rattle.std.proofs.Common.{ℕ, zero, suc, List, [], ◌∷◌, ◌++◌, Option, Some, None, ◌≡◌, ◌<◌, ◌+◌, ◌==◌, map, length, take, get_or, refl, sym, ap, subst, ◌∙◌, arith}
-use Rattle.std.specs.Prelude.{filter, slice_get, slice_index_or}
+use Rattle.std.proofs.Common.{ℕ, zero, suc, List, [], ◌∷◌, ◌++◌, Option, Some, None, ◌≡◌, ◌<◌, ◌+◌, map, length, take, get_or, refl, sym, ap, subst, ◌∙◌}
+use Rattle.std.specs.Prelude.{slice_get, slice_index_or}
 use Rattle.std.specs.List.{flat_map}
 use Rattle.std.proofs.lemmas.List.{append-nil}
 use Rattle.std.proofs.lemmas.Grind.{flat_map-append}
 use Rattle.std.proofs.lemmas.Option.{slice_get-get_or, slice_get_within}
 use Rattle.cq_base.specs.declared.name.Name.{Name}
 use Rattle.cq_theory.specs.declared.presentation.Sort.{Sort}
-use Rattle.cq_theory.specs.declared.presentation.Sort.TheVariants.{Plain, Entity}
+use Rattle.cq_theory.specs.declared.presentation.Sort.TheVariants.{Entity}
 use Rattle.cq_theory.specs.declared.presentation.Equation.{Equation}
 use Rattle.cq_theory.specs.declared.presentation.Equation.TheVariants as equation
 use Rattle.cq_theory.specs.declared.schema.ObsEq.{ObsEq}
@@ -15,18 +15,17 @@ use Rattle.cq_theory.specs.declared.term.EntTerm.{EntTerm}
 use Rattle.cq_theory.specs.declared.term.TypeTerm.{TypeTerm}
 use Rattle.cq_theory.specs.declared.term.TypeTerm.TheVariants.{Gen, Const, Att, Fun}
 use Rattle.cq_theory.specs.declared.term.Term.TheVariants.{Typ}
-use Rattle.cq_theory.specs.declared.value.Value.{Value}
 use Rattle.cq_theory.specs.EntTerm.{extended}
 use Rattle.cq_theory.specs.TypeTerm.{substituted, substituted_step}
 use Rattle.cq_theory.specs.Groups.{positions, obs_eq_sources}
-use Rattle.cq_theory.specs.Listed.{equation_nodes, subterms, subterms_step}
+use Rattle.cq_theory.specs.Listed.{subterms, subterms_step}
 use Rattle.cq_theory.specs.Presentation.{IsEquation}
 use Rattle.cq_theory.specs.Schema.{IsSchema, IsObsEq, one_of}
-use Rattle.cq_theory.specs.Sorts.{Generators, type_of, IsGround}
-use Rattle.cq_theory.specs.Tables.{Tables, Assignment, AtRow, count_of, HasSort, value_of}
+use Rattle.cq_theory.specs.Sorts.{type_of, IsGround}
+use Rattle.cq_theory.specs.Tables.{Assignment, AtRow, count_of, HasSort, value_of}
 use Rattle.cq_theory.proofs.TypeTerms.{fold-Gen, fold-Const, fold-Att, fold-Fun, para-Gen, para-Const, para-Att, para-Fun, Each, on_terms}
 use Rattle.cq_instance.specs.InstanceData.{InstanceData, IsInstance, IsNameOf, name_at}
-use Rattle.cq_instance.specs.Learning.{learned, learned_from, node_at, nodes_in, observed, side_nodes, IsReadable}
+use Rattle.cq_instance.specs.Learning.{learned_from, node_at, nodes_in, observed, side_nodes, IsReadable}
 use Rattle.cq_instance.specs.Terms.{AreStandings, IsTypeTermOf}
 use Rattle.cq_instance.proofs.CellsLearnt.{at_positions}
 use Rattle.cq_instance.proofs.FoundEquations.{found_at, found_more}

@@ -1,5 +1,5 @@
 -- The term of each null has the null's type and means it.
-use Rattle.std.proofs.Common.{ℕ, zero, suc, Bool, true, false, not, cond, List, [], ◌∷◌, Option, Some, None, ◌≡◌, ◌<◌, ◌+◌, map, filter, length, find, refl, sym, ap, subst, ◌∙◌, arith, eq-eqb}
+use Rattle.std.proofs.Common.{ℕ, zero, suc, Bool, true, false, not, cond, List, [], ◌∷◌, Option, Some, None, ◌≡◌, ◌<◌, ◌+◌, length, find, refl, sym, ap, ◌∙◌, arith, eq-eqb}
 use Rattle.std.specs.Prelude.{slice_get, slice_index_or, nat_eq, if◌then◌else◌}
 use Rattle.std.specs.Option.{unwrap_or}
 use Rattle.std.specs.List.{filter_map, cons_option}
@@ -25,7 +25,7 @@ use Rattle.cq_theory.proofs.Typing.{value_typed}
 use Rattle.cq_theory.proofs.Values as values
 use Rattle.cq_instance.specs.InstanceData.{InstanceData, IsInstance, names_at, name_at}
 use Rattle.cq_instance.specs.Listed.{IsListed}
-use Rattle.cq_instance.specs.Spelling.{AreNullsSpelled, is_null, means_null, first_node, own_term, null_terms_of, null_term_of}
+use Rattle.cq_instance.specs.Spelling.{AreNullsSpelled, is_null, means_null, first_node, own_term, null_term_of}
 use Rattle.cq_instance.proofs.CanonicalGenerators.{null_type, null_stands}
 use Rattle.cq_instance.proofs.Lists.{IsIn}
 

@@ -1,5 +1,5 @@
 -- Terms that spell the nulls of an instance.
-use Rattle.std.specs.Prelude.{ℕ, Bool, true, false, List, Some, ◌≡◌, ◌==◌, if◌then◌else◌, find, length, map, slice_get, slice_index_or}
+use Rattle.std.specs.Prelude.{ℕ, Bool, false, List, Some, ◌≡◌, ◌==◌, if◌then◌else◌, find, length, map, slice_get, slice_index_or}
 use Rattle.std.specs.Option.{unwrap_or}
 use Rattle.cq_theory.specs.declared.constant.Con.TheVariants.{Named}
 use Rattle.cq_theory.specs.declared.term.TypeTerm.{TypeTerm}

@@ -10,14 +10,15 @@ use crate::instance::Instance;
 use crate::values::{copied, equals};
 use cq_base::{Hashing, Keys, number_at};
 use cq_theory::{Value, empty_groups};
+use smallvec::SmallVec;
 use std::alloc::{AllocError, Global};
 use std::marker::Model;
 
-/// The rows, ascending, whose cells are a value.
+/// The rows, ascending, whose cells are a value. Up to four take no memory of their own.
 #[derive(Drop)]
 pub struct ValueRows {
     pub value: Value,
-    pub rows: Vec<u32>,
+    pub rows: SmallVec<u32, 4>,
 }
 
 /// For each value of an attribute's cells its rows. Contracts see how values are hashed, and the groups of rows by the
@@ -57,7 +58,7 @@ impl ValueRows {
         ensures value { IfOk result (λ made. made.value ≡ value.now) }
         ensures rows { IfOk result (λ made. made.rows.items ≡ row ∷ []) }
     {
-        let mut rows = Vec::new(alloc);
+        let mut rows = SmallVec::new(alloc);
         rows.push(row)?;
         Ok(ValueRows {
             value: copied(alloc, value)?,
@@ -95,11 +96,19 @@ fn add_to(
 {
     match place_of(groups.as_slice(), value) {
         Some(place) => groups[place].add(row),
-        None => {
-            groups.push(ValueRows::of(alloc, value, row)?)?;
-            Ok(())
-        }
+        None => push_group(groups, ValueRows::of(alloc, value, row)?),
     }
+}
+
+/// Puts a group behind others. Nearly all lists have one or two, and ask for room for no more.
+fn push_group(groups: &mut Vec<ValueRows>, group: ValueRows) -> Result<(), AllocError>
+    ensures { OnOk result (groups.new.items ≡ groups.old.items ++ group ∷ []) }
+{
+    if groups.len() < 2 {
+        groups.reserve_exact(1)?;
+    }
+    groups.push(group)?;
+    Ok(())
 }
 
 /// Adds a row to those of a value, among the groups with its number.

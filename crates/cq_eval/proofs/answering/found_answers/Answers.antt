@@ -2,6 +2,7 @@ use Rattle.std.proofs.Common.{ℕ, List, ◌≡◌, length, sym, ap, subst, ◌�
 use Rattle.std.specs.Prelude.{option_copied, IfOk, IfErr}
 use Rattle.cq_eval.specs.Refused.{TellsOver}
 use Rattle.cq_eval.proofs.Answered.{stand_once}
+use Rattle.cq_eval.proofs.Placed.{answers_ascend}
 use Rattle.cq_eval.proofs.Told as told
 use Rattle.cq_eval.proofs.answering.found_answers.Goals as goal
 
@@ -29,3 +30,6 @@ returns-clause-refused c =
 
 pub returns-clause-once : goal.returns-clause-once
 returns-clause-once c = stand_once c.args.query.now c.args.instance.now.tables c.args.entity
+
+pub returns-clause-ascend : goal.returns-clause-ascend
+returns-clause-ascend c = answers_ascend c.args.query.now c.args.instance.now.tables c.args.entity

@@ -26,11 +26,15 @@ returns-in-Some c =
     (λ value rows. put_into v row groups p new d within before same (value ∙ ap (λ (g : ValueRows). g.value) is) (rows ∙ ap (λ (g : ValueRows). g.rows.items ++ row ∷ []) is))
     c.add.ensures.value c.add.ensures.rows
 
-pub returns-in_ok-push-in-None : goal.returns-in_ok-push-in-None
-returns-in_ok-push-in-None c other =
+pub returns-in_ok-of-in-None : goal.returns-in_ok-of-in-None
+returns-in_ok-of-in-None c =
     let v : Value = c.args.value.now in
     let groups : List ValueRows = c.args.groups.now.items in
+    let group : ValueRows = c.in_ok-of-in-None.field-0 in
     let slice : c.as_slice.result.now ≡ groups = c.as_slice.ensures.value in
     let absent : All (λ (g : ValueRows). same_value g.value v ≡ false) groups = subst (All (λ (g : ValueRows). same_value g.value v ≡ false)) slice (c.in-None.ensures.absent refl) in
-    ap (λ (l : List ValueRows). group_rows l other) c.in_ok-push-in-None.ensures.items
-    ∙ put_behind v c.args.row groups c.in_ok-of-in-None.field-0 absent c.in_ok-of-in-None.ensures.value c.in_ok-of-in-None.ensures.rows other
+    on_ok c.push_group.result (c.push_group.new.groups.items ≡ groups ++ group ∷ []) (c.push_group.new.groups.items ≡ groups ++ group ∷ [])
+    ((other : Value) → group_rows c.push_group.new.groups.items other ≡ group_rows groups other ++ (if same_value v other then c.args.row ∷ [] else []))
+    (λ pushed _ other. ap (λ (l : List ValueRows). group_rows l other) pushed
+    ∙ put_behind v c.args.row groups group absent c.in_ok-of-in-None.ensures.value c.in_ok-of-in-None.ensures.rows other)
+    c.push_group.ensures c.push_group.ensures
