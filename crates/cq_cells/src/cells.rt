@@ -10,10 +10,10 @@ ghost use Rattle.cq_cells.specs.declared.cells.Over.{Over as AnyOver};
 ghost use Rattle.cq_cells.specs.Shown.{Lists, told, trouble_kind};
 
 use crate::faults::{Fault, Faults, Kind};
-use crate::ids::Id;
 use crate::index::Indexed;
 use crate::readings::Reading;
 use cq_base::Source;
+use cq_import::Id;
 use cq_import::columns::Column;
 use cq_import::content::{Content, read_content};
 use cq_import::labels::{Labels, Trouble, note_labels};

@@ -1,68 +1,15 @@
 //! Tables of ids.
-ghost use Rattle.std.specs.Prelude.{ℕ, List, ◌≡◌, [], None, Some, IfOk, is_some, true, nat_eq};
+ghost use Rattle.std.specs.Prelude.{ℕ, List, ◌≡◌, [], None, Some, IfOk, is_some, true};
 ghost use Rattle.std.specs.Map.{lookup};
-ghost use Rattle.std.proofs.Common.{cond, rules};
-ghost use Rattle.std.specs.Hash as fed;
-ghost use Rattle.std.specs.Cmp.Lexicographic.{pointwise, nat_list_eq_equiv};
-ghost use Rattle.std.specs.Cmp.{partial_equiv_from_equiv};
-ghost use Rattle.std.specs.Cmp.Rules.{hashing};
+ghost use Rattle.std.proofs.Common.{cond};
 ghost use Rattle.cq_base.specs.Names.{same_name};
 
 use cq_base::Hashing;
+use cq_import::Id;
 use indexmap::IndexMap;
 use indexmap::map::Entry;
 use std::alloc::{AllocError, Global};
-use std::hash::{Hash, Hasher};
 use std::marker::Model;
-
-/// The id of a record. Contracts see its bytes.
-#[derive(Drop)]
-pub struct Id {
-    bytes: Vec<u8>,
-}
-
-impl Model for Id {
-    ghost use Rattle.std.specs.Prelude.{ℕ, List};
-
-    ghost Value = { List ℕ };
-
-    ghost view = { λ id. id.bytes.items };
-}
-
-impl Id {
-    /// The id with these bytes.
-    pub fn new(alloc: Global, bytes: &[u8]) -> Result<Id, AllocError>
-        ensures { IfOk result (λ id. id ≡ bytes.now) }
-    {
-        Ok(Id {
-            bytes: bytes.to_vec(alloc)?,
-        })
-    }
-}
-
-impl PartialEq for Id {
-    ghost eq = { pointwise nat_eq };
-
-    ghost laws = { partial_equiv_from_equiv nat_list_eq_equiv };
-
-    fn eq(&self, other: &Id) -> bool {
-        self.bytes.as_slice() == other.bytes.as_slice()
-    }
-}
-
-impl Eq for Id {
-    ghost laws = { nat_list_eq_equiv };
-}
-
-impl Hash for Id {
-    ghost hash_input = { λ id. fed.slice fed.u8 id };
-
-    ghost respects_eq = { Prim.search (hashing, rules) };
-
-    fn hash<H: Hasher>(&self, state: &mut H) {
-        self.bytes.as_slice().hash(state);
-    }
-}
 
 /// Ids with the numbers of the records in which they stand first. Contracts see the pairs.
 pub struct Places {

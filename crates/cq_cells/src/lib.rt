@@ -10,7 +10,6 @@ mod folder;
 mod ids;
 mod index;
 mod readings;
-mod records;
 mod rows;
 mod tables;
 

@@ -10,11 +10,12 @@ ghost use Rattle.cq_cells.specs.Readings.{reading_found, text_in};
 ghost use Rattle.cq_cells.specs.Shown.{Lists, listed, told};
 
 use crate::faults::{Fault, Faults, Kind};
-use crate::ids::{Id, Places};
+use crate::ids::Places;
 use crate::index::Indexed;
 use crate::readings::Reading;
-use crate::records::{field, is_row, is_same, next, start};
 use cq_base::{Hashing, Name};
+use cq_import::Id;
+use cq_import::records::{field, is_row, is_same, next, start};
 use csv::{ByteRecord, Reader};
 use std::alloc::{AllocError, Global};
 

@@ -9,8 +9,8 @@ ghost use Rattle.cq_cells.specs.Passes.{IsOver, Passes, sheets_over};
 
 use crate::cells::{Cell, Over, Pass, read_cell};
 use crate::readings::bytes_of;
-use crate::records::{field, next, start};
 use cq_import::columns::Column;
+use cq_import::records::{field, next, start};
 use cq_theory::Schema;
 use csv::{ByteRecord, Reader};
 use std::alloc::AllocError;

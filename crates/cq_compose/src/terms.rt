@@ -3,14 +3,13 @@ ghost use Rattle.std.specs.Prelude.{◌≡◌, ◌++◌, IfOk, OnOk, map};
 ghost use Rattle.std.specs.List.{flat_map};
 ghost use Rattle.cq_query.specs.Puts.{put_type, put_equation};
 ghost use Rattle.cq_query.specs.Translation.{attribute_term};
-ghost use Rattle.cq_query.specs.Duties.{equal_terms};
 ghost use Rattle.cq_compose.specs.Composite.{translated, translated_test};
 ghost use Rattle.cq_compose.specs.Frame.{IsFrame, terms_of};
 
 use crate::frame::{Frame, component_count, make_component};
 use cq_base::Seq;
+use cq_query::push_equal_terms;
 use cq_query::translation::found_term;
-use cq_terms::copy_entity_term;
 use cq_theory::{Con, EntTerm, Equation, TypeTerm};
 use std::alloc::{AllocError, Global};
 
@@ -154,25 +153,6 @@ pub(crate) fn push_put_tests(
 {
     for test in tests {
         made.push(put_test(alloc, frame, at, test)?)?;
-    }
-    Ok(())
-}
-
-/// Appends the equalities of the terms of two lists that stand beside one another.
-fn push_equal_terms(
-    alloc: Global,
-    left: &[EntTerm],
-    right: &[EntTerm],
-    made: &mut Vec<Equation>,
-) -> Result<(), AllocError>
-    ensures { OnOk result (made.new.items ≡ made.old.items ++ equal_terms left.now right.now) }
-{
-    for (place, term) in left.iter().enumerate() {
-        let Some(other) = right.get(place) else {
-            return Ok(());
-        };
-        let term = copy_entity_term(alloc, term)?;
-        made.push(Equation::Ent(term, copy_entity_term(alloc, other)?))?;
     }
     Ok(())
 }

@@ -24,11 +24,12 @@ mod lines;
 mod nulls;
 mod presenting;
 mod presenting_entries;
-mod records;
+pub mod records;
 pub mod refusal;
 mod rows;
 mod tables;
 
+pub use ids::Id;
 pub use importing::import;
 pub use importing_entries::import2;
 pub use refusal::CsvRefusal;

@@ -8,9 +8,9 @@ ghost use Rattle.cq_import.specs.Faults.{Refuses};
 ghost use Rattle.cq_import.specs.Records.{Record, Remains, records_of};
 ghost use Rattle.cq_import.specs.Rows.{rows_of};
 
-use crate::records::{Opened, field, next, open};
+use crate::records::{Opened, field, is_row, is_same, next, open};
 use crate::refusal::CsvRefusal;
-use crate::rows::{bad_header, is_row, is_same, not_csv};
+use crate::rows::{bad_header, not_csv};
 use cq_base::Name;
 use csv::{ByteRecord, Reader};
 use std::alloc::{AllocError, Global};

@@ -1,17 +1,15 @@
 //! The records of an entity's file, before the other files are read.
 ghost use Rattle.std.specs.Prelude.{ℕ, List, ◌≡◌, ◌+◌, ◌<◌, ◌^◌, ◌-◌, ◌++◌, ◌∷◌, [], Some, None, true, not, is_some};
 ghost use Rattle.std.specs.Prelude.{length, drop, IfOk, OnOk, IfErr};
-ghost use Rattle.std.specs.Str.{is_utf8};
 ghost use Rattle.csv.specs.Records.{fields_of};
 ghost use Rattle.cq_base.specs.Names.{number_of};
 ghost use Rattle.cq_import.specs.Faults.{Refuses, NotCsv as NotCsvFault, BadHeader as BadHeaderFault};
 ghost use Rattle.cq_import.specs.Faults.{BadCell as BadCellFault, DoubleId as DoubleIdFault};
 ghost use Rattle.cq_import.specs.Records.{Record, Remains, records_of};
-ghost use Rattle.cq_import.specs.Rows.{id_of, ids_of, is_row as row_is, row_fault, rows_fault, rows_of, same_record};
-ghost use Rattle.cq_import.specs.Rows.{sheet_fault};
+ghost use Rattle.cq_import.specs.Rows.{id_of, ids_of, row_fault, rows_fault, rows_of, sheet_fault};
 
 use crate::ids::{Id, Ids};
-use crate::records::{field, next, open, width};
+use crate::records::{field, is_row, is_same, next, open};
 use crate::refusal::CsvRefusal;
 use cq_base::{Hashing, Name};
 use csv::{ByteRecord, Reader};
@@ -54,45 +52,6 @@ fn double_id(alloc: Global, file: &str, number: u32) -> CsvRefusal
         Ok(file) => CsvRefusal::DoubleId(file, number),
         Err(_) => CsvRefusal::Memory,
     }
-}
-
-/// Whether these are the wanted fields.
-pub fn is_same(fields: &ByteRecord, wanted: &[Name]) -> bool
-    ensures { result ≡ same_record (fields_of fields.now) wanted.now }
-{
-    if width(fields) != wanted.len() {
-        return false;
-    }
-    for (column, name) in wanted.iter().enumerate() {
-        if field(fields, column) != name.as_str().as_bytes() {
-            return false;
-        }
-    }
-    true
-}
-
-fn is_text(bytes: &[u8]) -> bool
-    ensures { result ≡ is_utf8 bytes.now }
-{
-    match str::from_utf8(bytes) {
-        Ok(_) => true,
-        Err(_) => false,
-    }
-}
-
-/// Whether a record has so many fields, each of which is UTF-8.
-pub fn is_row(fields: &ByteRecord, count: usize) -> bool
-    ensures { result ≡ row_is count (fields_of fields.now) }
-{
-    if width(fields) != count {
-        return false;
-    }
-    for column in 0..count {
-        if !is_text(field(fields, column)) {
-            return false;
-        }
-    }
-    true
 }
 
 /// Adds an id, and tells whether it is new.

@@ -199,7 +199,7 @@ fn push_sides(
 }
 
 /// Appends the equalities of the terms of two lists that stand beside one another.
-pub(crate) fn push_equal_terms(
+pub fn push_equal_terms(
     alloc: Global,
     left: &[EntTerm],
     right: &[EntTerm],

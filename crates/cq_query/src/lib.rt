@@ -22,4 +22,5 @@ mod sorts;
 pub mod translation;
 
 pub use cq_blocks::{Block, Clause, QueryParts, parts};
+pub use duties::push_equal_terms;
 pub use query::Query;

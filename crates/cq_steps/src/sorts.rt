@@ -22,7 +22,7 @@ pub fn is_ground(schema: &Schema, presentation: &Presentation, term: Side) -> bo
 }
 
 /// The entity of an entity term.
-pub(crate) fn entity_of(schema: &Schema, generators: &[(Name, Sort)], term: &EntTerm) -> Option<u32>
+pub fn entity_of(schema: &Schema, generators: &[(Name, Sort)], term: &EntTerm) -> Option<u32>
     ensures { result ≡ entity_of_term schema.now generators.now term.now }
 {
     let entity = entity_at(generators, term.generator)?;

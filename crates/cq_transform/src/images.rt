@@ -173,7 +173,7 @@ fn image_from(alloc: Global, schema: &Schema, to: &Firsts, raw: &Raw) -> Result<
 }
 
 /// The image that a part gives, which is there where the parts break no rule.
-fn image_in(
+pub fn image_in(
     alloc: Global,
     schema: &Schema,
     to: &Firsts,

@@ -26,6 +26,8 @@ pub mod transforming;
 
 pub use composing::{compose, rows_at, value_then};
 pub use identities::identity;
+pub use images::image_in;
+pub use putting::{put_row, put_value};
 pub use refusal::TransformRefusal;
 pub use sizes::is_long;
 pub use transforming::{transform, transform_of_images};

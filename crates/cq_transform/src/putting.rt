@@ -10,7 +10,7 @@ use cq_theory::{Con, EntTerm, TypeTerm, alone, extend};
 use std::alloc::{AllocError, Global};
 
 /// An entity term with the image of its generator in the generator's place.
-fn put_row(alloc: Global, images: &[Image], term: &EntTerm) -> Result<EntTerm, AllocError>
+pub fn put_row(alloc: Global, images: &[Image], term: &EntTerm) -> Result<EntTerm, AllocError>
     ensures { IfOk result (λ made. made ≡ row_put images.now term.now) }
 {
     match images.get(term.generator as usize) {
@@ -32,7 +32,7 @@ fn value_at(alloc: Global, images: &[Image], generator: u32) -> Result<TypeTerm,
 }
 
 /// A type term with the image of each generator in the generator's place.
-fn put_value(alloc: Global, images: &[Image], term: &TypeTerm) -> Result<TypeTerm, AllocError>
+pub fn put_value(alloc: Global, images: &[Image], term: &TypeTerm) -> Result<TypeTerm, AllocError>
     ensures { IfOk result (λ made. made ≡ value_put images.now term.now) }
 {
     match term {

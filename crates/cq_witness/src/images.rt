@@ -1,21 +1,17 @@
 //! The images of generators by the parts of a transform, and the image of an equation by them.
-ghost use Rattle.std.specs.Prelude.{◌≡◌, ◌≤◌, ◌<◌, IfOk, MatchOption, length, option_and_then, option_copied};
+ghost use Rattle.std.specs.Prelude.{◌≡◌, ◌≤◌, ◌<◌, IfOk, MatchOption, length, option_and_then};
 ghost use Rattle.std.specs.Prelude.{slice_get};
 ghost use Rattle.cq_base.specs.Names.{number_of};
 ghost use Rattle.cq_scope.specs.Firsts.{AreFirstsOf};
-ghost use Rattle.cq_terms.specs.Generators.{names_of, sorts_of};
-ghost use Rattle.cq_theory.specs.Resolved.{resolved};
 ghost use Rattle.cq_theory.specs.Sorts.{Generators};
-ghost use Rattle.cq_transform.specs.Composing.{value_term, put_row as row_put, put_value as value_put};
-ghost use Rattle.cq_transform.specs.Images.{given, image_in as image_by, image_named, image_of as image_of_term};
-ghost use Rattle.cq_transform.specs.Images.{images_made, made_over, scope_of};
+ghost use Rattle.cq_transform.specs.Images.{given, image_named, images_made, made_over, scope_of};
 ghost use Rattle.cq_witness.specs.Images.{put_equation as equation_put, parts_as_generators};
 
-use cq_base::{Name, Raw, Seq};
+use cq_base::{Name, Raw};
 use cq_instance::{Image, Instance};
-use cq_scope::{Firsts, build_over, firsts_of};
-use cq_terms::copy_type_term;
-use cq_theory::{Con, EntTerm, Equation, Path, Schema, Sort, Term, TypeTerm, alone, extend};
+use cq_scope::{Firsts, firsts_of};
+use cq_theory::{Equation, Schema, Sort};
+use cq_transform::{image_in, put_row, put_value};
 use std::alloc::{AllocError, Global};
 
 /// The most parts of which names are looked up.
@@ -39,44 +35,6 @@ fn number_beside(firsts: &Firsts, name: &Name) -> Option<u32>
     match firsts.scope.names.find(name) {
         Some(place) => firsts.numbers.as_slice().get(place as usize).copied(),
         None => None,
-    }
-}
-
-/// A term as an image.
-fn image_of(term: Term) -> Image
-    ensures { result ≡ image_of_term term }
-{
-    match term {
-        Term::Ent(term) => Image::Row(term),
-        Term::Typ(term) => Image::Value(term),
-    }
-}
-
-/// The image that a raw term gives.
-fn image_from(alloc: Global, schema: &Schema, to: &Firsts, raw: &Raw) -> Result<Image, AllocError>
-    ensures { (H : Generators) → AreFirstsOf H to.now
-        → IfOk result (λ made. made ≡ image_of_term (resolved schema.now (names_of H) (sorts_of H) raw.now)) }
-{
-    let term = build_over(alloc, schema, to, raw)?;
-    Ok(image_of(term))
-}
-
-/// The image that a part gives, which is there where the parts break no rule.
-fn image_in(
-    alloc: Global,
-    schema: &Schema,
-    to: &Firsts,
-    part: Option<&(Name, Raw)>,
-) -> Result<Image, AllocError>
-    ensures { (H : Generators) → AreFirstsOf H to.now
-        → IfOk result (λ made. made ≡ image_by schema.now (scope_of H) (option_copied part.entry)) }
-{
-    match part {
-        Some(part) => image_from(alloc, schema, to, &part.1),
-        None => Ok(Image::Row(EntTerm {
-            generator: 0,
-            path: Path::empty(),
-        })),
     }
 }
 
@@ -163,48 +121,6 @@ pub fn images_of(
     };
     let images = make_images(alloc, &giving, generators_of(start))?;
     Ok(Some(images))
-}
-
-/// An entity term with the image of its generator in the generator's place.
-fn put_row(alloc: Global, images: &[Image], term: &EntTerm) -> Result<EntTerm, AllocError>
-    ensures { IfOk result (λ made. made ≡ row_put images.now term.now) }
-{
-    match images.get(term.generator as usize) {
-        Some(Image::Row(at)) => extend(alloc, at, term.path.as_slice()),
-        Some(Image::Value(_)) => extend(alloc, &alone(alloc, 0), term.path.as_slice()),
-        None => extend(alloc, &alone(alloc, 0), term.path.as_slice()),
-    }
-}
-
-/// The term to which a generator of a type is sent, and a constant where there is none.
-fn value_at(alloc: Global, images: &[Image], generator: u32) -> Result<TypeTerm, AllocError>
-    ensures { IfOk result (λ made. made ≡ value_term (slice_get images.now generator)) }
-{
-    match images.get(generator as usize) {
-        Some(Image::Value(term)) => copy_type_term(alloc, term),
-        Some(Image::Row(_)) => Ok(TypeTerm::Const(Con::Named(0))),
-        None => Ok(TypeTerm::Const(Con::Named(0))),
-    }
-}
-
-/// A type term with the image of each generator in the generator's place.
-fn put_value(alloc: Global, images: &[Image], term: &TypeTerm) -> Result<TypeTerm, AllocError>
-    ensures { IfOk result (λ made. made ≡ value_put images.now term.now) }
-{
-    match term {
-        TypeTerm::Gen(generator) => value_at(alloc, images, *generator),
-        TypeTerm::Const(constant) => Ok(TypeTerm::Const(constant.clone()?)),
-        TypeTerm::Att(attribute, term) => {
-            Ok(TypeTerm::Att(*attribute, put_row(alloc, images, term)?))
-        }
-        TypeTerm::Fun(function, args) => {
-            let mut made = Vec::new(alloc);
-            for arg in args.as_slice() {
-                made.push(put_value(alloc, images, arg)?)?;
-            }
-            Ok(TypeTerm::Fun(*function, Seq::from_vec(made)))
-        }
-    }
 }
 
 /// An equation with the image of each generator in the generator's place.

@@ -1,9 +1,8 @@
 //! What the two sides of an equation lead to in an instance.
-ghost use Rattle.std.specs.Prelude.{◌≡◌, ◌++◌, true, IfOk, MatchOption, OnOk, slice_get};
+ghost use Rattle.std.specs.Prelude.{◌≡◌, ◌++◌, true, IfOk, MatchOption, OnOk};
 ghost use Rattle.cq_explain.specs.Explanation.{ent_text};
 ghost use Rattle.cq_theory.specs.Derivation.{left_of, right_of};
-ghost use Rattle.cq_theory.specs.Sorts.{entity_at as entity_of_generator, entity_of as entity_of_term};
-ghost use Rattle.cq_theory.specs.Sorts.{followed as followed_by, target_of as target_by, IsGround};
+ghost use Rattle.cq_theory.specs.Sorts.{entity_of as entity_of_term, IsGround};
 ghost use Rattle.cq_theory.specs.Tables.{value_of as value_meant};
 ghost use Rattle.cq_theory.specs.ValueText.{is_named, value_text};
 ghost use Rattle.cq_theory.specs.declared.term.Term.TheVariants.{Ent, Typ};
@@ -14,55 +13,18 @@ use crate::terms::append_entity_term;
 use cq_base::Name;
 use cq_instance::Instance;
 use cq_steps::side::Side;
-use cq_steps::sorts::is_ground;
+use cq_steps::sorts::{entity_of, is_ground};
 use cq_terms::is_same_value;
 use cq_theory::value_text::push_value;
-use cq_theory::{Edge, EntTerm, Equation, Sort, TypeTerm, Value};
+use cq_theory::{EntTerm, Equation, Schema, TypeTerm, Value};
 use std::alloc::{AllocError, Global};
 
-/// The entity of a generator.
-fn entity_at(generators: &[(Name, Sort)], number: u32) -> Option<u32>
-    ensures { result ≡ entity_of_generator (slice_get generators.now number) }
-{
-    match generators.get(number as usize)?.1 {
-        Sort::Plain(_) => None,
-        Sort::Entity(entity) => Some(entity),
-    }
-}
-
-/// Where a foreign key leads from an entity.
-fn followed(edges: &[Edge], number: u32, entity: u32) -> Option<u32>
-    ensures { result ≡ followed_by (slice_get edges.now number) entity }
-{
-    let edge = edges.get(number as usize)?;
-    if edge.from == entity {
-        Some(edge.to)
-    } else {
-        None
-    }
-}
-
-/// Where the foreign keys of a path lead from an entity.
-fn target_of(keys: &[Edge], path: &[u32], entity: u32) -> Option<u32>
-    ensures { result ≡ target_by keys.now path.now entity }
-{
-    let mut here = entity;
-    for key in path {
-        here = followed(keys, *key, here)?;
-    }
-    Some(here)
-}
-
 /// The entity of a term over the instance's presentation.
-fn entity_of(instance: &Instance, term: &EntTerm) -> Option<u32>
+fn entity_in(instance: &Instance, term: &EntTerm) -> Option<u32>
     ensures { result ≡ entity_of_term instance.now.schema instance.now.presentation.generators term.now }
 {
-    let schema = instance.schema();
-    let entity = entity_at(
-        instance.presentation().generators.as_slice(),
-        term.generator,
-    )?;
-    target_of(schema.keys.as_slice(), term.path.as_slice(), entity)
+    let schema: &Schema = instance.schema();
+    entity_of(schema, instance.presentation().generators.as_slice(), term)
 }
 
 /// The least name of the row to which a term leads. None exactly where it is no term over the instance's presentation.
@@ -72,7 +34,7 @@ fn row_name<'a>(instance: &'a Instance, term: &EntTerm) -> Option<&'a EntTerm>
         × (name.now ≡ name_of_row instance.now term.now)) }
 {
     instance.is_instance();
-    let Some(entity) = entity_of(instance, term) else {
+    let Some(entity) = entity_in(instance, term) else {
         return None;
     };
     let row = instance.row_of(term);

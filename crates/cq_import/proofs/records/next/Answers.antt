@@ -1,4 +1,3 @@
-use Rattle.std.proofs.Common.{◌≡◌, true}
 use Rattle.csv.specs.Records.{fields_of}
 use Rattle.cq_import.proofs.Reading.{steps}
 use Rattle.cq_import.proofs.records.next.Goals as goal
