@@ -1,5 +1,5 @@
 //! The declared names in order, and what they stand for.
-ghost use Rattle.std.specs.Prelude.{◌≡◌, ◌++◌, ◌∷◌, [], Some, IfOk, OnErr, OnOk, option_map};
+ghost use Rattle.std.specs.Prelude.{◌≡◌, ◌++◌, ◌∷◌, [], Some, None, IfOk, IfErr, OnErr, OnOk, option_map};
 ghost use Rattle.cq_environment.specs.Meanings.{meant_by, moved_under, typeside, typeside_used, schema_used};
 ghost use Rattle.cq_environment.specs.Environment.{Answers, environment_of, meant, schema_meant};
 ghost use Rattle.cq_environment.specs.declared.reason.ProgramRefusal.TheVariants.{Broken};
@@ -181,6 +181,19 @@ impl Environment {
         }
     }
 
+    /// What a used name stands for; `NameUnknown`, where it isn't declared.
+    pub fn find_used(&self, used: &Spot) -> Result<&Meaning, ProgramRefusal>
+        ensures declared { IfOk result (λ meaning. meant_by (environment_of self.now.names.entries) used.now.name
+            ≡ Some (meant meaning.now)) }
+        ensures unknown { IfErr result (λ refusal. (refusal ≡ Broken used.now.place NameUnknown)
+            × (meant_by (environment_of self.now.names.entries) used.now.name ≡ None)) }
+    {
+        match self.find(&used.name) {
+            Some(meaning) => Ok(meaning),
+            None => Err(tell_unknown(used)),
+        }
+    }
+
     /// The typeside for which a used name stands.
     pub fn typeside(&self, used: &Spot) -> Result<Rc<Typeside>, ProgramRefusal>
         ensures answers { Answers (λ typeside. typeside.value) result
@@ -188,15 +201,9 @@ impl Environment {
         ensures meant { IfOk result (λ found. meant_by (environment_of self.now.names.entries) used.now.name
             ≡ Some (typeside found.value)) }
     {
-        match self.find(&used.name) {
-            None => Err(unknown(used)),
-            Some(Meaning::Typeside(typeside)) => Ok(typeside.clone()?),
-            Some(Meaning::Schema(_)) => Err(wrong_kind(used)),
-            Some(Meaning::Colimit(_)) => Err(wrong_kind(used)),
-            Some(Meaning::Mapping(_, _, _)) => Err(wrong_kind(used)),
-            Some(Meaning::Query(_, _, _)) => Err(wrong_kind(used)),
-            Some(Meaning::Instance(_, _)) => Err(wrong_kind(used)),
-            Some(Meaning::Transform(_)) => Err(wrong_kind(used)),
+        match self.find_used(used)? {
+            Meaning::Typeside(typeside) => Ok(typeside.clone()?),
+            _ => Err(tell_wrong_kind(used)),
         }
     }
 
@@ -204,15 +211,10 @@ impl Environment {
     pub fn schema(&self, used: &Spot) -> Result<NamedSchema, ProgramRefusal>
         ensures { Answers schema_meant result (schema_used (environment_of self.now.names.entries) used.now) }
     {
-        match self.find(&used.name) {
-            None => Err(unknown(used)),
-            Some(Meaning::Typeside(_)) => Err(wrong_kind(used)),
-            Some(Meaning::Schema(named)) => Ok(copy_named(named)?),
-            Some(Meaning::Colimit(named)) => Ok(copy_named(&named.schema)?),
-            Some(Meaning::Mapping(_, _, _)) => Err(wrong_kind(used)),
-            Some(Meaning::Query(_, _, _)) => Err(wrong_kind(used)),
-            Some(Meaning::Instance(_, _)) => Err(wrong_kind(used)),
-            Some(Meaning::Transform(_)) => Err(wrong_kind(used)),
+        match self.find_used(used)? {
+            Meaning::Schema(named) => Ok(copy_named(named)?),
+            Meaning::Colimit(named) => Ok(copy_named(&named.schema)?),
+            _ => Err(tell_wrong_kind(used)),
         }
     }
 
@@ -253,14 +255,14 @@ pub fn copy_named(named: &NamedSchema) -> Result<NamedSchema, AllocError>
 }
 
 /// The refusal that a used name isn't declared.
-pub fn unknown(used: &Spot) -> ProgramRefusal
+fn tell_unknown(used: &Spot) -> ProgramRefusal
     ensures { result ≡ Broken used.now.place NameUnknown }
 {
     ProgramRefusal::Broken(used.place, Reason::NameUnknown)
 }
 
 /// The refusal that a used name stands for something of another kind.
-pub fn wrong_kind(used: &Spot) -> ProgramRefusal
+pub fn tell_wrong_kind(used: &Spot) -> ProgramRefusal
     ensures { result ≡ Broken used.now.place WrongKind }
 {
     ProgramRefusal::Broken(used.place, Reason::WrongKind)

@@ -16,7 +16,7 @@ impl Environment {
     pub fn make_used(&mut self, alloc: Global, body: &Body) -> Result<(), AllocError>
         ensures { environment_of self.new.names.entries ≡ environment_of self.old.names.entries }
     {
-        match used_query(body) {
+        match find_query(body) {
             Some(used) => keep_made(alloc, self, &used.name),
             None => Ok(()),
         }
@@ -24,7 +24,7 @@ impl Environment {
 }
 
 /// The name that a declaration uses as that of a query, if it may be one.
-fn used_query(body: &Body) -> Option<&Spot> {
+fn find_query(body: &Body) -> Option<&Spot> {
     match body {
         Body::Instance(InstanceExp::Eval(used, _)) => Some(used),
         Body::Instance(InstanceExp::Coeval(used, _)) => Some(used),
@@ -37,7 +37,7 @@ fn used_query(body: &Body) -> Option<&Spot> {
 fn keep_made(alloc: Global, env: &mut Environment, name: &Name) -> Result<(), AllocError>
     ensures { environment_of env.new.names.entries ≡ environment_of env.old.names.entries }
 {
-    match made_under(alloc, env, name)? {
+    match make_under(alloc, env, name)? {
         Some(bound) => replace(alloc, env, name, bound),
         None => Ok(()),
     }
@@ -61,7 +61,7 @@ fn replace(
 }
 
 /// The made query of a name for which one stands that isn't made.
-fn made_under(alloc: Global, env: &Environment, name: &Name) -> Result<Option<Bound>, AllocError>
+fn make_under(alloc: Global, env: &Environment, name: &Name) -> Result<Option<Bound>, AllocError>
     ensures { IfOk result (λ found. IfSome found (λ bound.
         (meant_by (environment_of env.now.names.entries) name.now ≡ Some (meant bound.meaning))
         × (moved_under (environment_of env.now.names.entries) name.now ≡ bound.moved))) }
@@ -81,24 +81,19 @@ fn bound_of(alloc: Global, meaning: &Meaning) -> Result<Option<Bound>, AllocErro
         × (bound.moved ≡ None))) }
 {
     match meaning {
-        Meaning::Query(source, target, query) => match made_query(alloc, query)? {
+        Meaning::Query(source, target, query) => match make_query(alloc, query)? {
             Some(query) => Ok(Some(Bound {
                 meaning: Meaning::Query(source.clone()?, target.clone()?, query),
                 moved: None,
             })),
             None => Ok(None),
         },
-        Meaning::Typeside(_) => Ok(None),
-        Meaning::Schema(_) => Ok(None),
-        Meaning::Colimit(_) => Ok(None),
-        Meaning::Mapping(_, _, _) => Ok(None),
-        Meaning::Instance(_, _) => Ok(None),
-        Meaning::Transform(_) => Ok(None),
+        _ => Ok(None),
     }
 }
 
 /// The query made, if it isn't.
-fn made_query(alloc: Global, query: &LazyQuery) -> Result<Option<Rc<LazyQuery>>, AllocError>
+fn make_query(alloc: Global, query: &LazyQuery) -> Result<Option<Rc<LazyQuery>>, AllocError>
     ensures { IfOk result (λ found. IfSome found (λ made. made.value ≡ query.now)) }
 {
     if query.is_made() {

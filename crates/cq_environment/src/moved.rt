@@ -55,33 +55,24 @@ pub fn moved_of(body: &Body) -> Result<Option<Moved>, AllocError>
     ensures { IfOk result (λ moved. moved ≡ declared_by body.now) }
 {
     match body {
-        Body::Typeside(_) => Ok(None),
-        Body::Schema(_) => Ok(None),
-        Body::Colimit(_) => Ok(None),
-        Body::Mapping(_) => Ok(None),
-        Body::Query(_) => Ok(None),
-        Body::Instance(expression) => moved_in(expression),
-        Body::Transform(_) => Ok(None),
+        Body::Instance(expression) => moved_of_instance(expression),
+        _ => Ok(None),
     }
 }
 
-fn moved_in(expression: &InstanceExp) -> Result<Option<Moved>, AllocError>
+fn moved_of_instance(expression: &InstanceExp) -> Result<Option<Moved>, AllocError>
     ensures { IfOk result (λ moved. moved ≡ declared_by (Instanced expression.now)) }
 {
     match expression {
-        InstanceExp::Literal(_) => Ok(None),
-        InstanceExp::Delta(along, used) => moved_by(Operation::Delta, along, used),
-        InstanceExp::Sigma(along, used) => moved_by(Operation::Sigma, along, used),
-        InstanceExp::Eval(along, used) => moved_by(Operation::Eval, along, used),
-        InstanceExp::Coeval(along, used) => moved_by(Operation::Coeval, along, used),
-        InstanceExp::Coproduct(_, _) => Ok(None),
-        InstanceExp::Pushout(_, _) => Ok(None),
-        InstanceExp::ImportCsv(_, _, _) => Ok(None),
-        InstanceExp::ImportCsv2(_, _, _) => Ok(None),
+        InstanceExp::Delta(along, used) => name_moved(Operation::Delta, along, used),
+        InstanceExp::Sigma(along, used) => name_moved(Operation::Sigma, along, used),
+        InstanceExp::Eval(along, used) => name_moved(Operation::Eval, along, used),
+        InstanceExp::Coeval(along, used) => name_moved(Operation::Coeval, along, used),
+        _ => Ok(None),
     }
 }
 
-fn moved_by(operation: Operation, along: &Spot, used: &Spot) -> Result<Option<Moved>, AllocError>
+fn name_moved(operation: Operation, along: &Spot, used: &Spot) -> Result<Option<Moved>, AllocError>
     ensures { IfOk result (λ moved. moved ≡ Some
         (record { operation = operation; along = along.now.name; operand = used.now.name })) }
 {

@@ -5,8 +5,7 @@ ghost use Rattle.cq_environment.specs.Environment.{Answers, colimit_meant, ends_
 ghost use Rattle.cq_environment.specs.Environment.{mapping_meant, query_meant, transform_meant};
 
 use crate::environment::{
-    Environment, Meaning, NamedColimit, NamedEnds, NamedInstance, NamedTransform, unknown,
-    wrong_kind,
+    Environment, Meaning, NamedColimit, NamedEnds, NamedInstance, NamedTransform, tell_wrong_kind,
 };
 use crate::reason::ProgramRefusal;
 use cq_base::Name;
@@ -38,17 +37,9 @@ pub struct NamedQuery {
 pub fn mapping_of(env: &Environment, used: &Spot) -> Result<NamedMapping, ProgramRefusal>
     ensures { Answers mapping_meant result (mapping_used (environment_of env.now.names.entries) used.now) }
 {
-    match env.find(&used.name) {
-        None => Err(unknown(used)),
-        Some(Meaning::Typeside(_)) => Err(wrong_kind(used)),
-        Some(Meaning::Schema(_)) => Err(wrong_kind(used)),
-        Some(Meaning::Colimit(_)) => Err(wrong_kind(used)),
-        Some(Meaning::Mapping(source, target, mapping)) => {
-            Ok(named_mapping(source, target, mapping)?)
-        }
-        Some(Meaning::Query(_, _, _)) => Err(wrong_kind(used)),
-        Some(Meaning::Instance(_, _)) => Err(wrong_kind(used)),
-        Some(Meaning::Transform(_)) => Err(wrong_kind(used)),
+    match env.find_used(used)? {
+        Meaning::Mapping(source, target, mapping) => Ok(name_mapping(source, target, mapping)?),
+        _ => Err(tell_wrong_kind(used)),
     }
 }
 
@@ -58,15 +49,9 @@ pub fn colimit_of<'a>(env: &'a Environment, used: &Spot) -> Result<&'a NamedColi
     ensures { Answers (λ found. colimit_meant found.now) result
         (colimit_used (environment_of env.now.names.entries) used.now) }
 {
-    match env.find(&used.name) {
-        None => Err(unknown(used)),
-        Some(Meaning::Typeside(_)) => Err(wrong_kind(used)),
-        Some(Meaning::Schema(_)) => Err(wrong_kind(used)),
-        Some(Meaning::Colimit(found)) => Ok(found),
-        Some(Meaning::Mapping(_, _, _)) => Err(wrong_kind(used)),
-        Some(Meaning::Query(_, _, _)) => Err(wrong_kind(used)),
-        Some(Meaning::Instance(_, _)) => Err(wrong_kind(used)),
-        Some(Meaning::Transform(_)) => Err(wrong_kind(used)),
+    match env.find_used(used)? {
+        Meaning::Colimit(found) => Ok(found),
+        _ => Err(tell_wrong_kind(used)),
     }
 }
 
@@ -75,15 +60,9 @@ pub fn colimit_of<'a>(env: &'a Environment, used: &Spot) -> Result<&'a NamedColi
 pub fn query_of(env: &Environment, used: &Spot) -> Result<NamedQuery, ProgramRefusal>
     ensures { Answers query_meant result (query_used (environment_of env.now.names.entries) used.now) }
 {
-    match env.find(&used.name) {
-        None => Err(unknown(used)),
-        Some(Meaning::Typeside(_)) => Err(wrong_kind(used)),
-        Some(Meaning::Schema(_)) => Err(wrong_kind(used)),
-        Some(Meaning::Colimit(_)) => Err(wrong_kind(used)),
-        Some(Meaning::Mapping(_, _, _)) => Err(wrong_kind(used)),
-        Some(Meaning::Query(source, target, query)) => Ok(named_query(source, target, query)?),
-        Some(Meaning::Instance(_, _)) => Err(wrong_kind(used)),
-        Some(Meaning::Transform(_)) => Err(wrong_kind(used)),
+    match env.find_used(used)? {
+        Meaning::Query(source, target, query) => Ok(name_query(source, target, query)?),
+        _ => Err(tell_wrong_kind(used)),
     }
 }
 
@@ -92,15 +71,9 @@ pub fn query_of(env: &Environment, used: &Spot) -> Result<NamedQuery, ProgramRef
 pub fn instance_of(env: &Environment, used: &Spot) -> Result<NamedInstance, ProgramRefusal>
     ensures { Answers instance_meant result (instance_used (environment_of env.now.names.entries) used.now) }
 {
-    match env.find(&used.name) {
-        None => Err(unknown(used)),
-        Some(Meaning::Typeside(_)) => Err(wrong_kind(used)),
-        Some(Meaning::Schema(_)) => Err(wrong_kind(used)),
-        Some(Meaning::Colimit(_)) => Err(wrong_kind(used)),
-        Some(Meaning::Mapping(_, _, _)) => Err(wrong_kind(used)),
-        Some(Meaning::Query(_, _, _)) => Err(wrong_kind(used)),
-        Some(Meaning::Instance(schema, instance)) => Ok(named_instance(schema, instance)?),
-        Some(Meaning::Transform(_)) => Err(wrong_kind(used)),
+    match env.find_used(used)? {
+        Meaning::Instance(schema, instance) => Ok(name_instance(schema, instance)?),
+        _ => Err(tell_wrong_kind(used)),
     }
 }
 
@@ -109,19 +82,13 @@ pub fn instance_of(env: &Environment, used: &Spot) -> Result<NamedInstance, Prog
 pub fn transform_of(env: &Environment, used: &Spot) -> Result<NamedTransform, ProgramRefusal>
     ensures { Answers transform_meant result (transform_used (environment_of env.now.names.entries) used.now) }
 {
-    match env.find(&used.name) {
-        None => Err(unknown(used)),
-        Some(Meaning::Typeside(_)) => Err(wrong_kind(used)),
-        Some(Meaning::Schema(_)) => Err(wrong_kind(used)),
-        Some(Meaning::Colimit(_)) => Err(wrong_kind(used)),
-        Some(Meaning::Mapping(_, _, _)) => Err(wrong_kind(used)),
-        Some(Meaning::Query(_, _, _)) => Err(wrong_kind(used)),
-        Some(Meaning::Instance(_, _)) => Err(wrong_kind(used)),
-        Some(Meaning::Transform(named)) => Ok(copy_transform(named)?),
+    match env.find_used(used)? {
+        Meaning::Transform(named) => Ok(copy_transform(named)?),
+        _ => Err(tell_wrong_kind(used)),
     }
 }
 
-fn named_mapping(
+fn name_mapping(
     source: &Name,
     target: &Name,
     mapping: &Rc<Mapping>,
@@ -136,11 +103,7 @@ fn named_mapping(
     })
 }
 
-fn named_query(
-    source: &Name,
-    target: &Name,
-    query: &Rc<LazyQuery>,
-) -> Result<NamedQuery, AllocError>
+fn name_query(source: &Name, target: &Name, query: &Rc<LazyQuery>) -> Result<NamedQuery, AllocError>
     ensures { IfOk result (λ named. query_meant named
         ≡ record { source = source.now; target = target.now; query = query.now.value }) }
 {
@@ -151,7 +114,7 @@ fn named_query(
     })
 }
 
-fn named_instance(schema: &Name, instance: &Rc<Instance>) -> Result<NamedInstance, AllocError>
+fn name_instance(schema: &Name, instance: &Rc<Instance>) -> Result<NamedInstance, AllocError>
     ensures { IfOk result (λ named. instance_meant named
         ≡ record { schema = schema.now; instance = instance.now.value }) }
 {
@@ -165,7 +128,7 @@ fn named_instance(schema: &Name, instance: &Rc<Instance>) -> Result<NamedInstanc
 pub fn copy_instance(named: &NamedInstance) -> Result<NamedInstance, AllocError>
     ensures { IfOk result (λ copy. instance_meant copy ≡ instance_meant named.now) }
 {
-    named_instance(&named.schema, &named.instance)
+    name_instance(&named.schema, &named.instance)
 }
 
 fn copy_ends(ends: &NamedEnds) -> Result<NamedEnds, AllocError>

@@ -33,7 +33,7 @@ use Rattle.cq_theory.specs.Tables.{Tables, IsWellFormed}
 use Rattle.cq_environment.specs.declared.reason.Reason.TheVariants as reason
 use Rattle.cq_environment.specs.declared.reason.ProgramRefusal.{ProgramRefusal}
 use Rattle.cq_environment.specs.declared.reason.ProgramRefusal.TheVariants as program_refusal
-use Rattle.cq_program.specs.Checks.{a_made}
+use Rattle.cq_program.specs.Posed.{a_made}
 use Rattle.cq_environment.specs.Environment.{IsTermModel}
 use Rattle.cq_program.specs.Judging.{IsAnswerOf, TellsConstants, Withholds}
 use Rattle.cq_program.specs.Program.{IsModelOf}

@@ -23,7 +23,8 @@ use Rattle.cq_program.specs.declared.colimits.stating.UsedSchema.{UsedSchema}
 use Rattle.cq_environment.specs.declared.environment.NamedPart.{NamedPart}
 use Rattle.cq_environment.specs.declared.reason.ProgramRefusal.{ProgramRefusal}
 use Rattle.cq_environment.specs.Meanings.{ColimitMeant, Environment, PartMeant, SchemaMeant, colimit, colimit_used, meant_by, schema, schema_used, typeside}
-use Rattle.cq_program.specs.Checks.{a_colimit, a_schema, colimit_breach, colimit_given, colimit_of, first_apart, included, named_schemas, part_named, parts_used, posed_colimit}
+use Rattle.cq_program.specs.Posed.{a_colimit, a_schema}
+use Rattle.cq_program.specs.Colimits.{colimit_breach, colimit_given, colimit_of, first_apart, included, named_schemas, part_named, parts_used, posed_colimit}
 use Rattle.cq_environment.specs.Environment.{AreSettled, IsPartPrinted, IsPartSettled, IsPrinted, IsSettled, Refuses, Tells, part_meant}
 use Rattle.cq_program.specs.Views.{used_meant, useds_meant}
 use Rattle.cq_parts.specs.Parts.{colimit_parts, colimit_places, observation_part, path_eq_part}

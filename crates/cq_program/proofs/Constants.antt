@@ -31,7 +31,7 @@ use Rattle.cq_environment.specs.declared.reason.Reason.TheVariants.{Inconsistent
 use Rattle.cq_program.specs.Program.{TellsClash}
 use Rattle.cq_base.specs.declared.name.Name.{Name}
 use Rattle.cq_base.specs.declared.place.Place.{Place}
-use Rattle.cq_program.specs.Checks.{a_presentation}
+use Rattle.cq_program.specs.Posed.{a_presentation}
 use Rattle.cq_program.specs.Judging.{TellsConstants, Withholds}
 use Rattle.cq_environment.specs.declared.reason.ProgramRefusal.{ProgramRefusal}
 use Rattle.cq_environment.specs.declared.reason.ProgramRefusal.TheVariants as program_refusal

@@ -13,7 +13,8 @@ use Rattle.cq_environment.specs.declared.reason.ProgramRefusal.TheVariants as pr
 use Rattle.cq_environment.specs.declared.reason.ReadCause.{ReadCause}
 use Rattle.cq_environment.specs.declared.reason.ReadCause.TheVariants.{Absent, TooLong, Failed}
 use Rattle.cq_environment.specs.Meanings.{Environment, Meant, binding}
-use Rattle.cq_program.specs.Checks.{Posed, Stated, stated_by}
+use Rattle.cq_program.specs.Posed.{Posed}
+use Rattle.cq_program.specs.Checks.{Stated, stated_by}
 use Rattle.cq_program.specs.Folders.{Told, Reads, LacksFile, Raised}
 use Rattle.cq_environment.specs.Environment.{Refuses}
 use Rattle.cq_program.specs.Program.{Breach, by_rule, by_fault, by_failure, by_limit, Follow}

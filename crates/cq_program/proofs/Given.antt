@@ -6,7 +6,7 @@ use Rattle.cq_environment.specs.declared.reason.Reason.{Reason}
 use Rattle.cq_environment.specs.declared.reason.ProgramRefusal.{ProgramRefusal}
 use Rattle.cq_environment.specs.declared.reason.ProgramRefusal.TheVariants as program_refusal
 use Rattle.cq_environment.specs.Meanings.{Checked, and_then}
-use Rattle.cq_program.specs.Checks.{broken_or, of_parts}
+use Rattle.cq_program.specs.Posed.{broken_or, of_parts}
 use Rattle.cq_environment.specs.Environment.{Refuses, Tells}
 
 -- the parts break no rule

@@ -23,7 +23,8 @@ use Rattle.cq_environment.specs.declared.reason.ProgramRefusal.{ProgramRefusal}
 use Rattle.cq_environment.specs.declared.reason.Reason.TheVariants.{WrongSchema}
 use Rattle.cq_program.specs.declared.statement.Statement.{Statement}
 use Rattle.cq_environment.specs.Meanings.{Checked, Ends, Environment, InstanceMeant, and_then, instance_used}
-use Rattle.cq_program.specs.Checks.{Posed, a_transform, arrow_breach, ends_of, images_given, images_posed, transform_between, transform_posed}
+use Rattle.cq_program.specs.Posed.{Posed, a_transform, arrow_breach}
+use Rattle.cq_program.specs.Transforms.{ends_of, images_given, images_posed, transform_between, transform_posed}
 use Rattle.cq_environment.specs.Environment.{Answers, AreEnds, IsTermModel, Refuses, Tells}
 use Rattle.cq_program.specs.Images.{broken_by_images, rule_on_images}
 use Rattle.cq_parts.specs.Parts.{transform_count, transform_parts, transform_places}

@@ -17,9 +17,10 @@ use Rattle.cq_environment.specs.Moves.{moved_by, moved_of}
 use Rattle.cq_environment.specs.Meanings.{Checked, Environment, InstanceMeant, MappingMeant, Meant, QueryMeant, and_then, binding}
 use Rattle.cq_environment.specs.Meanings.{typeside, schema, colimit, mapping, query, instance, transform, instance_used, mapping_used, query_used}
 use Rattle.cq_environment.specs.Routes.{by_sigma, by_delta, by_eval, by_coeval}
-use Rattle.cq_program.specs.Checks.{Posed, Stated, at_once, body_stated}
-use Rattle.cq_program.specs.Checks.{a_typeside, a_schema, a_mapping, an_identity, a_colimit, an_inclusion, a_query, a_composite, a_mapping_query, a_presentation, a_made, a_delta, an_eval, a_transform, a_move}
-use Rattle.cq_program.specs.Checks.{delta_between, delta_posed, sigma_between, sigma_posed, eval_between, eval_posed, coeval_between, coeval_posed}
+use Rattle.cq_program.specs.Posed.{Posed, a_typeside, a_schema, a_mapping, an_identity, a_colimit, an_inclusion, a_query, a_composite, a_mapping_query, a_presentation, a_made, a_delta, an_eval, a_transform, a_move}
+use Rattle.cq_program.specs.Moves.{delta_between, delta_posed, sigma_between, sigma_posed}
+use Rattle.cq_program.specs.Evals.{eval_between, eval_posed, coeval_between, coeval_posed}
+use Rattle.cq_program.specs.Checks.{Stated, at_once, body_stated}
 use Rattle.cq_environment.specs.Environment.{AreSettled, IsBuiltAs, IsKnown, IsMovedAs}
 use Rattle.cq_program.specs.Folders.{Told, Reads}
 use Rattle.cq_program.proofs.Known.{after, one_ok}

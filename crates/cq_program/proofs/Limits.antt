@@ -15,7 +15,7 @@ use Rattle.cq_query.specs.QueryData.{QueryData}
 use Rattle.cq_query.specs.Duties.{all_duties}
 use Rattle.cq_check.specs.Answers.{IsTooDeep, IsTooWide, IsFirstTooDeep, IsFirstTooWide, over, equation_of, frozen_over, duty_equation}
 use Rattle.cq_environment.specs.declared.reason.Reason.{Reason}
-use Rattle.cq_program.specs.Checks.{Posed, a_typeside, a_schema, a_mapping, an_identity, a_colimit, an_inclusion, a_query, a_composite, a_mapping_query, a_presentation, a_made, a_delta, an_eval, a_transform, a_move}
+use Rattle.cq_program.specs.Posed.{Posed, a_typeside, a_schema, a_mapping, an_identity, a_colimit, an_inclusion, a_query, a_composite, a_mapping_query, a_presentation, a_made, a_delta, an_eval, a_transform, a_move}
 use Rattle.cq_program.specs.Program.{IsDecided, IsDecidedOver, IsQueryDutyDecided, ClosesWithin, KeepsLimits, Exceeds, ExceedsAtDuty, ExceedsAtQueryDuty, ExceedsAtModel}
 
 not_deep : (depth : ℕ) (S : SchemaData) (P : Presentation) (e : Equation) → IsDecidedOver depth S P e → IsTooDeep S P e depth → ⊥

@@ -19,7 +19,7 @@ use Rattle.cq_adjoint.specs.Copies.{AreAllAnswers}
 use Rattle.cq_adjoint.specs.Moved.{IsSigmaOf, IsDeltaOf}
 use Rattle.cq_adjoint.specs.QueryMoves.{AreAcross, AreEvaluated, IsCoeval, IsEvaluated}
 use Rattle.cq_environment.specs.Environment.{IsBuilt}
-use Rattle.cq_program.specs.Checks.{a_move}
+use Rattle.cq_program.specs.Posed.{a_move}
 use Rattle.cq_environment.specs.Meanings.{Ends, Meant, transform}
 use Rattle.cq_program.specs.Movements.{Move, Movement, moved_along, there_and_back}
 use Rattle.cq_program.specs.Posing.{Carried, IsMovement, IsMoving, IsWhole}

@@ -29,7 +29,7 @@ use Rattle.cq_base.specs.declared.name.Name.{Name}
 use Rattle.cq_base.specs.declared.place.Place.{Place}
 use Rattle.cq_environment.specs.declared.reason.ProgramRefusal.{ProgramRefusal}
 use Rattle.cq_environment.specs.declared.reason.ProgramRefusal.TheVariants as program_refusal
-use Rattle.cq_program.specs.Checks.{an_eval}
+use Rattle.cq_program.specs.Posed.{an_eval}
 use Rattle.cq_environment.specs.Environment.{Tells}
 use Rattle.cq_program.specs.Judging.{Withholds}
 use Rattle.cq_program.specs.Program.{IsEvalWithin, TellsMany, TellsAnswers}

@@ -12,7 +12,8 @@ use Rattle.cq_theory.proofs.OneModel.{same_models, same_assignments, same_lists_
 use Rattle.cq_instance.specs.InstanceData.{InstanceData}
 use Rattle.cq_instance.specs.Given.{given}
 use Rattle.cq_environment.specs.Meanings.{Meant, binding, instance, transform, Environment}
-use Rattle.cq_program.specs.Checks.{Posed, a_typeside, a_schema, a_mapping, an_identity, a_colimit, an_inclusion, a_query, a_composite, a_mapping_query, a_presentation, a_made, a_delta, an_eval, a_transform, a_move, Stated}
+use Rattle.cq_program.specs.Posed.{Posed, a_typeside, a_schema, a_mapping, an_identity, a_colimit, an_inclusion, a_query, a_composite, a_mapping_query, a_presentation, a_made, a_delta, an_eval, a_transform, a_move}
+use Rattle.cq_program.specs.Checks.{Stated}
 use Rattle.cq_program.specs.Folders.{Reads}
 use Rattle.cq_instance.specs.declared.transform.Image.{Image}
 use Rattle.cq_program.specs.Posing.{IsTransformOf}

@@ -8,7 +8,8 @@ use Rattle.cq_program.specs.declared.imports.stating.Format.TheVariants.{First, 
 use Rattle.cq_environment.specs.declared.reason.Reason.{Reason}
 use Rattle.cq_environment.specs.declared.reason.ReadCause.{ReadCause}
 use Rattle.cq_environment.specs.declared.reason.ReadCause.TheVariants.{Absent, TooLong, Failed}
-use Rattle.cq_program.specs.Checks.{Posed, Stated, at_once, a_folder}
+use Rattle.cq_program.specs.Posed.{Posed}
+use Rattle.cq_program.specs.Checks.{Stated, at_once, a_folder}
 use Rattle.cq_program.specs.Folders.{Content, content_1, content_2, Reads, TellsFault, LacksFile, IsUnreadIn, rule_of}
 
 none_some : {X : Type 0} (x : X) → None ≡ Some x → ⊥

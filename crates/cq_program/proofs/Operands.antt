@@ -11,7 +11,8 @@ use Rattle.cq_environment.specs.declared.reason.ProgramRefusal.{ProgramRefusal}
 use Rattle.cq_transform.specs.Gluing.{coproduct_of}
 use Rattle.cq_environment.specs.declared.reason.Reason.TheVariants.{WrongSchema}
 use Rattle.cq_environment.specs.Meanings.{Checked, Environment, InstanceMeant, SchemaMeant, and_then, instance_used, schema_used}
-use Rattle.cq_program.specs.Checks.{Posed, a_made, broken_or, coproduct_over, coproduct_posed, first_misfit, operands_used, presentations_of}
+use Rattle.cq_program.specs.Posed.{Posed, a_made, broken_or}
+use Rattle.cq_program.specs.Gluing.{coproduct_over, coproduct_posed, first_misfit, operands_used, presentations_of}
 use Rattle.cq_program.specs.declared.gluing.stating.Operand.{Operand}
 use Rattle.cq_environment.specs.Environment.{AreSettled, IsPrinted, Refuses}
 use Rattle.cq_program.specs.Views.{operand_meant, operands_meant}

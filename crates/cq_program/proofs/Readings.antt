@@ -22,7 +22,8 @@ use Rattle.cq_environment.specs.declared.reason.ProgramRefusal.{ProgramRefusal}
 use Rattle.cq_environment.specs.declared.reason.ProgramRefusal.TheVariants as program_refusal
 use Rattle.cq_program.specs.declared.imports.stating.Format.{Format}
 use Rattle.cq_program.specs.declared.imports.stating.Format.TheVariants.{First, Second}
-use Rattle.cq_program.specs.Checks.{a_folder, a_presentation}
+use Rattle.cq_program.specs.Posed.{a_presentation}
+use Rattle.cq_program.specs.Checks.{a_folder}
 use Rattle.cq_program.specs.Folders.{Told, Content, content_1, content_2, OfFolder, IsImportOf, Reads, IsUnreadIn, Raised, rule_of, unread_fault}
 use Rattle.cq_program.specs.Posing.{RefusesReading, TellsImport}
 

@@ -12,7 +12,8 @@ use Rattle.cq_theory.specs.TypesideData.{TypesideData}
 use Rattle.cq_instance.specs.InstanceData.{InstanceData}
 use Rattle.cq_environment.specs.declared.moved.Moved.{Moved}
 use Rattle.cq_environment.specs.Meanings.{Binding, Meant, PartMeant, ColimitMeant, colimit, colimit_used, as_colimit, schema_by, schema_named, typeside, schema, mapping, query, instance, transform, Ends, SchemaMeant, MappingMeant, QueryMeant, InstanceMeant, TransformMeant, Environment, Checked, meant_by, as_schema, as_mapping, as_query, as_instance, as_transform, schema_used, mapping_used, query_used, instance_used, transform_used}
-use Rattle.cq_program.specs.Checks.{Posed, Stated, at_once, a_folder}
+use Rattle.cq_program.specs.Posed.{Posed}
+use Rattle.cq_program.specs.Checks.{Stated, at_once, a_folder}
 use Rattle.cq_environment.specs.Environment.{IsPartSettled, AreEnds, IsPrinted, IsTermModel, IsSettled, IsMovedAs, IsMovedBy, IsKnown, AreSettled, WillSettle}
 use Rattle.cq_program.specs.declared.imports.stating.Format.{Format}
 use Rattle.cq_program.specs.declared.imports.stating.Format.TheVariants.{First, Second}

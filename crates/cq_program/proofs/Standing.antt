@@ -3,7 +3,7 @@ use Rattle.std.proofs.Common.{sym, subst}
 use Rattle.std.specs.Prelude.{Result, Ok, Err, IfOk}
 use Rattle.cq_base.specs.declared.name.Name.{Name}
 use Rattle.cq_environment.specs.Meanings.{Meant, Environment}
-use Rattle.cq_program.specs.Checks.{Posed, a_typeside, a_schema, a_mapping, an_identity, a_colimit, an_inclusion, a_query, a_composite, a_mapping_query, a_presentation, a_made, a_delta, an_eval, a_transform, a_move}
+use Rattle.cq_program.specs.Posed.{Posed, a_typeside, a_schema, a_mapping, an_identity, a_colimit, an_inclusion, a_query, a_composite, a_mapping_query, a_presentation, a_made, a_delta, an_eval, a_transform, a_move}
 use Rattle.cq_environment.specs.Environment.{IsModelled, IsPrinted, WillSettle}
 use Rattle.cq_program.specs.Program.{Stands}
 use Rattle.cq_program.specs.Posing.{IsGrounded}

@@ -9,7 +9,7 @@ use Rattle.cq_base.specs.Names.{same_name}
 use Rattle.cq_syntax.specs.declared.part.Spot.{Spot}
 use Rattle.cq_environment.specs.declared.reason.ProgramRefusal.{ProgramRefusal}
 use Rattle.cq_environment.specs.Meanings.{Checked, and_then}
-use Rattle.cq_program.specs.Checks.{all_used, first_other}
+use Rattle.cq_program.specs.Posed.{all_used, first_other}
 use Rattle.cq_environment.specs.Environment.{Refuses}
 use Rattle.cq_program.proofs.Given.{refused_after, refused_then}
 

@@ -16,7 +16,8 @@ use Rattle.cq_program.specs.declared.stops.Fault.{Fault}
 use Rattle.cq_program.specs.declared.stops.Fault.TheVariants.{Broken, Unread}
 use Rattle.cq_program.specs.declared.stops.Halt.{Halt}
 use Rattle.cq_program.specs.declared.stops.Halt.TheVariants as halt
-use Rattle.cq_program.specs.Stop.{Halts, IsFaultOf, IsHalt, LacksSome, StopsAt, refusal_of}
+use Rattle.cq_program.specs.declared.stops.Stop.{Stop}
+use Rattle.cq_program.specs.Stop.{Halts, IsFaultOf, IsHalt, StopsAt, refusal_at, refusal_of}
 
 -- what is known when a declaration is refused: those before it are walked over, and the names stand for what they stood for
 pub record IsRefusedAt (told : Told) (program : Program) (n : ℕ) (d : Decl) (before after : TheEnvironment) : Type 0 where
@@ -25,16 +26,20 @@ pub record IsRefusedAt (told : Told) (program : Program) (n : ℕ) (d : Decl) (b
   pub settled : AreSettled (environment_of before.names.entries)
   pub same : environment_of after.names.entries ≡ environment_of before.names.entries
 
-stops : (depth : ℕ) (told : Told) (program : Program) (n : ℕ) (d : Decl) (before after : TheEnvironment) (fault : Fault)
-    → IsRefusedAt told program n d before after → IsFaultOf depth told (environment_of before.names.entries) d fault
-    → StopsAt depth told program (record { env = after; number = n; fault = fault })
-stops depth told program n d before after fault at is =
+stops : (depth : ℕ) (told : Told) (program : Program) (n : ℕ) (d : Decl) (before after : TheEnvironment) (stop : Stop)
+    → IsRefusedAt told program n d before after → IsFaultOf depth told (environment_of before.names.entries) d stop.fault
+    → stop.env ≡ after → stop.number ≡ n → StopsAt depth told program stop
+stops depth told program n d before after stop at is names number =
+    let same : environment_of stop.env.names.entries ≡ environment_of before.names.entries =
+    ap (λ (env : TheEnvironment). environment_of env.names.entries) names ∙ at.same in
+    let walked : Follow told [] (take stop.number program.decls) (environment_of before.names.entries) =
+    subst (λ (k : ℕ). Follow told [] (take k program.decls) (environment_of before.names.entries)) (sym number) at.follow in
     record {
       declared = d;
-      is_at = at.there;
-      follow = subst (λ (env : Environment). Follow told [] (take n program.decls) env) (sym at.same) at.follow;
-      settled = subst (λ (env : Environment). AreSettled env) (sym at.same) at.settled;
-      fault = subst (λ (env : Environment). IsFaultOf depth told env d fault) (sym at.same) is;
+      is_at = ap (slice_get program.decls) number ∙ at.there;
+      follow = subst (λ (env : Environment). Follow told [] (take stop.number program.decls) env) (sym same) walked;
+      settled = subst (λ (env : Environment). AreSettled env) (sym same) at.settled;
+      fault = subst (λ (env : Environment). IsFaultOf depth told env d stop.fault) (sym same) is;
     }
 
 -- the declaration in turn is refused
@@ -52,29 +57,28 @@ refused_at told program slice i n d before after are inside is at follow settled
       same = same;
     }
 
+-- what is wrong with a declaration that is refused
+fault_of : (depth : ℕ) (mid new : FolderData) (told : Told) (env : Environment) (d : Decl) (fault : Fault) → mid.files ≡ told
+    → RefusesDecl depth mid new env d (refusal_at fault) → IsFaultOf depth told env d fault
+fault_of depth mid new told env d (Broken place reason) files refuses = subst (λ (t : Told). Breach depth t env d place reason) files refuses
+fault_of depth mid new told env d (Unread file cause) files refuses = record {
+  stated = refuses.stated;
+  checked = refuses.checked;
+  lacking = subst (λ (t : Told). LacksFile t refuses.stated (string_bytes file) cause) files refuses.lacks;
+}
+
 -- the halt at a declaration that is refused
 pub halts_at : (depth : ℕ) (old mid new : FolderData) (program : Program) (n : ℕ) (d : Decl) (before after : TheEnvironment)
     (refusal : ProgramRefusal) (made : Halt) → mid.files ≡ old.files → IsRefusedAt old.files program n d before after
     → RefusesDecl depth mid new (environment_of before.names.entries) d refusal → RefusesProgram depth old new program refusal
     → IsHalt after n refusal made → Halts depth old new program made
-halts_at depth old mid new program n d before after (program_refusal.Broken place reason) made files at refuses tells is =
-    subst (Halts depth old new program) (sym is) (
-      stops depth old.files program n d before after (Broken place reason) at
-          (subst (λ (told : Told). Breach depth told (environment_of before.names.entries) d place reason) files refuses),
-      tells,
+halts_at depth old mid new program n d before after refusal (halt.Stopped stop) files at refuses tells is =
+    let env : Environment = environment_of before.names.entries in
+    let here : RefusesDecl depth mid new env d (refusal_at stop.fault) = subst (RefusesDecl depth mid new env d) (sym is.refusal_is) refuses in (
+      stops depth old.files program n d before after stop at (fault_of depth mid new old.files env d stop.fault files here) is.is_at.0 is.is_at.1,
+      subst (RefusesProgram depth old new program) (sym is.refusal_is) tells,
     )
-halts_at depth old mid new program n d before after (program_refusal.Read file cause) made files at refuses tells is =
-    subst (Halts depth old new program) (sym is) (
-      stops depth old.files program n d before after (Unread file cause) at
-          (record {
-            stated = refuses.stated;
-            checked = refuses.checked;
-            lacking = subst (λ (told : Told). LacksFile told refuses.stated (string_bytes file) cause) files refuses.lacks;
-          }),
-      tells,
-    )
-halts_at depth old mid new program n d before after program_refusal.Memory made files at refuses tells is =
-    subst (Halts depth old new program) (sym is) tt
+halts_at depth old mid new program n d before after refusal halt.Memory files at refuses tells is = tt
 
 -- what is refused where the walk ends
 pub refuses_halt : (depth : ℕ) (old new : FolderData) (program : Program) (h : Halt) (refusal : ProgramRefusal)

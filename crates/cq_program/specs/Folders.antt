@@ -18,7 +18,8 @@ use Rattle.cq_environment.specs.declared.reason.ReadCause.{ReadCause}
 use Rattle.cq_environment.specs.declared.reason.ReadCause.TheVariants.{Absent, TooLong, Failed}
 use Rattle.cq_program.specs.declared.imports.stating.Format.{Format}
 use Rattle.cq_program.specs.declared.imports.stating.Format.TheVariants.{First, Second}
-use Rattle.cq_program.specs.Checks.{Posed, Stated, at_once, a_folder, a_presentation}
+use Rattle.cq_program.specs.Posed.{Posed, a_presentation}
+use Rattle.cq_program.specs.Checks.{Stated, at_once, a_folder}
 
 -- what a folder tells of its files
 abbrev pub Told : Type 0

@@ -20,7 +20,8 @@ use Rattle.cq_environment.specs.declared.reason.ProgramRefusal.TheVariants as pr
 use Rattle.cq_io.specs.FolderData.{FolderData}
 use Rattle.cq_program.specs.Folders.{Told, LacksFile, Raised}
 use Rattle.cq_environment.specs.Meanings.{Environment, Meant, binding}
-use Rattle.cq_program.specs.Checks.{Stated, stated_by, Posed}
+use Rattle.cq_program.specs.Posed.{Posed}
+use Rattle.cq_program.specs.Checks.{Stated, stated_by}
 use Rattle.cq_program.specs.Program.{Breach, Breaks, Lacks, Fails, Declares, Exceeds, IsModelOf}
 
 -- the refusal tells why nothing is made of what is posed, at the declaration's place, or want of memory

@@ -1,5 +1,16 @@
 pub mod Images
 pub mod Movements
+pub mod Posed
+pub mod Typesides
+pub mod Schemas
+pub mod Colimits
+pub mod Mappings
+pub mod Queries
+pub mod Literals
+pub mod Moves
+pub mod Evals
+pub mod Gluing
+pub mod Transforms
 pub mod Checks
 pub mod Folders
 pub mod Views

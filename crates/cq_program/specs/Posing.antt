@@ -29,11 +29,11 @@ use Rattle.cq_instance.specs.InstanceData.{InstanceData}
 use Rattle.cq_environment.specs.Routes.{Route, IsAround, IsMovedAlong, IsSound}
 use Rattle.cq_program.specs.Movements.{Movement, Move, moved_along, there_and_back}
 use Rattle.cq_environment.specs.Meanings.{Environment, TransformMeant, typeside, colimit, schema_named}
-use Rattle.cq_program.specs.Checks.{Stated, at_once, a_folder, Posed, a_typeside}
-use Rattle.cq_program.specs.Checks.{a_schema, a_mapping, an_identity, a_colimit, an_inclusion, a_query, a_presentation}
-use Rattle.cq_program.specs.Checks.{a_composite, a_mapping_query, a_made, a_delta, an_eval, a_transform, a_move}
+use Rattle.cq_program.specs.Posed.{Posed, a_typeside, a_schema, a_mapping, an_identity, a_colimit, an_inclusion, a_query, a_presentation}
+use Rattle.cq_program.specs.Posed.{a_composite, a_mapping_query, a_made, a_delta, an_eval, a_transform, a_move}
+use Rattle.cq_program.specs.Gluing.{pushed_out}
+use Rattle.cq_program.specs.Checks.{Stated, at_once, a_folder}
 use Rattle.cq_environment.specs.Meanings.{meant_by}
-use Rattle.cq_program.specs.Checks.{pushed_out}
 use Rattle.cq_environment.specs.Environment.{AreEnds, IsBuilt, IsPrinted, IsTermModel, WillSettle, colimit_meant, ends_meant}
 use Rattle.cq_program.specs.Views.{move_meant}
 use Rattle.cq_environment.specs.Environment.{schema_meant, transform_meant}

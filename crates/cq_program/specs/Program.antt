@@ -42,9 +42,8 @@ use Rattle.cq_check.specs.Answers.{IsDerivedWithin, IsNotPreserved, IsTooDeepDut
 use Rattle.cq_program.specs.MovedImages.{AreImages, AreLong}
 use Rattle.cq_environment.specs.Meanings.{Binding, binding, Meant, typeside, schema, colimit, mapping, query, instance, transform, Ends}
 use Rattle.cq_environment.specs.Meanings.{Environment}
-use Rattle.cq_program.specs.Checks.{Posed, a_typeside}
-use Rattle.cq_program.specs.Checks.{a_schema, a_mapping, an_identity, a_colimit, an_inclusion, a_query, a_presentation}
-use Rattle.cq_program.specs.Checks.{a_composite, a_mapping_query, a_made, a_delta, an_eval, a_transform, a_move}
+use Rattle.cq_program.specs.Posed.{Posed, a_typeside, a_schema, a_mapping, an_identity, a_colimit, an_inclusion, a_query, a_presentation}
+use Rattle.cq_program.specs.Posed.{a_composite, a_mapping_query, a_made, a_delta, an_eval, a_transform, a_move}
 use Rattle.cq_program.specs.Checks.{Stated, stated_by}
 use Rattle.cq_program.specs.Posing.{IsTransformOf}
 use Rattle.cq_environment.specs.declared.reason.ReadCause.{ReadCause}

@@ -56,10 +56,12 @@ Halts depth old new program (halt.Stopped stop) = StopsAt depth old.files progra
     × RefusesProgram depth old new program (refusal_at stop.fault)
 Halts depth old new program halt.Memory = Unit {0}
 
--- what is made of a refusal: a stop with these names and this number, or want of memory
-abbrev pub IsHalt : TheEnvironment → ℕ → ProgramRefusal → Halt → Type 0
-IsHalt env number (program_refusal.Broken place reason) made = made
-    ≡ halt.Stopped (record { env = env; number = number; fault = Broken place reason })
-IsHalt env number (program_refusal.Read file cause) made = made
-    ≡ halt.Stopped (record { env = env; number = number; fault = Unread file cause })
-IsHalt env number program_refusal.Memory made = made ≡ halt.Memory
+-- the halt is a stop with these names and this number, where it is one
+abbrev pub IsAt : TheEnvironment → ℕ → Halt → Type 0
+IsAt env number (halt.Stopped stop) = (stop.env ≡ env) × (stop.number ≡ number)
+IsAt env number halt.Memory = Unit {0}
+
+-- the halt at which the declaration of a number is refused, after these names: the refusal that comes of it is this one
+pub record IsHalt (env : TheEnvironment) (number : ℕ) (refusal : ProgramRefusal) (made : Halt) : Type 0 where
+  pub refusal_is : refusal_of made ≡ refusal
+  pub is_at : IsAt env number made

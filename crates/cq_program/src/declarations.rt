@@ -133,7 +133,7 @@ fn declare_all<F: Folder>(
 }
 
 /// Adds the name of a declaration, with what it stands for, or tells the first rule that it breaks; then each name
-/// stands for what it stood for.
+/// stands for what it stood for. The query that the declaration uses is made first.
 fn declare<F: Folder>(
     alloc: Global,
     env: &mut Environment,
@@ -153,28 +153,6 @@ fn declare<F: Folder>(
         (environment_of env.old.names.entries) decl.now) }
 {
     env.make_used(alloc, &decl.body)?;
-    declare_next(alloc, env, decl, folder, depth)
-}
-
-/// The same, where the query that the declaration uses is made.
-fn declare_next<F: Folder>(
-    alloc: Global,
-    env: &mut Environment,
-    decl: &Decl,
-    folder: &mut F,
-    depth: u32,
-) -> Result<(), ProgramRefusal>
-    requires few { part_count decl.now.body < 2 ^ 32 }
-    requires settled { AreSettled (environment_of env.old.names.entries) }
-    requires depth { depth ≤ 64 }
-    ensures declares { OnOk result (AddsDecl (F.state folder.old).files
-        (environment_of env.old.names.entries) decl.now (environment_of env.new.names.entries)) }
-    ensures settled { OnOk result (AreSettled (environment_of env.new.names.entries)) }
-    ensures unchanged { OnErr result (environment_of env.new.names.entries ≡ environment_of env.old.names.entries) }
-    ensures keeps { Keeps (F.state folder.old) (F.state folder.new) }
-    ensures refuses { IfErr result (RefusesDecl depth (F.state folder.old) (F.state folder.new)
-        (environment_of env.old.names.entries) decl.now) }
-{
     let name = decl.name.clone()?;
     let moved = moved_of(&decl.body)?;
     let meaning = judge(alloc, env, decl, folder, depth)?;
@@ -211,11 +189,11 @@ fn instances_of(alloc: Global, env: Environment) -> Result<Vec<Named>, AllocErro
     ensures { IfOk result (λ named. map listed_as named.items ≡ filter_map listing_of
         (environment_of env.names.entries)) }
 {
-    let named = instances_in(alloc, env.into_names())?;
+    let named = take_instances(alloc, env.into_names())?;
     Ok(named)
 }
 
-fn instances_in(
+fn take_instances(
     alloc: Global,
     names: IndexMap<Name, Box<Bound>, Hashing>,
 ) -> Result<Vec<Named>, AllocError>
@@ -242,11 +220,6 @@ fn push_instance(named: &mut Vec<Named>, name: Name, bound: Box<Bound>) -> Resul
             })?;
             Ok(())
         }
-        Meaning::Typeside(_) => Ok(()),
-        Meaning::Schema(_) => Ok(()),
-        Meaning::Colimit(_) => Ok(()),
-        Meaning::Mapping(_, _, _) => Ok(()),
-        Meaning::Query(_, _, _) => Ok(()),
-        Meaning::Transform(_) => Ok(()),
+        _ => Ok(()),
     }
 }

@@ -2,7 +2,7 @@
 ghost use Rattle.std.specs.Prelude.{ℕ, ◌≡◌};
 ghost use Rattle.cq_check.specs.declared.duties.CheckRefusal.TheVariants as of_check;
 ghost use Rattle.cq_program.specs.Program.{Exceeds, Fails};
-ghost use Rattle.cq_program.specs.Checks.{Posed};
+ghost use Rattle.cq_program.specs.Posed.{Posed};
 ghost use Rattle.cq_program.specs.Judging.{Withholds};
 ghost use Rattle.cq_environment.specs.declared.reason.Reason.TheVariants as reason;
 
@@ -11,7 +11,7 @@ use cq_check::CheckRefusal;
 use cq_environment::{ProgramRefusal, Reason};
 
 /// The refusal of the declaration at a place, of whose duties one isn't derived.
-pub fn unmet(place: Place, refusal: CheckRefusal) -> ProgramRefusal
+pub fn tell_unmet(place: Place, refusal: CheckRefusal) -> ProgramRefusal
     ensures { (depth : ℕ) (posed : Posed)
         → ((n : ℕ) → refusal ≡ of_check.NotPreserved n → Fails posed (reason.NotPreserved n))
         → ((n : ℕ) → refusal ≡ of_check.Depth n → Exceeds depth posed (reason.DutyDepth n))

@@ -9,7 +9,10 @@
 //! statement then gets its *meaning* (`models`). What calls answer that make a model is told in one way (`made`), and
 //! of which duty isn't derived, too (`duties`).
 //!
-//! Each form of declaration has a folder, with what is stated of it (`stating`) and what that stands for (`meaning`):
+//! Each form of declaration has a folder, with what is stated of it (`stating`, by functions that `pose` it) and what
+//! that stands for (`meaning`, by functions that `mean` it). A function that begins with `tell` gives a refusal.
+//!
+//! The folders:
 //! - `typesides`, `schemas`, `colimits` (with the schemas of colimits and the inclusions of their parts), `mappings`
 //!   (with identities) and `queries` (with composites and the queries of mappings);
 //! - instances: `literals`, `imports` (with `reading`), `moves` along mappings (sigma, delta), `evals` along queries

@@ -5,7 +5,7 @@ ghost use Rattle.cq_theory.specs.declared.constant.Con.{Con};
 ghost use Rattle.cq_theory.specs.declared.presentation.Presentation.{Presentation};
 ghost use Rattle.cq_theory.specs.SchemaData.{SchemaData};
 ghost use Rattle.cq_theory.specs.ValueText.{is_named_con, value_text as text_of};
-ghost use Rattle.cq_program.specs.Checks.{a_made};
+ghost use Rattle.cq_program.specs.Posed.{a_made};
 ghost use Rattle.cq_environment.specs.Environment.{IsModelled, IsTermModel, meant};
 ghost use Rattle.cq_program.specs.Judging.{IsAnswerOf, Withholds, TellsConstants};
 ghost use Rattle.cq_program.specs.Program.{Stands};
@@ -21,7 +21,7 @@ use std::alloc::{AllocError, Global};
 use std::rc::Rc;
 
 /// What a presentation stands for that is made of others, by the answer of the call that makes its listed model.
-pub fn made(
+pub fn mean_model(
     alloc: Global,
     place: Place,
     name: Name,
@@ -38,11 +38,11 @@ pub fn made(
         → IsAnswerOf S P depth answer → IfErr result (Withholds depth place (a_made name S P)) }
 {
     match answer {
-        Ok(instance) => Ok(shared_instance(alloc, name, instance)?),
+        Ok(instance) => Ok(share_instance(alloc, name, instance)?),
         Err(MoveRefusal::Depth) => Err(ProgramRefusal::Broken(place, Reason::Depth)),
         Err(MoveRefusal::TooManyRows) => Err(ProgramRefusal::Broken(place, Reason::TooManyRows)),
         Err(MoveRefusal::Inconsistent(least, greater)) => {
-            Err(clash(alloc, place, typeside, least, greater))
+            Err(tell_clash(alloc, place, typeside, least, greater))
         }
         Err(MoveRefusal::TooLarge) => Err(ProgramRefusal::Broken(place, Reason::Oversized)),
         Err(MoveRefusal::Memory) => Err(ProgramRefusal::Memory),
@@ -50,7 +50,7 @@ pub fn made(
 }
 
 /// The refusal that two constants are equal.
-pub fn clash(
+pub fn tell_clash(
     alloc: Global,
     place: Place,
     typeside: &Typeside,
@@ -61,14 +61,14 @@ pub fn clash(
     requires greater { is_named_con typeside.now greater ≡ true }
     ensures { TellsConstants place (text_of typeside.now (Const least)) (text_of typeside.now (Const greater)) result }
 {
-    match constant_texts(alloc, typeside, least, greater) {
+    match write_constants(alloc, typeside, least, greater) {
         Ok((first, second)) => ProgramRefusal::Broken(place, Reason::Inconsistent(first, second)),
         Err(_) => ProgramRefusal::Memory,
     }
 }
 
 /// The texts of two constants.
-fn constant_texts(
+fn write_constants(
     alloc: Global,
     typeside: &Typeside,
     least: Con,
@@ -81,13 +81,13 @@ fn constant_texts(
       text_of typeside.now (Const greater),
     )) }
 {
-    let first = constant_text(alloc, typeside, least)?;
-    let second = constant_text(alloc, typeside, greater)?;
+    let first = write_constant(alloc, typeside, least)?;
+    let second = write_constant(alloc, typeside, greater)?;
     Ok((first, second))
 }
 
 /// The text of a constant.
-fn constant_text(alloc: Global, typeside: &Typeside, constant: Con) -> Result<Seq<u8>, AllocError>
+fn write_constant(alloc: Global, typeside: &Typeside, constant: Con) -> Result<Seq<u8>, AllocError>
     requires { is_named_con typeside.now constant ≡ true }
     ensures { IfOk result (λ text. text ≡ text_of typeside.now (Const constant)) }
 {
@@ -96,7 +96,7 @@ fn constant_text(alloc: Global, typeside: &Typeside, constant: Con) -> Result<Se
 }
 
 /// An instance that is the term model of its presentation stands for itself.
-pub fn shared_instance(alloc: Global, name: Name, model: Instance) -> Result<Meaning, AllocError>
+pub fn share_instance(alloc: Global, name: Name, model: Instance) -> Result<Meaning, AllocError>
     requires { IsTermModel model }
     ensures stands { IfOk result (λ meaning. meant meaning ≡ instance name model) }
     ensures modelled { IfOk result (λ meaning. IsModelled (meant meaning)) }

@@ -5,16 +5,16 @@ ghost use Rattle.cq_environment.specs.Environment.{IsModelled, meant};
 ghost use Rattle.cq_program.specs.Posing.{IsPosed, posed_as};
 ghost use Rattle.cq_program.specs.Judging.{Withholds};
 
-use crate::evals::meaning::{answered, read_backwards};
-use crate::gluing::meaning::{glued, summed};
-use crate::literals::meaning::model_of;
-use crate::mappings::meaning::{checked_mapping, identity};
-use crate::movements::meaning::moved;
-use crate::moves::meaning::{pulled, pushed};
-use crate::queries::meaning::{checked_query, composed, of_mapping};
+use crate::evals::meaning::{mean_coeval, mean_eval};
+use crate::gluing::meaning::{mean_coproduct, mean_pushout};
+use crate::literals::meaning::mean_presentation;
+use crate::mappings::meaning::{mean_identity, mean_mapping};
+use crate::movements::meaning::mean_move;
+use crate::moves::meaning::{mean_delta, mean_sigma};
+use crate::queries::meaning::{mean_composite, mean_mapping_query, mean_query};
 use crate::statement::Statement;
-use crate::transforms::meaning::shared_transform;
-use crate::typesides::meaning::shared_typeside;
+use crate::transforms::meaning::mean_transform;
+use crate::typesides::meaning::share_typeside;
 use cq_base::Place;
 use cq_environment::{Meaning, ProgramRefusal, Reason};
 use std::alloc::Global;
@@ -36,46 +36,46 @@ pub fn meaning_of(
     ensures withholds { IfErr result (Withholds depth place (posed_as statement)) }
 {
     match statement {
-        Statement::Typeside(typeside) => Ok(Meaning::Typeside(shared_typeside(alloc, typeside)?)),
+        Statement::Typeside(typeside) => Ok(Meaning::Typeside(share_typeside(alloc, typeside)?)),
         Statement::Schema(schema) => Ok(Meaning::Schema(schema)),
         Statement::Mapping(source, target, mapping) => {
-            checked_mapping(alloc, place, source, target, mapping, depth)
+            mean_mapping(alloc, place, source, target, mapping, depth)
         }
         Statement::Colimit(colimit) => Ok(Meaning::Colimit(colimit)),
         Statement::Inclusion(source, target, mapping) => {
             Ok(Meaning::Mapping(source, target, mapping))
         }
-        Statement::Identity(name, schema) => Ok(identity(alloc, name, schema)?),
+        Statement::Identity(name, schema) => Ok(mean_identity(alloc, name, schema)?),
         Statement::Query(source, target, query) => {
-            checked_query(alloc, place, source, target, query, depth)
+            mean_query(alloc, place, source, target, query, depth)
         }
         Statement::Presentation(name, schema, presentation) => {
-            model_of(alloc, place, name, schema, presentation, depth)
+            mean_presentation(alloc, place, name, schema, presentation, depth)
         }
         Statement::Delta(name, mapping, instance) => {
-            pulled(alloc, place, name, &mapping, &instance)
+            mean_delta(alloc, place, name, &mapping, &instance)
         }
         Statement::Sigma(name, mapping, instance) => {
-            pushed(alloc, place, name, &mapping, &instance, depth)
+            mean_sigma(alloc, place, name, &mapping, &instance, depth)
         }
-        Statement::Eval(name, query, instance) => answered(alloc, place, name, &query, &instance),
+        Statement::Eval(name, query, instance) => mean_eval(alloc, place, name, &query, &instance),
         Statement::Coeval(name, query, instance) => {
-            read_backwards(alloc, place, name, &query, &instance, depth)
+            mean_coeval(alloc, place, name, &query, &instance, depth)
         }
         Statement::Composite(source, target, first, second) => {
-            composed(alloc, place, source, target, &first, &second)
+            mean_composite(alloc, place, source, target, &first, &second)
         }
         Statement::MappingQuery(source, target, mapping) => {
-            of_mapping(alloc, source, target, &mapping)
+            mean_mapping_query(alloc, source, target, &mapping)
         }
         Statement::Coproduct(name, schema, parts) => {
-            summed(alloc, place, name, schema, parts.as_slice(), depth)
+            mean_coproduct(alloc, place, name, schema, parts.as_slice(), depth)
         }
-        Statement::Pushout(left, right) => glued(alloc, place, &left, &right, depth),
-        Statement::Transform(ends, transform) => Ok(shared_transform(alloc, ends, transform)?),
+        Statement::Pushout(left, right) => mean_pushout(alloc, place, &left, &right, depth),
+        Statement::Transform(ends, transform) => Ok(mean_transform(alloc, ends, transform)?),
         Statement::Broken(images) => {
             Err(ProgramRefusal::Broken(place, Reason::Broken(images.number)))
         }
-        Statement::Move(moving) => moved(alloc, place, moving),
+        Statement::Move(moving) => mean_move(alloc, place, moving),
     }
 }

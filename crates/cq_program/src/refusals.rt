@@ -1,6 +1,6 @@
 //! The rules that parts of literals break, at the places of these parts.
 ghost use Rattle.std.specs.Prelude.{◌≡◌};
-ghost use Rattle.cq_program.specs.Checks.{arrow_breach, part_breach, place_of};
+ghost use Rattle.cq_program.specs.Posed.{arrow_breach, part_breach, place_of};
 ghost use Rattle.cq_environment.specs.Environment.{Tells};
 
 use cq_base::Place;
@@ -8,7 +8,7 @@ use cq_environment::{ProgramRefusal, Reason};
 use cq_theory::{ArrowRefusal, TheoryRefusal};
 
 /// The rule that a part breaks, at the part's place; a part without a place stands where its declaration does.
-pub fn part_refusal(place: Place, places: &[Place], refusal: TheoryRefusal) -> ProgramRefusal
+pub fn tell_part(place: Place, places: &[Place], refusal: TheoryRefusal) -> ProgramRefusal
     ensures { Tells result (part_breach place places.now refusal) }
 {
     match refusal {
@@ -41,7 +41,7 @@ pub fn part_refusal(place: Place, places: &[Place], refusal: TheoryRefusal) -> P
 }
 
 /// The rule that a part of a mapping breaks, at the part's place, or the missing part, at the declaration's place.
-pub fn arrow_refusal(place: Place, places: &[Place], refusal: ArrowRefusal) -> ProgramRefusal
+pub fn tell_arrow(place: Place, places: &[Place], refusal: ArrowRefusal) -> ProgramRefusal
     ensures { Tells result (arrow_breach place places.now refusal) }
 {
     match refusal {

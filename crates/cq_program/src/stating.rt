@@ -1,9 +1,9 @@
 //! What a declaration states, or the first rule of names and parts that it breaks.
-ghost use Rattle.std.specs.Prelude.{◌≡◌, ◌<◌, ◌^◌, None, IfOk};
+ghost use Rattle.std.specs.Prelude.{◌<◌, ◌^◌, IfOk};
 ghost use Rattle.cq_base.specs.declared.name.Name.{Name as TheName};
 ghost use Rattle.cq_syntax.specs.declared.program.Body.TheVariants.{Instance as Instanced};
 ghost use Rattle.cq_parts.specs.Few.{part_count};
-ghost use Rattle.cq_program.specs.Checks.{body_posed, body_stated, folder_of, stated_by, stated_from};
+ghost use Rattle.cq_program.specs.Checks.{body_posed, body_stated, stated_by};
 ghost use Rattle.cq_environment.specs.Environment.{Answers, AreSettled, environment_of};
 ghost use Rattle.cq_program.specs.Posing.{IsGrounded, IsPosed, IsStated, IsStatedOver, posed_as, stated_as};
 
@@ -57,42 +57,22 @@ fn state_body(
 {
     match folder_of(body) {
         Some((format, dir, used)) => state_folder(env, format, dir, used),
-        None => state_at_once(alloc, env, place, name, body),
+        None => match pose_body(alloc, env, place, name, body) {
+            Ok(statement) => Ok(Stated::AtOnce(statement)),
+            Err(refusal) => Err(refusal),
+        },
     }
 }
 
-/// What a body poses at once.
-fn state_at_once(
-    alloc: Global,
-    env: &Environment,
-    place: Place,
-    name: &Name,
-    body: &Body,
-) -> Result<Stated, ProgramRefusal>
-    requires no_files { folder_of body.now ≡ None }
-    requires few { part_count body.now < 2 ^ 32 }
-    requires settled { AreSettled (environment_of env.now.names.entries) }
-    ensures stated { Answers stated_as result
-        (stated_from (environment_of env.now.names.entries) None
-        (body_posed (environment_of env.now.names.entries) place name.now body.now)) }
-    ensures well_sorted { IfOk result IsStated }
-    ensures grounded { IfOk result (λ s. IsStatedOver (environment_of env.now.names.entries) name.now (stated_as s)) }
-{
-    match pose_body(alloc, env, place, name, body) {
-        Ok(statement) => Ok(Stated::AtOnce(statement)),
-        Err(refusal) => Err(refusal),
-    }
-}
-
-/// What the body of a declaration poses that reads no files, or the first rule of names and parts that it breaks.
-pub fn pose_body(
+/// What the body of a declaration poses, or the first rule of names and parts that it breaks. A folder of files poses
+/// what these give, and nothing by itself.
+fn pose_body(
     alloc: Global,
     env: &Environment,
     place: Place,
     name: &Name,
     body: &Body,
 ) -> Result<Statement, ProgramRefusal>
-    requires no_files { folder_of body.now ≡ None }
     requires few { part_count body.now < 2 ^ 32 }
     requires settled { AreSettled (environment_of env.now.names.entries) }
     ensures posed { Answers posed_as result (body_posed (environment_of env.now.names.entries) place
@@ -129,7 +109,6 @@ fn pose_instance(
     place: Place,
     expression: &InstanceExp,
 ) -> Result<Statement, ProgramRefusal>
-    requires no_files { folder_of (Instanced expression.now) ≡ None }
     requires few { part_count (Instanced expression.now) < 2 ^ 32 }
     requires settled { AreSettled (environment_of env.now.names.entries) }
     ensures posed { (name : TheName) → Answers posed_as result
@@ -151,7 +130,8 @@ fn pose_instance(
             used,
         ),
         InstanceExp::Pushout(first, second) => pose_pushout(env, first, second),
-        InstanceExp::ImportCsv(_, _, _) => unreachable!(),
-        InstanceExp::ImportCsv2(_, _, _) => unreachable!(),
+        InstanceExp::ImportCsv(_, _, _) | InstanceExp::ImportCsv2(_, _, _) => {
+            Err(ProgramRefusal::Broken(place, Reason::WrongKind))
+        }
     }
 }

@@ -13,7 +13,7 @@ use Rattle.cq_theory.specs.declared.presentation.Presentation.{Presentation}
 use Rattle.cq_instance.proofs.CanonicalDerived as canonical
 use Rattle.cq_instance.specs.Given.{given}
 use Rattle.cq_instance.specs.InstanceData.{InstanceData, IsInstance}
-use Rattle.cq_program.specs.Checks.{Posed, a_typeside, a_schema, a_mapping, an_identity, a_colimit, an_inclusion, a_query, a_composite, a_mapping_query, a_presentation, a_made, a_delta, an_eval, a_transform, a_move}
+use Rattle.cq_program.specs.Posed.{Posed, a_typeside, a_schema, a_mapping, an_identity, a_colimit, an_inclusion, a_query, a_composite, a_mapping_query, a_presentation, a_made, a_delta, an_eval, a_transform, a_move}
 use Rattle.cq_program.specs.Folders.{Told}
 use Rattle.cq_environment.specs.Meanings.{Binding, Environment, Meant, binding, typeside, schema, colimit, mapping, query, instance, transform}
 use Rattle.cq_program.specs.Program.{Follow, IsModelOf, Listing, Stands, listing_named, listing_of}

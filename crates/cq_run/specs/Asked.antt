@@ -4,7 +4,7 @@ use Rattle.std.specs.Str.{bytes_eq}
 use Rattle.cq_theory.specs.declared.presentation.Equation.{Equation}
 use Rattle.cq_explain.specs.Explained.{Explains}
 use Rattle.cq_explain.specs.Question.{Asks}
-use Rattle.cq_program.specs.Checks.{Posed}
+use Rattle.cq_program.specs.Posed.{Posed}
 use Rattle.cq_environment.specs.Meanings.{instance}
 use Rattle.cq_program.specs.Program.{Listing, Stands}
 use Rattle.cq_run.specs.Lines.{bad_term_line, no_instance_line}

@@ -6,9 +6,10 @@ ghost use Rattle.cq_colimit.specs.declared.refusal.ColimitRefusal.TheVariants as
 ghost use Rattle.cq_colimit.specs.Faults.{colimit_fault};
 ghost use Rattle.cq_colimit.specs.Joined.{inclusions as all_inclusions, joined as joined_schema};
 ghost use Rattle.cq_mapping.specs.Duties.{Preserves};
-ghost use Rattle.cq_program.specs.Checks.{colimit_breach, colimit_given, colimit_posed, first_apart, get_mapping_posed};
-ghost use Rattle.cq_program.specs.Checks.{an_inclusion, get_schema_posed, included, named_schemas, part_named};
-ghost use Rattle.cq_program.specs.Checks.{parts_used, posed_colimit};
+ghost use Rattle.cq_program.specs.Posed.{an_inclusion};
+ghost use Rattle.cq_program.specs.Colimits.{colimit_breach, colimit_given, colimit_posed, first_apart};
+ghost use Rattle.cq_program.specs.Colimits.{get_mapping_posed, get_schema_posed, included, named_schemas, part_named};
+ghost use Rattle.cq_program.specs.Colimits.{parts_used, posed_colimit};
 ghost use Rattle.cq_environment.specs.Environment.{Answers, AreSettled, Refuses, Tells, colimit_meant, environment_of};
 ghost use Rattle.cq_environment.specs.Environment.{IsPartPrinted, part_meant};
 ghost use Rattle.cq_program.specs.Views.{useds_meant};
@@ -58,7 +59,7 @@ pub fn pose_colimit(
 {
     let parts = schemas_of(alloc, env, literal.parts.as_slice())?;
     let typeside = env.typeside(&literal.typeside)?;
-    if let Some(at) = first_apart(&literal.typeside.name, parts.as_slice()) {
+    if let Some(at) = find_apart(&literal.typeside.name, parts.as_slice()) {
         return Err(ProgramRefusal::Broken(at, Reason::WrongSchema));
     }
     join_schemas(alloc, place, name, typeside, parts.as_slice(), literal)
@@ -83,10 +84,10 @@ fn join_schemas(
         → All (IsPartPrinted env) (useds_meant parts.now)
         → IfOk result (λ statement. IsGrounded env name.now (posed_as statement)) }
 {
-    match colimit_in(alloc, place, typeside, parts, literal) {
+    match make_colimit(alloc, place, typeside, parts, literal) {
         Ok(made) => {
             let over = &literal.typeside.name;
-            Ok(Statement::Colimit(named_colimit(alloc, name, over, parts, made)?))
+            Ok(Statement::Colimit(name_colimit(alloc, name, over, parts, made)?))
         }
         Err(refusal) => Err(refusal),
     }
@@ -130,7 +131,7 @@ fn push_schema(
 }
 
 /// The place of the first schema that isn't over the typeside of a name.
-fn first_apart(name: &Name, parts: &[UsedSchema]) -> Option<Place>
+fn find_apart(name: &Name, parts: &[UsedSchema]) -> Option<Place>
     ensures { result ≡ first_apart name.now (useds_meant parts.now) }
 {
     for part in parts {
@@ -142,7 +143,7 @@ fn first_apart(name: &Name, parts: &[UsedSchema]) -> Option<Place>
 }
 
 /// The colimit of schemas over one typeside, or the first part that breaks a rule.
-fn colimit_in(
+fn make_colimit(
     alloc: Global,
     place: Place,
     typeside: Rc<Typeside>,
@@ -162,19 +163,19 @@ fn colimit_in(
     ensures refused { (name : TheName) → IfErr result (λ refusal. Refuses refusal
         (colimit_given place literal.now name typeside.value (useds_meant parts.now))) }
 {
-    let named = named_schemas(alloc, parts)?;
+    let named = name_schemas(alloc, parts)?;
     let joins = colimit_parts(alloc, literal)?;
     match colimit(alloc, typeside, named.as_slice(), joins) {
         Ok(made) => Ok(made),
         Err(refusal) => {
             let places = colimit_places(alloc, literal)?;
-            Err(colimit_refusal(place, places.as_slice(), refusal))
+            Err(tell_colimit(place, places.as_slice(), refusal))
         }
     }
 }
 
 /// The schemas under the names under which they stand.
-fn named_schemas(alloc: Global, parts: &[UsedSchema]) -> Result<Vec<(Name, Rc<Schema>)>, AllocError>
+fn name_schemas(alloc: Global, parts: &[UsedSchema]) -> Result<Vec<(Name, Rc<Schema>)>, AllocError>
     ensures { IfOk result (λ named. map (λ part. (part.0, part.1.value)) named.items
         ≡ named_schemas (useds_meant parts.now)) }
 {
@@ -186,7 +187,7 @@ fn named_schemas(alloc: Global, parts: &[UsedSchema]) -> Result<Vec<(Name, Rc<Sc
 }
 
 /// The rule that a part of a colimit breaks, at the part's place, or at the declaration's.
-fn colimit_refusal(place: Place, places: &[Place], refusal: ColimitRefusal) -> ProgramRefusal
+fn tell_colimit(place: Place, places: &[Place], refusal: ColimitRefusal) -> ProgramRefusal
     requires names { (m n : ℕ) → refusal ≡ joining.NameClash m n → (m < 2 ^ 32 - 1) × (n < 2 ^ 32 - 1) }
     requires long { (n : ℕ) → refusal ≡ joining.LongName n → n < 2 ^ 32 - 1 }
     ensures { Tells result (colimit_breach place places.now refusal) }
@@ -227,7 +228,7 @@ fn colimit_refusal(place: Place, places: &[Place], refusal: ColimitRefusal) -> P
 }
 
 /// A colimit under its name, with its parts under theirs.
-fn named_colimit(
+fn name_colimit(
     alloc: Global,
     name: &Name,
     typeside: &Name,
@@ -245,13 +246,13 @@ fn named_colimit(
         typeside: typeside.clone()?,
         schema,
     };
-    let inclusions = shared(alloc, inclusions.into_vec())?;
-    let parts = named_parts(alloc, parts, inclusions.as_slice())?;
+    let inclusions = share_mappings(alloc, inclusions.into_vec())?;
+    let parts = name_parts(alloc, parts, inclusions.as_slice())?;
     Ok(NamedColimit { schema, parts })
 }
 
 /// Mappings that are kept where they are used once more.
-fn shared(alloc: Global, mappings: Vec<Mapping>) -> Result<Vec<Rc<Mapping>>, AllocError>
+fn share_mappings(alloc: Global, mappings: Vec<Mapping>) -> Result<Vec<Rc<Mapping>>, AllocError>
     ensures { IfOk result (λ shared. map (λ mapping. mapping.value) shared.items ≡ mappings.items) }
 {
     let mut shared = Vec::new(alloc);
@@ -262,7 +263,7 @@ fn shared(alloc: Global, mappings: Vec<Mapping>) -> Result<Vec<Rc<Mapping>>, All
 }
 
 /// The inclusions under the names under which their schemas stand.
-fn named_parts(
+fn name_parts(
     alloc: Global,
     parts: &[UsedSchema],
     inclusions: &[Rc<Mapping>],
@@ -272,13 +273,13 @@ fn named_parts(
 {
     let mut named = Vec::new(alloc);
     for (part, inclusion) in parts.iter().zip(inclusions.iter()) {
-        named.push(named_part(part, inclusion)?)?;
+        named.push(name_part(part, inclusion)?)?;
     }
     Ok(Seq::from_vec(named))
 }
 
 /// An inclusion under the name under which its schema stands.
-fn named_part(part: &UsedSchema, inclusion: &Rc<Mapping>) -> Result<NamedPart, AllocError>
+fn name_part(part: &UsedSchema, inclusion: &Rc<Mapping>) -> Result<NamedPart, AllocError>
     ensures { IfOk result (λ named. part_meant named
         ≡ record { name = part.now.name; source = part.now.part.name; inclusion = inclusion.now.value }) }
 {
@@ -321,14 +322,14 @@ pub fn pose_inclusion(
         Err(refusal) => return Err(refusal),
     };
     let _over = env.schema(used)?;
-    match part_named(found.parts.as_slice(), &used.name) {
+    match find_part(found.parts.as_slice(), &used.name) {
         Some(part) => Ok(inclusion_of(part, &found.schema.name)?),
         None => Err(ProgramRefusal::Broken(used.place, Reason::WrongSchema)),
     }
 }
 
 /// The part that stands under a name.
-fn part_named<'a>(parts: &'a [NamedPart], name: &Name) -> Option<&'a NamedPart>
+fn find_part<'a>(parts: &'a [NamedPart], name: &Name) -> Option<&'a NamedPart>
     ensures { option_map (λ part. part_meant part.now) result ≡ part_named (map part_meant parts.now) name.now }
 {
     for part in parts {

@@ -2,14 +2,14 @@
 ghost use Rattle.std.specs.Prelude.{ℕ, ◌≡◌, ◌<◌, ◌≤◌, IfOk, IfErr, Some, None, length, option_map, slice_get};
 ghost use Rattle.cq_query.specs.Coeval.{coeval_of};
 ghost use Rattle.cq_query.specs.Duties.{Sound};
-ghost use Rattle.cq_program.specs.Checks.{a_made, an_eval};
+ghost use Rattle.cq_program.specs.Posed.{a_made, an_eval};
 ghost use Rattle.cq_environment.specs.Environment.{IsModelled, Tells, meant};
 ghost use Rattle.cq_eval.specs.declared.refusal.EvalRefusal.TheVariants.{TooManyAnswers as HasMany, TooLarge, Memory};
 ghost use Rattle.cq_environment.specs.declared.reason.Reason.TheVariants.{TooManyAnswers, Oversized};
 ghost use Rattle.cq_program.specs.Judging.{Withholds};
 ghost use Rattle.cq_program.specs.Program.{Stands};
 
-use crate::made::{made, shared_instance};
+use crate::made::{mean_model, share_instance};
 use cq_base::{Name, Place};
 use cq_coeval::coeval;
 use cq_environment::{Meaning, ProgramRefusal, Reason};
@@ -20,7 +20,7 @@ use cq_query::Query;
 use std::alloc::Global;
 
 /// The answers of a query to an instance.
-pub fn answered(
+pub fn mean_eval(
     alloc: Global,
     place: Place,
     name: Name,
@@ -35,11 +35,11 @@ pub fn answered(
         (an_eval name query.now instance.now.tables)) }
 {
     let made = query.query(alloc)?;
-    answered_made(alloc, place, name, &made, instance)
+    mean_eval_made(alloc, place, name, &made, instance)
 }
 
 /// The same of a query that is made.
-fn answered_made(
+fn mean_eval_made(
     alloc: Global,
     place: Place,
     name: Name,
@@ -55,13 +55,13 @@ fn answered_made(
 {
     query.is_well_sorted();
     match eval(alloc, query, instance) {
-        Ok(made) => Ok(shared_instance(alloc, name, made)?),
-        Err(refusal) => Err(eval_refusal(place, query, refusal)),
+        Ok(made) => Ok(share_instance(alloc, name, made)?),
+        Err(refusal) => Err(tell_eval(place, query, refusal)),
     }
 }
 
 /// The refusal of too many or of too large answers, at the declaration's place.
-fn eval_refusal(place: Place, query: &Query, refusal: EvalRefusal) -> ProgramRefusal
+fn tell_eval(place: Place, query: &Query, refusal: EvalRefusal) -> ProgramRefusal
     requires { (n : ℕ) → refusal ≡ HasMany n → n < length query.now.target.entities }
     ensures many { (n : ℕ) → refusal ≡ HasMany n → Tells result
         (option_map (λ name. (place, TooManyAnswers name)) (slice_get query.now.target.entities n)) }
@@ -69,14 +69,14 @@ fn eval_refusal(place: Place, query: &Query, refusal: EvalRefusal) -> ProgramRef
     ensures memory { refusal ≡ Memory → Tells result None }
 {
     match refusal {
-        EvalRefusal::TooManyAnswers(entity) => too_many(place, query, entity),
+        EvalRefusal::TooManyAnswers(entity) => tell_answers(place, query, entity),
         EvalRefusal::TooLarge => ProgramRefusal::Broken(place, Reason::Oversized),
         EvalRefusal::Memory => ProgramRefusal::Memory,
     }
 }
 
 /// The refusal that an entity of the target of a query gets too many answers.
-fn too_many(place: Place, query: &Query, entity: u32) -> ProgramRefusal
+fn tell_answers(place: Place, query: &Query, entity: u32) -> ProgramRefusal
     requires { entity < length query.now.target.entities }
     ensures { Tells result (option_map (λ name. (place, TooManyAnswers name))
         (slice_get query.now.target.entities entity)) }
@@ -89,7 +89,7 @@ fn too_many(place: Place, query: &Query, entity: u32) -> ProgramRefusal
 
 /// The freest instance of the source of a query that has the rows of an instance among its answers, made of rows up to
 /// a depth.
-pub fn read_backwards(
+pub fn mean_coeval(
     alloc: Global,
     place: Place,
     name: Name,
@@ -106,11 +106,11 @@ pub fn read_backwards(
         (a_made name query.now.source (coeval_of query.now instance.now.tables))) }
 {
     let made = query.query(alloc)?;
-    read_made(alloc, place, name, &made, instance, depth)
+    mean_coeval_made(alloc, place, name, &made, instance, depth)
 }
 
 /// The same of a query that is made.
-fn read_made(
+fn mean_coeval_made(
     alloc: Global,
     place: Place,
     name: Name,
@@ -129,5 +129,5 @@ fn read_made(
     query.is_well_sorted();
     instance.is_instance();
     let answer = coeval(alloc, query, instance, depth);
-    made(alloc, place, name, &query.source.typeside, answer)
+    mean_model(alloc, place, name, &query.source.typeside, answer)
 }

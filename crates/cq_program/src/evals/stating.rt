@@ -1,7 +1,7 @@
 //! Instances that are moved along queries: what is posed of them.
 ghost use Rattle.std.specs.Prelude.{IfOk};
 ghost use Rattle.cq_base.specs.declared.name.Name.{Name as TheName};
-ghost use Rattle.cq_program.specs.Checks.{coeval_posed, eval_posed};
+ghost use Rattle.cq_program.specs.Evals.{coeval_posed, eval_posed};
 ghost use Rattle.cq_environment.specs.Environment.{Answers, AreSettled, environment_of};
 ghost use Rattle.cq_program.specs.Posing.{IsGrounded, IsPosed, posed_as};
 

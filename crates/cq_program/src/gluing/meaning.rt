@@ -3,13 +3,14 @@ ghost use Rattle.std.specs.Prelude.{◌≡◌, ◌≤◌, All, IfOk, IfErr, map}
 ghost use Rattle.cq_transform.specs.Gluing.{coproduct_of};
 ghost use Rattle.cq_theory.specs.Presentation.{IsPresentation};
 ghost use Rattle.cq_theory.specs.SchemaData.{SchemaData};
-ghost use Rattle.cq_program.specs.Checks.{a_made, pushed_out};
+ghost use Rattle.cq_program.specs.Posed.{a_made};
+ghost use Rattle.cq_program.specs.Gluing.{pushed_out};
 ghost use Rattle.cq_environment.specs.Environment.{IsModelled, meant, transform_meant};
 ghost use Rattle.cq_program.specs.Posing.{AreSpan};
 ghost use Rattle.cq_program.specs.Judging.{Withholds};
 ghost use Rattle.cq_program.specs.Program.{Stands};
 
-use crate::made::{made, typeside_of};
+use crate::made::{mean_model, typeside_of};
 use crate::transforms::stating::is_over_schema;
 use cq_base::{Name, Place};
 use cq_environment::{Meaning, NamedTransform, ProgramRefusal};
@@ -20,7 +21,7 @@ use std::alloc::Global;
 use std::rc::Rc;
 
 /// The listed model of the disjoint union of the presentations of instances over a schema, made of rows up to a depth.
-pub fn summed(
+pub fn mean_coproduct(
     alloc: Global,
     place: Place,
     name: Name,
@@ -40,7 +41,7 @@ pub fn summed(
     are_presented(parts);
     let over = schema.clone()?;
     let answer = coproduct(alloc, schema, parts, depth);
-    made(alloc, place, name, &over.typeside, answer)
+    mean_model(alloc, place, name, &over.typeside, answer)
 }
 
 /// Instances over one schema have presentations over it. The call does nothing.
@@ -55,7 +56,7 @@ fn are_presented(parts: &[Rc<Instance>])
 
 /// The listed model of the presentations of two instances that are glued along transforms from one start, made of rows
 /// up to a depth.
-pub fn glued(
+pub fn mean_pushout(
     alloc: Global,
     place: Place,
     left: &NamedTransform,
@@ -80,5 +81,5 @@ pub fn glued(
     into_right.is_instance();
     let name = left.ends.start.schema.clone()?;
     let answer = pushout(alloc, first, second, start, into_left, into_right, depth);
-    made(alloc, place, name, typeside_of(start), answer)
+    mean_model(alloc, place, name, typeside_of(start), answer)
 }

@@ -2,7 +2,7 @@
 ghost use Rattle.std.specs.Prelude.{◌≡◌, ◌++◌, ◌∷◌, [], IfOk, IfErr, OnOk, Ok, map};
 ghost use Rattle.cq_base.specs.declared.name.Name.{Name as TheName};
 ghost use Rattle.cq_environment.specs.Meanings.{InstanceMeant, instance_used};
-ghost use Rattle.cq_program.specs.Checks.{coproduct_posed, first_misfit, operands_used, pushout_posed};
+ghost use Rattle.cq_program.specs.Gluing.{coproduct_posed, first_misfit, operands_used, pushout_posed};
 ghost use Rattle.cq_environment.specs.Environment.{Answers, AreSettled, Refuses, environment_of};
 ghost use Rattle.cq_program.specs.Views.{operands_meant};
 ghost use Rattle.cq_program.specs.Posing.{IsGrounded, IsPosed, posed_as};
@@ -40,7 +40,7 @@ pub fn pose_coproduct(
 {
     let operands = operands_of(alloc, env, used)?;
     let over = env.schema(schema)?;
-    if let Some(place) = first_misfit(&over.name, operands.as_slice()) {
+    if let Some(place) = find_misfit(&over.name, operands.as_slice()) {
         return Err(ProgramRefusal::Broken(place, Reason::WrongSchema));
     }
     let instances = instances_of(alloc, operands)?;
@@ -84,7 +84,7 @@ fn push_operand(
 }
 
 /// The place of the first operand that isn't over the schema of a printed name.
-fn first_misfit(name: &Name, operands: &[Operand]) -> Option<Place>
+fn find_misfit(name: &Name, operands: &[Operand]) -> Option<Place>
     ensures { result ≡ first_misfit name.now (operands_meant operands.now) }
 {
     for operand in operands {

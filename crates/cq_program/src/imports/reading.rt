@@ -51,7 +51,7 @@ fn read_folder<F: Folder>(
 {
     match import_files(alloc, &files, folder) {
         Ok(presentation) => Ok(Statement::Presentation(files.name, files.schema, presentation)),
-        Err(refusal) => Err(import_refusal(place, refusal)),
+        Err(refusal) => Err(tell_import(place, refusal)),
     }
 }
 
@@ -74,7 +74,7 @@ fn import_files<F: Folder>(
 }
 
 /// The refusal of an import, at the declaration's place.
-fn import_refusal(place: Place, refusal: CsvRefusal) -> ProgramRefusal
+fn tell_import(place: Place, refusal: CsvRefusal) -> ProgramRefusal
     ensures { TellsImport place (told refusal) result }
 {
     match refusal {

@@ -35,30 +35,19 @@ pub fn folder_of(body: &Body) -> Option<(Format, &Name, &Spot)>
         ≡ folder_of body.now }
 {
     match body {
-        Body::Typeside(_) => None,
-        Body::Schema(_) => None,
-        Body::Colimit(_) => None,
-        Body::Mapping(_) => None,
-        Body::Query(_) => None,
-        Body::Instance(expression) => folder_in(expression),
-        Body::Transform(_) => None,
+        Body::Instance(expression) => folder_of_instance(expression),
+        _ => None,
     }
 }
 
-fn folder_in(expression: &InstanceExp) -> Option<(Format, &Name, &Spot)>
+fn folder_of_instance(expression: &InstanceExp) -> Option<(Format, &Name, &Spot)>
     ensures { option_map (λ found. record { format = found.0; dir = found.1.now; schema = found.2.now }) result
         ≡ folder_of (Instanced expression.now) }
 {
     match expression {
-        InstanceExp::Literal(_) => None,
-        InstanceExp::Delta(_, _) => None,
-        InstanceExp::Sigma(_, _) => None,
-        InstanceExp::Eval(_, _) => None,
-        InstanceExp::Coeval(_, _) => None,
-        InstanceExp::Coproduct(_, _) => None,
-        InstanceExp::Pushout(_, _) => None,
         InstanceExp::ImportCsv(dir, used, _) => Some((Format::First, dir, used)),
         InstanceExp::ImportCsv2(dir, used, _) => Some((Format::Second, dir, used)),
+        _ => None,
     }
 }
 

@@ -4,9 +4,9 @@ ghost use Rattle.cq_theory.specs.Presentation.{IsPresentation};
 ghost use Rattle.cq_program.specs.Program.{Stands};
 ghost use Rattle.cq_environment.specs.Environment.{IsModelled, meant};
 ghost use Rattle.cq_program.specs.Judging.{Withholds};
-ghost use Rattle.cq_program.specs.Checks.{a_presentation};
+ghost use Rattle.cq_program.specs.Posed.{a_presentation};
 
-use crate::made::{clash, shared_instance};
+use crate::made::{share_instance, tell_clash};
 use cq_base::{Name, Place};
 use cq_environment::{Meaning, ProgramRefusal, Reason};
 use cq_model::{BuildRefusal, build};
@@ -15,7 +15,7 @@ use std::alloc::Global;
 use std::rc::Rc;
 
 /// The listed model of a presentation, made of rows up to a depth.
-pub fn model_of(
+pub fn mean_presentation(
     alloc: Global,
     place: Place,
     name: Name,
@@ -32,11 +32,11 @@ pub fn model_of(
     schema.is_well_sorted();
     let over = schema.clone()?;
     match build(alloc, schema, presentation, depth) {
-        Ok(model) => Ok(shared_instance(alloc, name, model)?),
+        Ok(model) => Ok(share_instance(alloc, name, model)?),
         Err(BuildRefusal::Depth) => Err(ProgramRefusal::Broken(place, Reason::Depth)),
         Err(BuildRefusal::TooManyRows) => Err(ProgramRefusal::Broken(place, Reason::TooManyRows)),
         Err(BuildRefusal::Inconsistent(least, greater)) => {
-            Err(clash(alloc, place, &over.typeside, least, greater))
+            Err(tell_clash(alloc, place, &over.typeside, least, greater))
         }
         Err(BuildRefusal::Memory) => Err(ProgramRefusal::Memory),
     }

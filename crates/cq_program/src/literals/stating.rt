@@ -3,11 +3,11 @@ ghost use Rattle.std.specs.Prelude.{◌<◌, ◌^◌, IfOk};
 ghost use Rattle.cq_base.specs.declared.name.Name.{Name as TheName};
 ghost use Rattle.cq_theory.specs.Presentation.{IsPresentation};
 ghost use Rattle.cq_parts.specs.Parts.{instance_count};
-ghost use Rattle.cq_program.specs.Checks.{instance_posed, presentation_given};
+ghost use Rattle.cq_program.specs.Literals.{instance_posed, presentation_given};
 ghost use Rattle.cq_environment.specs.Environment.{Answers, AreSettled, environment_of};
 ghost use Rattle.cq_program.specs.Posing.{IsGrounded, IsPosed, posed_as};
 
-use crate::refusals::part_refusal;
+use crate::refusals::tell_part;
 use crate::statement::Statement;
 use cq_base::Place;
 use cq_environment::{Environment, ProgramRefusal};
@@ -31,12 +31,12 @@ pub fn pose_literal(
         (λ statement. IsGrounded (environment_of env.now.names.entries) name (posed_as statement)) }
 {
     let over = env.schema(&literal.schema)?;
-    let presentation = presentation_in(alloc, place, &over.schema, literal)?;
+    let presentation = make_presentation(alloc, place, &over.schema, literal)?;
     Ok(Statement::Presentation(over.name, over.schema, presentation))
 }
 
 /// The presentation of a literal over a schema, or the first part that breaks a rule.
-fn presentation_in(
+fn make_presentation(
     alloc: Global,
     place: Place,
     schema: &Schema,
@@ -51,7 +51,7 @@ fn presentation_in(
         Ok(presentation) => Ok(presentation),
         Err(refusal) => {
             let places = instance_places(alloc, literal)?;
-            Err(part_refusal(place, places.as_slice(), refusal))
+            Err(tell_part(place, places.as_slice(), refusal))
         }
     }
 }

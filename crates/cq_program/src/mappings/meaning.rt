@@ -4,9 +4,9 @@ ghost use Rattle.cq_program.specs.Program.{Stands};
 ghost use Rattle.cq_environment.specs.Environment.{IsModelled, meant};
 ghost use Rattle.cq_program.specs.Judging.{Withholds};
 ghost use Rattle.cq_environment.specs.Meanings.{mapping};
-ghost use Rattle.cq_program.specs.Checks.{a_mapping, an_identity};
+ghost use Rattle.cq_program.specs.Posed.{a_mapping, an_identity};
 
-use crate::duties::unmet;
+use crate::duties::tell_unmet;
 use cq_base::{Name, Place};
 use cq_check::check_mapping;
 use cq_environment::{Meaning, ProgramRefusal};
@@ -16,7 +16,7 @@ use std::alloc::{AllocError, Global};
 use std::rc::Rc;
 
 /// A mapping, each of whose duties is derived up to a depth.
-pub fn checked_mapping(
+pub fn mean_mapping(
     alloc: Global,
     place: Place,
     source: Name,
@@ -30,22 +30,22 @@ pub fn checked_mapping(
     ensures withholds { IfErr result (Withholds depth place (a_mapping source target mapping)) }
 {
     match check_mapping(alloc, &mapping, depth) {
-        Ok(()) => Ok(shared_mapping(alloc, source, target, mapping)?),
-        Err(refusal) => Err(unmet(place, refusal)),
+        Ok(()) => Ok(share_mapping(alloc, source, target, mapping)?),
+        Err(refusal) => Err(tell_unmet(place, refusal)),
     }
 }
 
 /// The identity of a schema.
-pub fn identity(alloc: Global, name: Name, schema: Rc<Schema>) -> Result<Meaning, AllocError>
+pub fn mean_identity(alloc: Global, name: Name, schema: Rc<Schema>) -> Result<Meaning, AllocError>
     ensures stands { IfOk result (λ meaning. Stands (an_identity name schema.value) (meant meaning)) }
     ensures modelled { IfOk result (λ meaning. IsModelled (meant meaning)) }
 {
     let copy = name.clone()?;
     let mapping = Mapping::identity(alloc, schema)?;
-    shared_mapping(alloc, copy, name, mapping)
+    share_mapping(alloc, copy, name, mapping)
 }
 
-fn shared_mapping(
+fn share_mapping(
     alloc: Global,
     source: Name,
     target: Name,

@@ -2,11 +2,11 @@
 ghost use Rattle.std.specs.Prelude.{◌≡◌, ◌<◌, ◌^◌, IfOk};
 ghost use Rattle.cq_base.specs.declared.name.Name.{Name as TheName};
 ghost use Rattle.cq_parts.specs.Parts.{mapping_count};
-ghost use Rattle.cq_program.specs.Checks.{identity_posed, mapping_given, mapping_posed};
+ghost use Rattle.cq_program.specs.Mappings.{identity_posed, mapping_given, mapping_posed};
 ghost use Rattle.cq_environment.specs.Environment.{Answers, AreSettled, environment_of};
 ghost use Rattle.cq_program.specs.Posing.{IsGrounded, IsPosed, posed_as};
 
-use crate::refusals::arrow_refusal;
+use crate::refusals::tell_arrow;
 use crate::statement::Statement;
 use cq_base::Place;
 use cq_environment::{Environment, ProgramRefusal, Reason};
@@ -36,7 +36,7 @@ pub fn pose_mapping(
     if source.typeside != target.typeside {
         return Err(ProgramRefusal::Broken(literal.target.place, Reason::WrongSchema));
     }
-    match mapping_in(alloc, place, source.schema, target.schema, literal) {
+    match make_mapping(alloc, place, source.schema, target.schema, literal) {
         Ok(mapping) => Ok(Statement::Mapping(source.name, target.name, mapping)),
         Err(refusal) => Err(refusal),
     }
@@ -56,7 +56,7 @@ pub fn pose_identity(env: &Environment, used: &Spot) -> Result<Statement, Progra
 }
 
 /// The mapping of a literal between schemas of one typeside, or the first part that breaks a rule or is missing.
-fn mapping_in(
+fn make_mapping(
     alloc: Global,
     place: Place,
     source: Rc<Schema>,
@@ -73,7 +73,7 @@ fn mapping_in(
         Ok(mapping) => Ok(mapping),
         Err(refusal) => {
             let places = mapping_places(alloc, literal)?;
-            Err(arrow_refusal(place, places.as_slice(), refusal))
+            Err(tell_arrow(place, places.as_slice(), refusal))
         }
     }
 }

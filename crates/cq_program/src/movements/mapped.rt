@@ -19,7 +19,7 @@ use cq_transform::identity;
 use std::alloc::{AllocError, Global};
 
 /// A transform along sigma.
-pub fn sigma_moved(
+pub fn move_by_sigma(
     alloc: Global,
     mapping: &Mapping,
     carrying: &Carrying,
@@ -43,7 +43,7 @@ pub fn sigma_moved(
 }
 
 /// A transform along delta.
-pub fn delta_moved(
+pub fn move_by_delta(
     alloc: Global,
     mapping: &Mapping,
     carrying: &Carrying,
@@ -67,7 +67,7 @@ pub fn delta_moved(
 }
 
 /// The identity of an instance.
-pub fn own(alloc: Global, instance: &Instance) -> Result<Transform, AllocError>
+pub fn make_identity(alloc: Global, instance: &Instance) -> Result<Transform, AllocError>
     requires { IsTermModel instance.now }
     ensures is { IfOk result (λ made. made ≡ identity_of instance.now) }
     ensures goes { IfOk result (λ made. GoesFrom made instance.now instance.now) }
@@ -77,7 +77,7 @@ pub fn own(alloc: Global, instance: &Instance) -> Result<Transform, AllocError>
 }
 
 /// The unit from an instance to delta of its sigma, which is there.
-pub fn unit(
+pub fn make_unit(
     alloc: Global,
     mapping: &Mapping,
     start: &Instance,
@@ -89,14 +89,14 @@ pub fn unit(
         start.now finish.now) }
     ensures refused { IfErr result (TellsLong (AreAround (by_sigma mapping.now) start.now finish.now there.now)) }
 {
-    let Ok(itself) = own(alloc, there) else {
+    let Ok(itself) = make_identity(alloc, there) else {
         return Err(SizeRefusal::Memory);
     };
     to_delta(alloc, mapping, &itself, start, there, there, finish)
 }
 
 /// The counit to an instance from sigma of its delta, which is there.
-pub fn counit(
+pub fn make_counit(
     alloc: Global,
     mapping: &Mapping,
     start: &Instance,
@@ -108,7 +108,7 @@ pub fn counit(
         start.now finish.now) }
     ensures refused { IfErr result (TellsLong (AreAround (by_delta mapping.now) start.now finish.now there.now)) }
 {
-    let Ok(itself) = own(alloc, there) else {
+    let Ok(itself) = make_identity(alloc, there) else {
         return Err(SizeRefusal::Memory);
     };
     is_over_schema(finish);

@@ -1,6 +1,6 @@
 //! Transforms that operations move, and units and counits: what they stand for.
 ghost use Rattle.std.specs.Prelude.{ℕ, ◌≡◌, IfOk, IfErr};
-ghost use Rattle.cq_program.specs.Checks.{a_move};
+ghost use Rattle.cq_program.specs.Posed.{a_move};
 ghost use Rattle.cq_environment.specs.Environment.{IsModelled, ends_meant, meant};
 ghost use Rattle.cq_program.specs.Views.{move_meant, movement_meant, route_meant};
 ghost use Rattle.cq_environment.specs.Environment.{transform_meant};
@@ -12,8 +12,8 @@ ghost use Rattle.cq_program.specs.MovedImages.{AreAround, AreImages, AreMoved, H
 ghost use Rattle.cq_program.specs.Program.{Stands};
 
 use crate::movements::carrying::Carrying;
-use crate::movements::mapped::{counit, delta_moved, sigma_moved, unit};
-use crate::movements::queried::{coeval_moved, eval_moved, query_counit, query_unit};
+use crate::movements::mapped::{make_counit, make_unit, move_by_delta, move_by_sigma};
+use crate::movements::queried::{make_query_counit, make_query_unit, move_by_coeval, move_by_eval};
 use crate::movements::stating::{Movement, Moving, Route};
 use crate::transforms::stating::is_over_schema;
 use cq_base::Place;
@@ -24,7 +24,7 @@ use std::alloc::{AllocError, Global};
 use std::rc::Rc;
 
 /// The transform that a movement gives between its ends.
-pub fn moved(alloc: Global, place: Place, moving: Moving) -> Result<Meaning, ProgramRefusal>
+pub fn mean_move(alloc: Global, place: Place, moving: Moving) -> Result<Meaning, ProgramRefusal>
     requires { IsMoving (move_meant moving) }
     ensures stands { IfOk result (λ meaning. Stands (a_move (move_meant moving)) (meant meaning)) }
     ensures modelled { IfOk result (λ meaning. IsModelled (meant meaning)) }
@@ -33,14 +33,18 @@ pub fn moved(alloc: Global, place: Place, moving: Moving) -> Result<Meaning, Pro
     let start: &Instance = &moving.ends.start.instance;
     is_over_schema(start);
     match transform_of(alloc, &moving.ends, &moving.movement) {
-        Ok(transform) => Ok(shared(alloc, moving.ends, transform)?),
+        Ok(transform) => Ok(share_transform(alloc, moving.ends, transform)?),
         Err(SizeRefusal::TooLarge) => Err(ProgramRefusal::Broken(place, Reason::Oversized)),
         Err(SizeRefusal::Memory) => Err(ProgramRefusal::Memory),
     }
 }
 
 /// A transform between its ends.
-fn shared(alloc: Global, ends: NamedEnds, transform: Transform) -> Result<Meaning, AllocError>
+fn share_transform(
+    alloc: Global,
+    ends: NamedEnds,
+    transform: Transform,
+) -> Result<Meaning, AllocError>
     ensures { IfOk result (λ meaning. meant meaning ≡ meant_transform (ends_meant ends) transform) }
 {
     let shared = Rc::new(alloc, transform)?;
@@ -62,13 +66,13 @@ fn transform_of(
     ensures refused { IfErr result (TellsLong (AreImages (movement_meant movement.now) (ends_meant ends.now))) }
 {
     match movement {
-        Movement::Along(route, transform) => along(alloc, route, ends, transform),
-        Movement::Around(route, there) => around(alloc, route, ends, there),
+        Movement::Along(route, transform) => move_along(alloc, route, ends, transform),
+        Movement::Around(route, there) => make_around(alloc, route, ends, there),
     }
 }
 
 /// A transform that is moved along a route.
-fn along(
+fn move_along(
     alloc: Global,
     route: &Route,
     ends: &NamedEnds,
@@ -83,10 +87,10 @@ fn along(
 {
     let carrying = carrying_of(ends, transform);
     match route {
-        Route::Sigma(mapping) => sigma_moved(alloc, mapping, &carrying),
-        Route::Delta(mapping) => delta_moved(alloc, mapping, &carrying),
-        Route::Eval(query) => eval_moved(alloc, query, &carrying),
-        Route::Coeval(query) => coeval_moved(alloc, query, &carrying),
+        Route::Sigma(mapping) => move_by_sigma(alloc, mapping, &carrying),
+        Route::Delta(mapping) => move_by_delta(alloc, mapping, &carrying),
+        Route::Eval(query) => move_by_eval(alloc, query, &carrying),
+        Route::Coeval(query) => move_by_coeval(alloc, query, &carrying),
     }
 }
 
@@ -109,7 +113,7 @@ fn carrying_of<'a>(ends: &'a NamedEnds, transform: &'a NamedTransform) -> Carryi
 }
 
 /// The unit or the counit between two ends, with the instance there.
-fn around(
+fn make_around(
     alloc: Global,
     route: &Route,
     ends: &NamedEnds,
@@ -125,9 +129,9 @@ fn around(
     let start: &Instance = &ends.start.instance;
     let finish: &Instance = &ends.finish.instance;
     match route {
-        Route::Sigma(mapping) => unit(alloc, mapping, start, finish, there),
-        Route::Delta(mapping) => counit(alloc, mapping, start, finish, there),
-        Route::Eval(query) => query_counit(alloc, query, start, finish, there),
-        Route::Coeval(query) => query_unit(alloc, query, start, finish, there),
+        Route::Sigma(mapping) => make_unit(alloc, mapping, start, finish, there),
+        Route::Delta(mapping) => make_counit(alloc, mapping, start, finish, there),
+        Route::Eval(query) => make_query_counit(alloc, query, start, finish, there),
+        Route::Coeval(query) => make_query_unit(alloc, query, start, finish, there),
     }
 }

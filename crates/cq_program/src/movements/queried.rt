@@ -7,7 +7,7 @@ ghost use Rattle.cq_program.specs.Carrying.{carried_as};
 ghost use Rattle.cq_program.specs.MovedImages.{AreAround, AreMoved, HasImages, TellsLong};
 
 use crate::movements::carrying::Carrying;
-use crate::movements::mapped::own;
+use crate::movements::mapped::make_identity;
 use crate::transforms::stating::is_over_schema;
 use cq_adjoint::{coeval_map, eval_map, from_eval, to_eval};
 use cq_eval::answers;
@@ -20,7 +20,7 @@ use std::alloc::{AllocError, Global};
 
 /// The answers of a query for each entity of its target. Where the instance of the answers was made, no entity has too
 /// many of them, and only memory can be wanting.
-fn all_answers(
+fn find_all_answers(
     alloc: Global,
     query: &Query,
     instance: &Instance,
@@ -40,7 +40,7 @@ fn all_answers(
 }
 
 /// A transform along eval.
-pub fn eval_moved(
+pub fn move_by_eval(
     alloc: Global,
     query: &LazyQuery,
     carrying: &Carrying,
@@ -53,11 +53,11 @@ pub fn eval_moved(
     let Ok(made) = query.query(alloc) else {
         return Err(SizeRefusal::Memory);
     };
-    eval_moved_made(alloc, &made, carrying)
+    move_by_eval_made(alloc, &made, carrying)
 }
 
 /// The same of a query that is made.
-fn eval_moved_made(
+fn move_by_eval_made(
     alloc: Global,
     query: &Query,
     carrying: &Carrying,
@@ -69,10 +69,10 @@ fn eval_moved_made(
 {
     let source = carrying.source;
     let target = carrying.target;
-    let Ok(from) = all_answers(alloc, query, source) else {
+    let Ok(from) = find_all_answers(alloc, query, source) else {
         return Err(SizeRefusal::Memory);
     };
-    let Ok(to) = all_answers(alloc, query, target) else {
+    let Ok(to) = find_all_answers(alloc, query, target) else {
         return Err(SizeRefusal::Memory);
     };
     eval_map(
@@ -89,7 +89,7 @@ fn eval_moved_made(
 }
 
 /// A transform along coeval.
-pub fn coeval_moved(
+pub fn move_by_coeval(
     alloc: Global,
     query: &LazyQuery,
     carrying: &Carrying,
@@ -102,11 +102,11 @@ pub fn coeval_moved(
     let Ok(made) = query.query(alloc) else {
         return Err(SizeRefusal::Memory);
     };
-    coeval_moved_made(alloc, &made, carrying)
+    move_by_coeval_made(alloc, &made, carrying)
 }
 
 /// The same of a query that is made.
-fn coeval_moved_made(
+fn move_by_coeval_made(
     alloc: Global,
     query: &Query,
     carrying: &Carrying,
@@ -130,7 +130,7 @@ fn coeval_moved_made(
 }
 
 /// The unit from an instance to eval of its coeval, which is there.
-pub fn query_unit(
+pub fn make_query_unit(
     alloc: Global,
     query: &LazyQuery,
     start: &Instance,
@@ -145,11 +145,11 @@ pub fn query_unit(
     let Ok(made) = query.query(alloc) else {
         return Err(SizeRefusal::Memory);
     };
-    query_unit_made(alloc, &made, start, finish, there)
+    make_query_unit_made(alloc, &made, start, finish, there)
 }
 
 /// The same of a query that is made.
-fn query_unit_made(
+fn make_query_unit_made(
     alloc: Global,
     query: &Query,
     start: &Instance,
@@ -161,10 +161,10 @@ fn query_unit_made(
         start.now finish.now) }
     ensures refused { IfErr result (TellsLong (AreAround (by_coeval query.now) start.now finish.now there.now)) }
 {
-    let Ok(itself) = own(alloc, there) else {
+    let Ok(itself) = make_identity(alloc, there) else {
         return Err(SizeRefusal::Memory);
     };
-    let Ok(found) = all_answers(alloc, query, there) else {
+    let Ok(found) = find_all_answers(alloc, query, there) else {
         return Err(SizeRefusal::Memory);
     };
     to_eval(
@@ -180,7 +180,7 @@ fn query_unit_made(
 }
 
 /// The counit to an instance from coeval of its eval, which is there.
-pub fn query_counit(
+pub fn make_query_counit(
     alloc: Global,
     query: &LazyQuery,
     start: &Instance,
@@ -195,11 +195,11 @@ pub fn query_counit(
     let Ok(made) = query.query(alloc) else {
         return Err(SizeRefusal::Memory);
     };
-    query_counit_made(alloc, &made, start, finish, there)
+    make_query_counit_made(alloc, &made, start, finish, there)
 }
 
 /// The same of a query that is made.
-fn query_counit_made(
+fn make_query_counit_made(
     alloc: Global,
     query: &Query,
     start: &Instance,
@@ -211,10 +211,10 @@ fn query_counit_made(
         start.now finish.now) }
     ensures refused { IfErr result (TellsLong (AreAround (by_eval query.now) start.now finish.now there.now)) }
 {
-    let Ok(itself) = own(alloc, there) else {
+    let Ok(itself) = make_identity(alloc, there) else {
         return Err(SizeRefusal::Memory);
     };
-    let Ok(found) = all_answers(alloc, query, finish) else {
+    let Ok(found) = find_all_answers(alloc, query, finish) else {
         return Err(SizeRefusal::Memory);
     };
     is_over_schema(finish);

@@ -2,7 +2,7 @@
 ghost use Rattle.std.specs.Prelude.{◌≡◌, true, false, IfOk, option_map};
 ghost use Rattle.cq_base.specs.declared.name.Name.{Name as TheName};
 ghost use Rattle.cq_program.specs.Checks.{move_posed};
-ghost use Rattle.cq_environment.specs.Environment.{Answers, AreEnds, AreSettled, ends_meant, environment_of};
+ghost use Rattle.cq_environment.specs.Environment.{Answers, AreEnds, AreSettled, ends_meant, environment_of, meant};
 ghost use Rattle.cq_program.specs.Views.{move_meant};
 ghost use Rattle.cq_program.specs.Views.{named_route_meant};
 ghost use Rattle.cq_environment.specs.Moves.{is_left};
@@ -10,7 +10,7 @@ ghost use Rattle.cq_program.specs.Movements as check;
 ghost use Rattle.cq_program.specs.Posing.{IsGrounded, IsMoving, IsPosed, posed_as};
 
 use crate::statement::Statement;
-use crate::transforms::stating::named_ends;
+use crate::transforms::stating::name_ends;
 use cq_base::Name;
 use cq_environment::{
     Environment, Meaning, NamedEnds, NamedTransform, Operation, ProgramRefusal, Reason,
@@ -69,14 +69,14 @@ pub fn pose_move(
     ensures grounded { (name : TheName) → IfOk result
         (λ statement. IsGrounded (environment_of env.now.names.entries) name (posed_as statement)) }
 {
-    match checked_move(env, form, along, moved, source, target) {
+    match check_move(env, form, along, moved, source, target) {
         Ok(moving) => Ok(Statement::Move(moving)),
         Err(refusal) => Err(refusal),
     }
 }
 
 /// The movement of a form.
-fn checked_move(
+fn check_move(
     env: &Environment,
     form: MoveForm,
     along: &Spot,
@@ -91,19 +91,19 @@ fn checked_move(
     ensures ends { IfOk result (λ moving. AreEnds (environment_of env.now.names.entries) (ends_meant moving.ends)) }
 {
     match form {
-        MoveForm::Sigma => moving_along(env, Operation::Sigma, along, moved, source, target),
-        MoveForm::Delta => moving_along(env, Operation::Delta, along, moved, source, target),
-        MoveForm::Eval => moving_along(env, Operation::Eval, along, moved, source, target),
-        MoveForm::Coeval => moving_along(env, Operation::Coeval, along, moved, source, target),
-        MoveForm::Unit => unit(env, Operation::Sigma, along, moved, source, target),
-        MoveForm::Counit => counit(env, Operation::Delta, along, moved, source, target),
-        MoveForm::UnitQuery => unit(env, Operation::Coeval, along, moved, source, target),
-        MoveForm::CounitQuery => counit(env, Operation::Eval, along, moved, source, target),
+        MoveForm::Sigma => check_along(env, Operation::Sigma, along, moved, source, target),
+        MoveForm::Delta => check_along(env, Operation::Delta, along, moved, source, target),
+        MoveForm::Eval => check_along(env, Operation::Eval, along, moved, source, target),
+        MoveForm::Coeval => check_along(env, Operation::Coeval, along, moved, source, target),
+        MoveForm::Unit => check_unit(env, Operation::Sigma, along, moved, source, target),
+        MoveForm::Counit => check_counit(env, Operation::Delta, along, moved, source, target),
+        MoveForm::UnitQuery => check_unit(env, Operation::Coeval, along, moved, source, target),
+        MoveForm::CounitQuery => check_counit(env, Operation::Eval, along, moved, source, target),
     }
 }
 
 /// A transform along an operation, between what the operation makes of its two ends.
-fn moving_along(
+fn check_along(
     env: &Environment,
     operation: Operation,
     along: &Spot,
@@ -148,7 +148,7 @@ fn moving_along(
 }
 
 /// The unit from an instance to what an operation and the one that goes back make of it.
-fn unit(
+fn check_unit(
     env: &Environment,
     operation: Operation,
     along: &Spot,
@@ -172,7 +172,7 @@ fn unit(
     if moved.name != source.name {
         return Err(ProgramRefusal::Broken(source.place, Reason::WrongOperand));
     }
-    let there = between(env, operation, along, moved, target)?;
+    let there = share_between(env, operation, along, moved, target)?;
     Ok(Moving {
         ends,
         movement: Movement::Around(named.route, there),
@@ -180,7 +180,7 @@ fn unit(
 }
 
 /// The counit to an instance from what an operation and the one that goes back make of it.
-fn counit(
+fn check_counit(
     env: &Environment,
     operation: Operation,
     along: &Spot,
@@ -201,7 +201,7 @@ fn counit(
     if named.taken != part.schema {
         return Err(ProgramRefusal::Broken(moved.place, Reason::WrongSchema));
     }
-    let there = between(env, operation, along, moved, source)?;
+    let there = share_between(env, operation, along, moved, source)?;
     if moved.name != target.name {
         return Err(ProgramRefusal::Broken(target.place, Reason::WrongOperand));
     }
@@ -259,7 +259,7 @@ fn ends_of(env: &Environment, source: &Spot, target: &Spot) -> Result<NamedEnds,
 {
     let start = instance_of(env, source)?;
     let finish = instance_of(env, target)?;
-    match named_ends(&source.name, &target.name, start, finish) {
+    match name_ends(&source.name, &target.name, start, finish) {
         Ok(ends) => Ok(ends),
         Err(_) => Err(ProgramRefusal::Memory),
     }
@@ -305,25 +305,28 @@ fn is_declared(
 }
 
 /// The instance for which a name stands, if it stands for one.
-fn instance_named<'a>(env: &'a Environment, name: &Name) -> Option<&'a Rc<Instance>>
+fn find_instance<'a>(env: &'a Environment, name: &Name) -> Option<&'a Rc<Instance>>
     ensures { option_map (λ found. found.now.value) result
         ≡ check.instance_named (environment_of env.now.names.entries) name.now }
 {
     match env.find(name) {
+        Some(meaning) => instance_in(meaning),
         None => None,
-        Some(Meaning::Typeside(_)) => None,
-        Some(Meaning::Schema(_)) => None,
-        Some(Meaning::Colimit(_)) => None,
-        Some(Meaning::Mapping(_, _, _)) => None,
-        Some(Meaning::Query(_, _, _)) => None,
-        Some(Meaning::Instance(_, instance)) => Some(instance),
-        Some(Meaning::Transform(_)) => None,
+    }
+}
+
+fn instance_in(meaning: &Meaning) -> Option<&Rc<Instance>>
+    ensures { option_map (λ found. found.now.value) result ≡ check.instance_by (meant meaning.now) }
+{
+    match meaning {
+        Meaning::Instance(_, instance) => Some(instance),
+        _ => None,
     }
 }
 
 /// The instance between an operand and the instance of a name, where this is declared by the operation that goes back,
 /// of one that is declared by the operation, of the operand.
-fn instance_between<'a>(
+fn find_between<'a>(
     env: &'a Environment,
     operation: Operation,
     along: &Name,
@@ -336,7 +339,7 @@ fn instance_between<'a>(
     match operand_of(env, operation.back(), along, name) {
         Some(middle) => {
             if is_declared(env, operation, along, operand, middle) {
-                instance_named(env, middle)
+                find_instance(env, middle)
             } else {
                 None
             }
@@ -346,7 +349,7 @@ fn instance_between<'a>(
 }
 
 /// The same of used names.
-fn between(
+fn share_between(
     env: &Environment,
     operation: Operation,
     along: &Spot,
@@ -356,7 +359,7 @@ fn between(
     ensures { Answers (λ found. found.value) result (check.between_used (environment_of env.now.names.entries)
         operation along.now operand.now end.now) }
 {
-    match instance_between(env, operation, &along.name, &operand.name, &end.name) {
+    match find_between(env, operation, &along.name, &operand.name, &end.name) {
         Some(found) => Ok(found.clone()?),
         None => Err(ProgramRefusal::Broken(end.place, Reason::WrongOperand)),
     }

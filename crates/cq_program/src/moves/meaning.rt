@@ -2,12 +2,12 @@
 ghost use Rattle.std.specs.Prelude.{ℕ, ◌≡◌, ◌≤◌, IfOk, IfErr};
 ghost use Rattle.cq_mapping.specs.Duties.{Preserves};
 ghost use Rattle.cq_mapping.specs.Images.{sigma as moved};
-ghost use Rattle.cq_program.specs.Checks.{a_delta, a_made};
+ghost use Rattle.cq_program.specs.Posed.{a_delta, a_made};
 ghost use Rattle.cq_environment.specs.Environment.{IsModelled, meant};
 ghost use Rattle.cq_program.specs.Judging.{Withholds};
 ghost use Rattle.cq_program.specs.Program.{Stands};
 
-use crate::made::{made, shared_instance};
+use crate::made::{mean_model, share_instance};
 use cq_base::{Name, Place};
 use cq_environment::{Meaning, ProgramRefusal, Reason};
 use cq_mapping::Mapping;
@@ -17,7 +17,7 @@ use cq_theory::SizeRefusal;
 use std::alloc::Global;
 
 /// The instance of the tables that a mapping pulls back.
-pub fn pulled(
+pub fn mean_delta(
     alloc: Global,
     place: Place,
     name: Name,
@@ -32,14 +32,14 @@ pub fn pulled(
         (a_delta name mapping.now instance.now.tables)) }
 {
     match delta(alloc, mapping, instance) {
-        Ok(made) => Ok(shared_instance(alloc, name, made)?),
+        Ok(made) => Ok(share_instance(alloc, name, made)?),
         Err(SizeRefusal::TooLarge) => Err(ProgramRefusal::Broken(place, Reason::Oversized)),
         Err(SizeRefusal::Memory) => Err(ProgramRefusal::Memory),
     }
 }
 
 /// The listed model of the presentation to which a mapping sends an instance's, made of rows up to a depth.
-pub fn pushed(
+pub fn mean_sigma(
     alloc: Global,
     place: Place,
     name: Name,
@@ -58,5 +58,5 @@ pub fn pushed(
     mapping.is_well_sorted();
     instance.is_instance();
     let answer = sigma(alloc, mapping, instance, depth);
-    made(alloc, place, name, &mapping.target.typeside, answer)
+    mean_model(alloc, place, name, &mapping.target.typeside, answer)
 }

@@ -1,6 +1,6 @@
 //! Instances that are moved along mappings: what is posed of them.
 ghost use Rattle.std.specs.Prelude.{IfOk};
-ghost use Rattle.cq_program.specs.Checks.{delta_posed, sigma_posed};
+ghost use Rattle.cq_program.specs.Moves.{delta_posed, sigma_posed};
 ghost use Rattle.cq_environment.specs.Environment.{Answers, AreSettled, environment_of};
 ghost use Rattle.cq_program.specs.Posing.{IsGrounded, IsPosed, posed_as};
 ghost use Rattle.cq_base.specs.declared.name.Name.{Name as TheName};

@@ -4,12 +4,12 @@ ghost use Rattle.cq_mapping.specs.Duties.{Preserves};
 ghost use Rattle.cq_query.specs.Duties.{Sound};
 ghost use Rattle.cq_base.specs.declared.place.Place.{Place as ThePlace};
 ghost use Rattle.cq_environment.specs.Meanings.{query as meant_query};
-ghost use Rattle.cq_program.specs.Checks.{a_composite, a_mapping_query, a_query};
+ghost use Rattle.cq_program.specs.Posed.{a_composite, a_mapping_query, a_query};
 ghost use Rattle.cq_environment.specs.Environment.{IsModelled, meant};
 ghost use Rattle.cq_program.specs.Judging.{Withholds};
 ghost use Rattle.cq_program.specs.Program.{Stands};
 
-use crate::duties::unmet;
+use crate::duties::tell_unmet;
 use cq_base::{Name, Place};
 use cq_check::check_query;
 use cq_compose::mapping_query;
@@ -22,7 +22,7 @@ use std::alloc::{AllocError, Global};
 use std::rc::Rc;
 
 /// A query, each of whose duties is derived up to a depth.
-pub fn checked_query(
+pub fn mean_query(
     alloc: Global,
     place: Place,
     source: Name,
@@ -36,13 +36,13 @@ pub fn checked_query(
     ensures withholds { IfErr result (Withholds depth place (a_query source target query)) }
 {
     match check_query(alloc, &query, depth) {
-        Ok(()) => Ok(shared_query(alloc, source, target, query)?),
-        Err(refusal) => Err(unmet(place, refusal)),
+        Ok(()) => Ok(share_query(alloc, source, target, query)?),
+        Err(refusal) => Err(tell_unmet(place, refusal)),
     }
 }
 
 /// A sound query stands for itself.
-fn shared_query(
+fn share_query(
     alloc: Global,
     source: Name,
     target: Name,
@@ -54,11 +54,11 @@ fn shared_query(
 {
     let query = Rc::new(alloc, query)?;
     let lazy = LazyQuery::new(alloc, query)?;
-    shared_lazy(alloc, source, target, lazy)
+    share_lazy(alloc, source, target, lazy)
 }
 
 /// The same of a query that may be made later.
-fn shared_lazy(
+fn share_lazy(
     alloc: Global,
     source: Name,
     target: Name,
@@ -73,7 +73,7 @@ fn shared_lazy(
 }
 
 /// The composite of two queries, which is made when it is used.
-pub fn composed(
+pub fn mean_composite(
     alloc: Global,
     place: Place,
     source: Name,
@@ -91,14 +91,14 @@ pub fn composed(
         (a_composite source target first.now second.now)) }
 {
     match LazyQuery::compose(alloc, first, second) {
-        Ok(query) => Ok(shared_lazy(alloc, source, target, query)?),
+        Ok(query) => Ok(share_lazy(alloc, source, target, query)?),
         Err(SizeRefusal::TooLarge) => Err(ProgramRefusal::Broken(place, Reason::Oversized)),
         Err(SizeRefusal::Memory) => Err(ProgramRefusal::Memory),
     }
 }
 
 /// The query of a mapping.
-pub fn of_mapping(
+pub fn mean_mapping_query(
     alloc: Global,
     source: Name,
     target: Name,
@@ -111,5 +111,5 @@ pub fn of_mapping(
         (a_mapping_query source target mapping.now)) }
 {
     let query = mapping_query(alloc, mapping)?;
-    Ok(shared_query(alloc, source, target, query)?)
+    Ok(share_query(alloc, source, target, query)?)
 }

@@ -1,12 +1,12 @@
 //! Queries: what is posed of them.
 ghost use Rattle.std.specs.Prelude.{◌≡◌, ◌<◌, ◌^◌, IfOk};
 ghost use Rattle.cq_base.specs.declared.name.Name.{Name as TheName};
-ghost use Rattle.cq_program.specs.Checks.{composite_posed, mapping_query_posed, query_given, query_posed};
+ghost use Rattle.cq_program.specs.Queries.{composite_posed, mapping_query_posed, query_given, query_posed};
 ghost use Rattle.cq_environment.specs.Environment.{Answers, AreSettled, environment_of};
 ghost use Rattle.cq_parts.specs.Parts.{query_count};
 ghost use Rattle.cq_program.specs.Posing.{IsGrounded, IsPosed, posed_as};
 
-use crate::refusals::arrow_refusal;
+use crate::refusals::tell_arrow;
 use crate::statement::Statement;
 use cq_base::Place;
 use cq_environment::{Environment, ProgramRefusal, Reason, mapping_of, query_of};
@@ -36,14 +36,14 @@ pub fn pose_query(
     if source.typeside != target.typeside {
         return Err(ProgramRefusal::Broken(literal.target.place, Reason::WrongSchema));
     }
-    match query_in(alloc, place, source.schema, target.schema, literal) {
+    match make_query(alloc, place, source.schema, target.schema, literal) {
         Ok(query) => Ok(Statement::Query(source.name, target.name, query)),
         Err(refusal) => Err(refusal),
     }
 }
 
 /// The query of a literal between schemas of one typeside, or the first part that breaks a rule or is missing.
-fn query_in(
+fn make_query(
     alloc: Global,
     place: Place,
     source: Rc<Schema>,
@@ -60,7 +60,7 @@ fn query_in(
         Ok(query) => Ok(query),
         Err(refusal) => {
             let places = query_places(alloc, literal)?;
-            Err(arrow_refusal(place, places.as_slice(), refusal))
+            Err(tell_arrow(place, places.as_slice(), refusal))
         }
     }
 }

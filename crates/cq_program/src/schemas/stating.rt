@@ -1,11 +1,11 @@
 //! Schemas: what is posed of them.
 ghost use Rattle.std.specs.Prelude.{◌≡◌, ◌<◌, ◌^◌, IfOk};
 ghost use Rattle.cq_parts.specs.Parts.{schema_count};
-ghost use Rattle.cq_program.specs.Checks.{schema_given, schema_posed};
+ghost use Rattle.cq_program.specs.Schemas.{schema_given, schema_posed};
 ghost use Rattle.cq_environment.specs.Environment.{schema_meant, Answers, environment_of};
 ghost use Rattle.cq_program.specs.Posing.{IsGrounded, IsPosed, posed_as};
 
-use crate::refusals::part_refusal;
+use crate::refusals::tell_part;
 use crate::statement::Statement;
 use cq_base::{Name, Place};
 use cq_environment::{Environment, NamedSchema, ProgramRefusal};
@@ -31,17 +31,13 @@ pub fn pose_schema(
         (posed_as statement)) }
 {
     let typeside = env.typeside(&literal.typeside)?;
-    let schema = schema_in(alloc, place, typeside, literal)?;
-    let shared = shared_schema(alloc, schema)?;
-    Ok(Statement::Schema(named_schema(name, &literal.typeside.name, &shared)?))
+    let schema = make_schema(alloc, place, typeside, literal)?;
+    let shared = share_schema(alloc, schema)?;
+    Ok(Statement::Schema(name_schema(name, &literal.typeside.name, &shared)?))
 }
 
 /// A schema under its name, with the name of its typeside.
-fn named_schema(
-    name: &Name,
-    typeside: &Name,
-    schema: &Rc<Schema>,
-) -> Result<NamedSchema, AllocError>
+fn name_schema(name: &Name, typeside: &Name, schema: &Rc<Schema>) -> Result<NamedSchema, AllocError>
     ensures { IfOk result (λ named. schema_meant named
         ≡ record { name = name.now; typeside = typeside.now; schema = schema.now.value }) }
 {
@@ -52,7 +48,7 @@ fn named_schema(
     })
 }
 
-fn shared_schema(alloc: Global, schema: Schema) -> Result<Rc<Schema>, AllocError>
+fn share_schema(alloc: Global, schema: Schema) -> Result<Rc<Schema>, AllocError>
     ensures { IfOk result (λ shared. shared.value ≡ schema) }
 {
     let shared = Rc::new(alloc, schema)?;
@@ -60,7 +56,7 @@ fn shared_schema(alloc: Global, schema: Schema) -> Result<Rc<Schema>, AllocError
 }
 
 /// The schema of a literal over a typeside, or the first part that breaks a rule.
-fn schema_in(
+fn make_schema(
     alloc: Global,
     place: Place,
     typeside: Rc<Typeside>,
@@ -75,7 +71,7 @@ fn schema_in(
         Ok(schema) => Ok(schema),
         Err(refusal) => {
             let places = schema_places(alloc, literal)?;
-            Err(part_refusal(place, places.as_slice(), refusal))
+            Err(tell_part(place, places.as_slice(), refusal))
         }
     }
 }

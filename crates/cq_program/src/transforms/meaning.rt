@@ -3,7 +3,7 @@ ghost use Rattle.std.specs.Prelude.{IfOk};
 ghost use Rattle.cq_program.specs.Program.{Stands};
 ghost use Rattle.cq_environment.specs.Environment.{IsModelled, ends_meant, meant};
 ghost use Rattle.cq_program.specs.Posing.{IsTransformOf};
-ghost use Rattle.cq_program.specs.Checks.{a_transform};
+ghost use Rattle.cq_program.specs.Posed.{a_transform};
 
 use cq_environment::{Meaning, NamedEnds, NamedTransform};
 use cq_model::Transform;
@@ -11,7 +11,7 @@ use std::alloc::{AllocError, Global};
 use std::rc::Rc;
 
 /// A transform that goes from its one end to the other stands for itself.
-pub fn shared_transform(
+pub fn mean_transform(
     alloc: Global,
     ends: NamedEnds,
     transform: Transform,

@@ -6,8 +6,8 @@ ghost use Rattle.cq_theory.specs.Schema.{IsSchema};
 ghost use Rattle.cq_transform.specs.declared.refusal.TransformRefusal.TheVariants.{Broken as BreaksEquation};
 ghost use Rattle.cq_transform.specs.Images.{images_fault, images_made};
 ghost use Rattle.cq_transform.specs.Transforming.{Tells as TellsImages};
-ghost use Rattle.cq_program.specs.Checks.{arrow_breach, ends_at, identical_posed, images_posed};
-ghost use Rattle.cq_program.specs.Checks.{transform_posed};
+ghost use Rattle.cq_program.specs.Posed.{arrow_breach};
+ghost use Rattle.cq_program.specs.Transforms.{ends_at, identical_posed, images_posed, transform_posed};
 ghost use Rattle.cq_environment.specs.Environment.{Answers, AreSettled, IsTermModel, Tells, ends_meant};
 ghost use Rattle.cq_environment.specs.Environment.{environment_of, instance_meant};
 ghost use Rattle.cq_program.specs.Images.{rule_on_images as told_rule};
@@ -15,7 +15,7 @@ ghost use Rattle.cq_parts.specs.Parts.{transform_count, transform_parts as liter
 ghost use Rattle.cq_parts.specs.Parts.{transform_places as literal_places};
 ghost use Rattle.cq_program.specs.Posing.{IsGrounded, IsPosed, IsTransformOf, posed_as};
 
-use crate::refusals::arrow_refusal;
+use crate::refusals::tell_arrow;
 use crate::statement::Statement;
 use cq_base::{Name, Place, Raw, Seq};
 use cq_environment::{
@@ -65,7 +65,7 @@ pub fn pose_transform(
     if start.schema != finish.schema {
         return Err(ProgramRefusal::Broken(literal.target.place, Reason::WrongSchema));
     }
-    match named_ends(&literal.source.name, &literal.target.name, start, finish) {
+    match name_ends(&literal.source.name, &literal.target.name, start, finish) {
         Ok(ends) => pose_images(alloc, place, ends, literal),
         Err(_) => Err(ProgramRefusal::Memory),
     }
@@ -85,14 +85,14 @@ fn pose_images(
     ensures well_sorted { IfOk result IsPosed }
 {
     let parts = transform_parts(alloc, literal)?;
-    match transform_between(alloc, &ends, parts) {
+    match make_transform(alloc, &ends, parts) {
         Ok(made) => Ok(Statement::Transform(ends, made)),
-        Err(refusal) => refused_images(alloc, place, ends, literal, refusal),
+        Err(refusal) => refuse_images(alloc, place, ends, literal, refusal),
     }
 }
 
 /// The transform between two ends that sends generators to given terms.
-fn transform_between(
+fn make_transform(
     alloc: Global,
     ends: &NamedEnds,
     parts: Vec<(Name, Raw)>,
@@ -114,7 +114,7 @@ fn transform_between(
 }
 
 /// Images that don't keep an equation, or the first that breaks a rule, or a generator without an image.
-fn refused_images(
+fn refuse_images(
     alloc: Global,
     place: Place,
     ends: NamedEnds,
@@ -126,8 +126,8 @@ fn refused_images(
     ensures well_sorted { IfOk result IsPosed }
 {
     match rule_on_images(refusal) {
-        Ok(rule) => Err(broken_rule(alloc, place, literal, rule)),
-        Err(number) => broken_images(alloc, ends, literal, number),
+        Ok(rule) => Err(tell_rule(alloc, place, literal, rule)),
+        Err(number) => pose_broken(alloc, ends, literal, number),
     }
 }
 
@@ -150,7 +150,7 @@ fn rule_on_images(refusal: TransformRefusal) -> Result<ArrowRefusal, u64>
 }
 
 /// The rule that an image breaks, at its place, or the generator without an image, at the declaration's place.
-fn broken_rule(
+fn tell_rule(
     alloc: Global,
     place: Place,
     literal: &TransformLit,
@@ -159,13 +159,13 @@ fn broken_rule(
     ensures { Tells result (arrow_breach place (literal_places literal.now) rule) }
 {
     match transform_places(alloc, literal) {
-        Ok(places) => arrow_refusal(place, places.as_slice(), rule),
+        Ok(places) => tell_arrow(place, places.as_slice(), rule),
         Err(_) => ProgramRefusal::Memory,
     }
 }
 
 /// The images of a literal between two ends, with the number of an equation.
-fn broken_images(
+fn pose_broken(
     alloc: Global,
     ends: NamedEnds,
     literal: &TransformLit,
@@ -202,21 +202,21 @@ pub fn pose_identical(
     let start: &Instance = &part.instance;
     is_over_schema(start);
     let transform = identity(alloc, start)?;
-    match both_ends(used, part) {
+    match name_both_ends(used, part) {
         Ok(ends) => Ok(Statement::Transform(ends, transform)),
         Err(_) => Err(ProgramRefusal::Memory),
     }
 }
 
 /// An instance as both ends.
-fn both_ends(used: &Spot, part: NamedInstance) -> Result<NamedEnds, AllocError>
+fn name_both_ends(used: &Spot, part: NamedInstance) -> Result<NamedEnds, AllocError>
     ensures { IfOk result (λ ends. ends_meant ends ≡ ends_at used.now (instance_meant part)) }
 {
     let finish = copy_instance(&part)?;
-    named_ends(&used.name, &used.name, part, finish)
+    name_ends(&used.name, &used.name, part, finish)
 }
 
-pub fn named_ends(
+pub fn name_ends(
     source: &Name,
     target: &Name,
     start: NamedInstance,

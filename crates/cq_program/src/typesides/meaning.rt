@@ -6,7 +6,7 @@ use std::alloc::{AllocError, Global};
 use std::rc::Rc;
 
 /// A typeside stands for itself.
-pub fn shared_typeside(alloc: Global, typeside: Typeside) -> Result<Rc<Typeside>, AllocError>
+pub fn share_typeside(alloc: Global, typeside: Typeside) -> Result<Rc<Typeside>, AllocError>
     ensures { IfOk result (λ shared. shared.value ≡ typeside) }
 {
     let shared = Rc::new(alloc, typeside)?;

@@ -1,11 +1,11 @@
 //! Typesides: what is posed of them.
 ghost use Rattle.std.specs.Prelude.{◌<◌, ◌^◌, IfOk};
 ghost use Rattle.cq_parts.specs.Parts.{typeside_count};
-ghost use Rattle.cq_program.specs.Checks.{typeside_given, typeside_posed};
+ghost use Rattle.cq_program.specs.Typesides.{typeside_given, typeside_posed};
 ghost use Rattle.cq_environment.specs.Environment.{Answers};
 ghost use Rattle.cq_program.specs.Posing.{IsPosed, posed_as};
 
-use crate::refusals::part_refusal;
+use crate::refusals::tell_part;
 use crate::statement::Statement;
 use cq_base::Place;
 use cq_environment::ProgramRefusal;
@@ -24,14 +24,14 @@ pub fn pose_typeside(
     ensures posed { Answers posed_as result (typeside_posed place literal.now) }
     ensures well_sorted { IfOk result IsPosed }
 {
-    match typeside_in(alloc, place, literal) {
+    match make_typeside(alloc, place, literal) {
         Ok(typeside) => Ok(Statement::Typeside(typeside)),
         Err(refusal) => Err(refusal),
     }
 }
 
 /// The typeside of a literal, or the first part that breaks a rule.
-fn typeside_in(
+fn make_typeside(
     alloc: Global,
     place: Place,
     literal: &TypesideLit,
@@ -44,7 +44,7 @@ fn typeside_in(
         Ok(typeside) => Ok(typeside),
         Err(refusal) => {
             let places = typeside_places(alloc, literal)?;
-            Err(part_refusal(place, places.as_slice(), refusal))
+            Err(tell_part(place, places.as_slice(), refusal))
         }
     }
 }

@@ -10,15 +10,15 @@ use Rattle.cq_mapping.specs.Images.{sigma}
 use Rattle.cq_program.specs.declared.statement.Statement.{Statement}
 use Rattle.cq_environment.specs.declared.reason.ProgramRefusal.TheVariants as program_refusal
 use Rattle.cq_environment.specs.declared.reason.Reason.TheVariants as reason
-use Rattle.cq_program.specs.Checks.{Posed, a_composite, a_delta, a_made, a_mapping_query, an_eval}
+use Rattle.cq_program.specs.Posed.{Posed, a_composite, a_delta, a_made, a_mapping_query, an_eval}
 use Rattle.cq_environment.specs.Environment.{meant}
 use Rattle.cq_program.specs.Posing.{IsPosed, posed_as}
 use Rattle.cq_program.specs.Judging.{Withholds}
 use Rattle.cq_program.specs.Program.{Stands}
 use Rattle.cq_program.proofs.models.meaning_of.Goals as goal
 
-pub pulled-requires-clause-preserves : goal.pulled-requires-clause-preserves
-pulled-requires-clause-preserves c =
+pub mean_delta-requires-clause-preserves : goal.mean_delta-requires-clause-preserves
+mean_delta-requires-clause-preserves c =
     let posed = subst IsPosed c.in-Delta.is c.requires.posed in
     subst (λ (F : MappingData). Preserves F) (sym c.deref.ensures) posed.0
 
@@ -26,28 +26,28 @@ pub returns-in-Delta-clause-stands : goal.returns-in-Delta-clause-stands
 returns-in-Delta-clause-stands c =
     let posed : a_delta c.in-Delta.name c.deref.result.now c.deref-in-Delta.result.now.tables ≡ posed_as c.args.statement =
     (λ j. a_delta c.in-Delta.name (c.deref.ensures j) ((c.deref-in-Delta.ensures j).tables)) ∙ sym (ap posed_as c.in-Delta.is) in
-    subst (λ (p : Posed). IfOk c.pulled.result (λ meaning. Stands p (meant meaning))) posed c.pulled.ensures.stands
+    subst (λ (p : Posed). IfOk c.mean_delta.result (λ meaning. Stands p (meant meaning))) posed c.mean_delta.ensures.stands
 
 pub returns-in-Delta-clause-withholds : goal.returns-in-Delta-clause-withholds
 returns-in-Delta-clause-withholds c =
     let posed : a_delta c.in-Delta.name c.deref.result.now c.deref-in-Delta.result.now.tables ≡ posed_as c.args.statement =
     (λ j. a_delta c.in-Delta.name (c.deref.ensures j) ((c.deref-in-Delta.ensures j).tables)) ∙ sym (ap posed_as c.in-Delta.is) in
-    subst (λ (p : Posed). IfErr c.pulled.result (Withholds c.args.depth c.args.place p)) posed (c.pulled.ensures.withholds c.args.depth)
+    subst (λ (p : Posed). IfErr c.mean_delta.result (Withholds c.args.depth c.args.place p)) posed (c.mean_delta.ensures.withholds c.args.depth)
 
 pub returns-in-Sigma-clause-stands : goal.returns-in-Sigma-clause-stands
 returns-in-Sigma-clause-stands c =
     let posed : a_made c.in-Sigma.name c.deref-in-Sigma.result.now.target (sigma c.deref-in-Sigma.result.now c.deref-in-Sigma-2.result.now.presentation) ≡ posed_as c.args.statement =
     (λ j. a_made c.in-Sigma.name ((c.deref-in-Sigma.ensures j).target) (sigma (c.deref-in-Sigma.ensures j) ((c.deref-in-Sigma-2.ensures j).presentation))) ∙ sym (ap posed_as c.in-Sigma.is) in
-    subst (λ (p : Posed). IfOk c.pushed.result (λ meaning. Stands p (meant meaning))) posed c.pushed.ensures.stands
+    subst (λ (p : Posed). IfOk c.mean_sigma.result (λ meaning. Stands p (meant meaning))) posed c.mean_sigma.ensures.stands
 
 pub returns-in-Sigma-clause-withholds : goal.returns-in-Sigma-clause-withholds
 returns-in-Sigma-clause-withholds c =
     let posed : a_made c.in-Sigma.name c.deref-in-Sigma.result.now.target (sigma c.deref-in-Sigma.result.now c.deref-in-Sigma-2.result.now.presentation) ≡ posed_as c.args.statement =
     (λ j. a_made c.in-Sigma.name ((c.deref-in-Sigma.ensures j).target) (sigma (c.deref-in-Sigma.ensures j) ((c.deref-in-Sigma-2.ensures j).presentation))) ∙ sym (ap posed_as c.in-Sigma.is) in
-    subst (λ (p : Posed). IfErr c.pushed.result (Withholds c.args.depth c.args.place p)) posed c.pushed.ensures.withholds
+    subst (λ (p : Posed). IfErr c.mean_sigma.result (Withholds c.args.depth c.args.place p)) posed c.mean_sigma.ensures.withholds
 
-pub answered-requires-clause-sound : goal.answered-requires-clause-sound
-answered-requires-clause-sound c =
+pub mean_eval-requires-clause-sound : goal.mean_eval-requires-clause-sound
+mean_eval-requires-clause-sound c =
     let posed = subst IsPosed c.in-Eval.is c.requires.posed in
     subst (λ (Q : QueryData). Sound Q) (sym c.deref-in-Eval.ensures) posed.0
 
@@ -55,32 +55,32 @@ pub returns-in-Eval-clause-withholds : goal.returns-in-Eval-clause-withholds
 returns-in-Eval-clause-withholds c =
     let posed : an_eval c.in-Eval.name c.deref-in-Eval.result.now c.deref-in-Eval-2.result.now.tables ≡ posed_as c.args.statement =
     (λ j. an_eval c.in-Eval.name (c.deref-in-Eval.ensures j) ((c.deref-in-Eval-2.ensures j).tables)) ∙ sym (ap posed_as c.in-Eval.is) in
-    subst (λ (p : Posed). IfErr c.answered.result (Withholds c.args.depth c.args.place p)) posed (c.answered.ensures.withholds c.args.depth)
+    subst (λ (p : Posed). IfErr c.mean_eval.result (Withholds c.args.depth c.args.place p)) posed (c.mean_eval.ensures.withholds c.args.depth)
 
 pub returns-in-Coeval-clause-stands : goal.returns-in-Coeval-clause-stands
 returns-in-Coeval-clause-stands c =
     let posed : a_made c.in-Coeval.name c.deref-in-Coeval.result.now.source (coeval_of c.deref-in-Coeval.result.now c.deref-in-Coeval-2.result.now.tables) ≡ posed_as c.args.statement =
     (λ j. a_made c.in-Coeval.name ((c.deref-in-Coeval.ensures j).source) (coeval_of (c.deref-in-Coeval.ensures j) ((c.deref-in-Coeval-2.ensures j).tables))) ∙ sym (ap posed_as c.in-Coeval.is) in
-    subst (λ (p : Posed). IfOk c.read_backwards.result (λ meaning. Stands p (meant meaning))) posed c.read_backwards.ensures.stands
+    subst (λ (p : Posed). IfOk c.mean_coeval.result (λ meaning. Stands p (meant meaning))) posed c.mean_coeval.ensures.stands
 
 pub returns-in-Coeval-clause-withholds : goal.returns-in-Coeval-clause-withholds
 returns-in-Coeval-clause-withholds c =
     let posed : a_made c.in-Coeval.name c.deref-in-Coeval.result.now.source (coeval_of c.deref-in-Coeval.result.now c.deref-in-Coeval-2.result.now.tables) ≡ posed_as c.args.statement =
     (λ j. a_made c.in-Coeval.name ((c.deref-in-Coeval.ensures j).source) (coeval_of (c.deref-in-Coeval.ensures j) ((c.deref-in-Coeval-2.ensures j).tables))) ∙ sym (ap posed_as c.in-Coeval.is) in
-    subst (λ (p : Posed). IfErr c.read_backwards.result (Withholds c.args.depth c.args.place p)) posed c.read_backwards.ensures.withholds
+    subst (λ (p : Posed). IfErr c.mean_coeval.result (Withholds c.args.depth c.args.place p)) posed c.mean_coeval.ensures.withholds
 
-pub composed-requires-clause-first : goal.composed-requires-clause-first
-composed-requires-clause-first c =
+pub mean_composite-requires-clause-first : goal.mean_composite-requires-clause-first
+mean_composite-requires-clause-first c =
     let posed = subst IsPosed c.in-Composite.is c.requires.posed in
     subst (λ (Q : QueryData). Sound Q) (sym c.deref-in-Composite.ensures) posed.0
 
-pub composed-requires-clause-second : goal.composed-requires-clause-second
-composed-requires-clause-second c =
+pub mean_composite-requires-clause-second : goal.mean_composite-requires-clause-second
+mean_composite-requires-clause-second c =
     let posed = subst IsPosed c.in-Composite.is c.requires.posed in
     subst (λ (Q : QueryData). Sound Q) (sym c.deref-in-Composite-2.ensures) posed.1
 
-pub composed-requires-clause-over : goal.composed-requires-clause-over
-composed-requires-clause-over c =
+pub mean_composite-requires-clause-over : goal.mean_composite-requires-clause-over
+mean_composite-requires-clause-over c =
     let posed = subst IsPosed c.in-Composite.is c.requires.posed in
     ap (λ (Q : QueryData). Q.source) c.deref-in-Composite-2.ensures ∙ posed.2 ∙ sym (ap (λ (Q : QueryData). Q.target) c.deref-in-Composite.ensures)
 
@@ -88,16 +88,16 @@ pub returns-in-Composite-clause-stands : goal.returns-in-Composite-clause-stands
 returns-in-Composite-clause-stands c =
     let posed : a_composite c.in-Composite.source c.in-Composite.target c.deref-in-Composite.result.now c.deref-in-Composite-2.result.now ≡ posed_as c.args.statement =
     (λ j. a_composite c.in-Composite.source c.in-Composite.target (c.deref-in-Composite.ensures j) (c.deref-in-Composite-2.ensures j)) ∙ sym (ap posed_as c.in-Composite.is) in
-    subst (λ (p : Posed). IfOk c.composed.result (λ meaning. Stands p (meant meaning))) posed c.composed.ensures.stands
+    subst (λ (p : Posed). IfOk c.mean_composite.result (λ meaning. Stands p (meant meaning))) posed c.mean_composite.ensures.stands
 
 pub returns-in-Composite-clause-withholds : goal.returns-in-Composite-clause-withholds
 returns-in-Composite-clause-withholds c =
     let posed : a_composite c.in-Composite.source c.in-Composite.target c.deref-in-Composite.result.now c.deref-in-Composite-2.result.now ≡ posed_as c.args.statement =
     (λ j. a_composite c.in-Composite.source c.in-Composite.target (c.deref-in-Composite.ensures j) (c.deref-in-Composite-2.ensures j)) ∙ sym (ap posed_as c.in-Composite.is) in
-    subst (λ (p : Posed). IfErr c.composed.result (Withholds c.args.depth c.args.place p)) posed (c.composed.ensures.withholds c.args.depth)
+    subst (λ (p : Posed). IfErr c.mean_composite.result (Withholds c.args.depth c.args.place p)) posed (c.mean_composite.ensures.withholds c.args.depth)
 
-pub of_mapping-requires : goal.of_mapping-requires
-of_mapping-requires c =
+pub mean_mapping_query-requires : goal.mean_mapping_query-requires
+mean_mapping_query-requires c =
     let posed = subst IsPosed c.in-MappingQuery.is c.requires.posed in
     record { preserves = subst (λ (F : MappingData). Preserves F) (sym c.deref-in-MappingQuery.ensures) posed }
 
@@ -105,27 +105,27 @@ pub returns-in-MappingQuery-clause-stands : goal.returns-in-MappingQuery-clause-
 returns-in-MappingQuery-clause-stands c =
     let posed : a_mapping_query c.in-MappingQuery.source c.in-MappingQuery.target c.deref-in-MappingQuery.result.now ≡ posed_as c.args.statement =
     (λ j. a_mapping_query c.in-MappingQuery.source c.in-MappingQuery.target (c.deref-in-MappingQuery.ensures j)) ∙ sym (ap posed_as c.in-MappingQuery.is) in
-    subst (λ (p : Posed). IfOk c.of_mapping.result (λ meaning. Stands p (meant meaning))) posed c.of_mapping.ensures.stands
+    subst (λ (p : Posed). IfOk c.mean_mapping_query.result (λ meaning. Stands p (meant meaning))) posed c.mean_mapping_query.ensures.stands
 
 pub returns-in-MappingQuery-clause-withholds : goal.returns-in-MappingQuery-clause-withholds
 returns-in-MappingQuery-clause-withholds c =
     let posed : a_mapping_query c.in-MappingQuery.source c.in-MappingQuery.target c.deref-in-MappingQuery.result.now ≡ posed_as c.args.statement =
     (λ j. a_mapping_query c.in-MappingQuery.source c.in-MappingQuery.target (c.deref-in-MappingQuery.ensures j)) ∙ sym (ap posed_as c.in-MappingQuery.is) in
-    subst (λ (p : Posed). IfErr c.of_mapping.result (Withholds c.args.depth c.args.place p)) posed (c.of_mapping.ensures.withholds c.args.depth c.args.place)
+    subst (λ (p : Posed). IfErr c.mean_mapping_query.result (Withholds c.args.depth c.args.place p)) posed (c.mean_mapping_query.ensures.withholds c.args.depth c.args.place)
 
 pub returns-in-Coproduct-clause-stands : goal.returns-in-Coproduct-clause-stands
 returns-in-Coproduct-clause-stands c =
     let posed : a_made c.in-Coproduct.name c.in-Coproduct.schema.value (coproduct_of (map (λ part. part.value.presentation) c.as_slice.result.now)) ≡ posed_as c.args.statement =
     (λ j. a_made c.in-Coproduct.name c.in-Coproduct.schema.value (coproduct_of (map (λ part. part.value.presentation) (c.as_slice.ensures j)))) ∙ sym (ap posed_as c.in-Coproduct.is) in
-    subst (λ (p : Posed). IfOk c.summed.result (λ meaning. Stands p (meant meaning))) posed c.summed.ensures.stands
+    subst (λ (p : Posed). IfOk c.mean_coproduct.result (λ meaning. Stands p (meant meaning))) posed c.mean_coproduct.ensures.stands
 
 pub returns-in-Pushout-clause-stands : goal.returns-in-Pushout-clause-stands
 returns-in-Pushout-clause-stands c =
-    subst (λ (p : Posed). IfOk c.glued.result (λ meaning. Stands p (meant meaning))) (sym (ap posed_as c.in-Pushout.is)) c.glued.ensures.stands
+    subst (λ (p : Posed). IfOk c.mean_pushout.result (λ meaning. Stands p (meant meaning))) (sym (ap posed_as c.in-Pushout.is)) c.mean_pushout.ensures.stands
 
 pub returns-in-Pushout-clause-withholds : goal.returns-in-Pushout-clause-withholds
 returns-in-Pushout-clause-withholds c =
-    subst (λ (p : Posed). IfErr c.glued.result (Withholds c.args.depth c.args.place p)) (sym (ap posed_as c.in-Pushout.is)) c.glued.ensures.withholds
+    subst (λ (p : Posed). IfErr c.mean_pushout.result (Withholds c.args.depth c.args.place p)) (sym (ap posed_as c.in-Pushout.is)) c.mean_pushout.ensures.withholds
 
 pub returns-in-Broken-clause-withholds : goal.returns-in-Broken-clause-withholds
 returns-in-Broken-clause-withholds c =
@@ -133,13 +133,13 @@ returns-in-Broken-clause-withholds c =
     subst (λ (s : Statement). Withholds c.args.depth c.args.place (posed_as s) (program_refusal.Broken c.args.place (reason.Broken number))) (sym c.in-Broken.is)
     (refl, inl (number, refl, subst IsPosed c.in-Broken.is c.requires.posed))
 
-pub moved-requires : goal.moved-requires
-moved-requires c = subst IsPosed c.in-Move.is c.requires.posed
+pub mean_move-requires : goal.mean_move-requires
+mean_move-requires c = subst IsPosed c.in-Move.is c.requires.posed
 
 pub returns-in-Move-clause-stands : goal.returns-in-Move-clause-stands
 returns-in-Move-clause-stands c =
-    subst (λ (p : Posed). IfOk c.moved.result (λ meaning. Stands p (meant meaning))) (sym (ap posed_as c.in-Move.is)) c.moved.ensures.stands
+    subst (λ (p : Posed). IfOk c.mean_move.result (λ meaning. Stands p (meant meaning))) (sym (ap posed_as c.in-Move.is)) c.mean_move.ensures.stands
 
 pub returns-in-Move-clause-withholds : goal.returns-in-Move-clause-withholds
 returns-in-Move-clause-withholds c =
-    subst (λ (p : Posed). IfErr c.moved.result (Withholds c.args.depth c.args.place p)) (sym (ap posed_as c.in-Move.is)) (c.moved.ensures.withholds c.args.depth)
+    subst (λ (p : Posed). IfErr c.mean_move.result (Withholds c.args.depth c.args.place p)) (sym (ap posed_as c.in-Move.is)) (c.mean_move.ensures.withholds c.args.depth)

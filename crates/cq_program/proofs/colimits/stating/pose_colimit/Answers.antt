@@ -1,7 +1,7 @@
 use Rattle.std.proofs.Common.{◌≡◌, ◌<◌, ◌+◌, ◌^◌, List, None, length, ap, ◌∙◌, sym, subst, arith}
 use Rattle.std.specs.Prelude.{All, Ok}
 use Rattle.cq_program.specs.declared.colimits.stating.UsedSchema.{UsedSchema}
-use Rattle.cq_program.specs.Checks.{first_apart, parts_used}
+use Rattle.cq_program.specs.Colimits.{first_apart, parts_used}
 use Rattle.cq_environment.specs.Environment.{IsPartPrinted, environment_of}
 use Rattle.cq_program.specs.Views.{useds_meant}
 use Rattle.cq_program.proofs.ColimitsPosed.{parts_few, parts_over, parts_printed}

@@ -1,5 +1,5 @@
 use Rattle.std.proofs.Common.{◌≡◌, Some, ap, map, ◌∙◌, subst, sym}
-use Rattle.cq_program.specs.Checks.{part_named}
+use Rattle.cq_program.specs.Colimits.{part_named}
 use Rattle.cq_environment.specs.Environment.{colimit_meant, environment_of, part_meant}
 use Rattle.cq_program.specs.Posing.{IsGrounded}
 use Rattle.cq_program.proofs.ColimitsPosed.{inclusion_grounded}

@@ -1,6 +1,6 @@
 use Rattle.std.proofs.Common.{◌≡◌, take}
 use Rattle.std.specs.Prelude.{Ok}
-use Rattle.cq_program.specs.Checks.{parts_used}
+use Rattle.cq_program.specs.Colimits.{parts_used}
 use Rattle.cq_environment.specs.Environment.{environment_of}
 use Rattle.cq_program.specs.Views.{useds_meant}
 use Rattle.cq_program.proofs.colimits.stating.schemas_of.Given as goal

@@ -1,6 +1,6 @@
 use Rattle.std.proofs.Common.{◌≡◌, take}
 use Rattle.std.specs.Prelude.{Ok}
-use Rattle.cq_program.specs.Checks.{operands_used}
+use Rattle.cq_program.specs.Gluing.{operands_used}
 use Rattle.cq_environment.specs.Environment.{environment_of}
 use Rattle.cq_program.specs.Views.{operands_meant}
 use Rattle.cq_program.proofs.gluing.stating.operands_of.Given as goal

@@ -4,7 +4,8 @@ use Rattle.cq_base.specs.declared.place.Place.{Place}
 use Rattle.cq_theory.specs.declared.presentation.Presentation.{Presentation}
 use Rattle.cq_transform.specs.Gluing.{coproduct_of}
 use Rattle.cq_environment.specs.Meanings.{InstanceMeant, SchemaMeant}
-use Rattle.cq_program.specs.Checks.{a_made, coproduct_posed, first_misfit, presentations_of}
+use Rattle.cq_program.specs.Posed.{a_made}
+use Rattle.cq_program.specs.Gluing.{coproduct_posed, first_misfit, presentations_of}
 use Rattle.cq_environment.specs.Environment.{environment_of, schema_meant}
 use Rattle.cq_program.specs.Views.{operand_meant, operands_meant}
 use Rattle.cq_program.proofs.Operands.{All_seen, coproduct_given, operands_over, operands_printed, seen_same}

@@ -10,5 +10,5 @@ pub returns-in-Err-clause-refuses : goal.returns-in-Err-clause-refuses
 returns-in-Err-clause-refuses g c =
     let old : FolderData = g.F.Folder.state c.args.folder.now in
     let new : FolderData = g.F.Folder.state c.import_files.new.folder in
-    refuses_folder old new c.args.place c.args.files.format c.args.files.name c.args.files.schema.value c.args.files.dir c.in-Err.refusal c.import_refusal.result
-    c.in-Err.ensures.answer c.in-Err.ensures.raises c.import_refusal.ensures
+    refuses_folder old new c.args.place c.args.files.format c.args.files.name c.args.files.schema.value c.args.files.dir c.in-Err.refusal c.tell_import.result
+    c.in-Err.ensures.answer c.in-Err.ensures.raises c.tell_import.ensures

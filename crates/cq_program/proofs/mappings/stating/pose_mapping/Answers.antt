@@ -3,8 +3,8 @@ use Rattle.cq_environment.specs.Environment.{IsPrinted, environment_of, schema_m
 use Rattle.cq_program.proofs.Settled.{one_typeside, schema_printed, used_settled}
 use Rattle.cq_program.proofs.mappings.stating.pose_mapping.Goals as goal
 
-pub mapping_in-requires-clause-typeside : goal.mapping_in-requires-clause-typeside
-mapping_in-requires-clause-typeside c =
+pub make_mapping-requires-clause-typeside : goal.make_mapping-requires-clause-typeside
+make_mapping-requires-clause-typeside c =
     let source = schema_meant c.in_ok-source.source in
     let target = schema_meant c.in_ok-target.target in
     one_typeside (environment_of c.args.env.now.names.entries) source target

@@ -3,8 +3,8 @@ use Rattle.cq_environment.specs.Environment.{IsPrinted, environment_of, schema_m
 use Rattle.cq_program.proofs.Settled.{one_typeside, schema_printed, used_settled}
 use Rattle.cq_program.proofs.queries.stating.pose_query.Goals as goal
 
-pub query_in-requires-clause-typeside : goal.query_in-requires-clause-typeside
-query_in-requires-clause-typeside c =
+pub make_query-requires-clause-typeside : goal.make_query-requires-clause-typeside
+make_query-requires-clause-typeside c =
     let source = schema_meant c.in_ok-source.source in
     let target = schema_meant c.in_ok-target.target in
     one_typeside (environment_of c.args.env.now.names.entries) source target

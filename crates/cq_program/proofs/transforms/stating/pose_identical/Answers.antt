@@ -6,7 +6,8 @@ use Rattle.cq_instance.specs.declared.transform.Image.{Image}
 use Rattle.cq_transform.specs.Identities.{identity_images}
 use Rattle.cq_transform.specs.Transforms.{GoesFrom}
 use Rattle.cq_environment.specs.Meanings.{Ends, InstanceMeant, instance_used}
-use Rattle.cq_program.specs.Checks.{a_transform, ends_at}
+use Rattle.cq_program.specs.Posed.{a_transform}
+use Rattle.cq_program.specs.Transforms.{ends_at}
 use Rattle.cq_environment.specs.Environment.{AreEnds, environment_of, instance_meant}
 use Rattle.cq_program.specs.Posing.{IsTransformOf}
 use Rattle.cq_program.proofs.Given.{given_after}

@@ -1,7 +1,7 @@
 use Rattle.std.proofs.Common.{◌≡◌, sym, subst, ◌∙◌, ap}
 use Rattle.cq_theory.specs.SchemaData.{SchemaData}
 use Rattle.cq_environment.specs.Meanings.{Ends, InstanceMeant}
-use Rattle.cq_program.specs.Checks.{images_posed}
+use Rattle.cq_program.specs.Transforms.{images_posed}
 use Rattle.cq_environment.specs.Environment.{Answers, AreEnds, IsTermModel, ends_meant, environment_of, instance_meant}
 use Rattle.cq_program.specs.Posing.{posed_as}
 use Rattle.cq_program.proofs.ImagesPosed.{images_are_posed, images_grounded}

@@ -1,8 +1,0 @@
-use Rattle.std.proofs.Common.{refl, inl}
-use Rattle.cq_program.proofs.queries.meaning.composed.Goals as goal
-
-pub shared_lazy-requires : goal.shared_lazy-requires
-shared_lazy-requires c = c.in-Ok.ensures.sound c.requires.first c.requires.second
-
-pub returns-in-Err-TooLarge-clause-withholds : goal.returns-in-Err-TooLarge-clause-withholds
-returns-in-Err-TooLarge-clause-withholds c = λ depth. (refl, inl (refl, rw c.in-Err-TooLarge.field-0-is at c.in-Err-TooLarge.ensures.refused))
