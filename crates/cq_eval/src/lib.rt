@@ -10,7 +10,7 @@
 //! equation that joins a new variable to earlier ones gives lists of rows (`index`), by an attribute (a `CellIndex`) or
 //! by a path of keys (a `KeyIndex`), of which one is taken for the rows that are bound (`listed`). The index of an
 //! attribute's cells, or of one foreign key, is made once a run and kept for further equations and entities (`kept`).
-//! Answers are kept in a set with places (`table`), by which the columns of keys are filled (`keys`); `cells` has the
+//! Answers are kept in order (`table`), where their places are found for the columns of keys (`keys`); `cells` has the
 //! columns of attributes, `evaluating` the tables and limits.
 #![tactic(auto)]
 
