@@ -1,7 +1,7 @@
 -- What is made of the names of answers is transposed to what arrives at eval, and nothing else is.
 use Rattle.std.proofs.Common.{ℕ, List, Some, Result, Ok, Err, IfOk, ◌≡◌, ◌<◌, map, length, sym, ap, ◌∙◌}
 use Rattle.std.specs.Prelude.{slice_get}
-use Rattle.cq_theory.specs.declared.lookup.SizeRefusal.{SizeRefusal}
+use Rattle.cq_theory.specs.declared.refusal.SizeRefusal.{SizeRefusal}
 use Rattle.cq_theory.specs.declared.term.TypeTerm.{TypeTerm}
 use Rattle.cq_theory.specs.declared.value.Value.{Value}
 use Rattle.cq_theory.specs.declared.value.Value.TheVariants.{Null}

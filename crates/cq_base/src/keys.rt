@@ -33,11 +33,6 @@ impl Keys {
         self.state.write_u64(number);
     }
 
-    /// Whether no name came from a file: those of the program's own have no key.
-    pub fn is_empty(&self) -> bool {
-        self.last == 0
-    }
-
     /// How the table is to hash.
     pub fn hashing(&self) -> Hashing {
         Hashing::of_state(&self.state)

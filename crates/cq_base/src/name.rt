@@ -11,7 +11,8 @@ ghost use Rattle.std.specs.Cmp.Rules.{hashing};
 ghost use Rattle.std.proofs.Common.{rules};
 
 use crate::hashing::Hashing;
-use std::alloc::{AllocError, AllocFailed, Global};
+use crate::refusal::NameRefusal;
+use std::alloc::{AllocError, Global};
 use std::cmp::Ordering;
 use std::hash::{Hash, Hasher};
 use std::marker::Model;
@@ -46,34 +47,6 @@ impl Model for Name {
 
     ghost invariant = { λ name. (name.from + name.len ≤ length name.shared.value.bytes.items)
         × IsUtf8 (take name.len (drop name.from name.shared.value.bytes.items)) };
-}
-
-/// Why a text could not be made a name.
-#[derive(Clone, Copy, Debug, PartialEq, Eq)]
-pub enum NameRefusal {
-    /// The text has more than 255 bytes.
-    Long,
-    Memory,
-}
-
-impl From<AllocError> for NameRefusal {
-    ghost use Rattle.cq_base.specs.declared.name.NameRefusal.TheVariants.{Memory};
-
-    ghost from_gives = { λ _ e. e ≡ Memory };
-
-    fn from(_error: AllocError) -> NameRefusal {
-        NameRefusal::Memory
-    }
-}
-
-impl<T: Drop> From<AllocFailed<T>> for NameRefusal {
-    ghost use Rattle.cq_base.specs.declared.name.NameRefusal.TheVariants.{Memory};
-
-    ghost from_gives = { λ _ e. e ≡ Memory };
-
-    fn from(_error: AllocFailed<T>) -> NameRefusal {
-        NameRefusal::Memory
-    }
 }
 
 impl Name {

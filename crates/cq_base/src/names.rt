@@ -5,8 +5,9 @@ ghost use Rattle.cq_base.specs.Names.{number_of};
 
 use crate::hashing::Hashing;
 use crate::name::Name;
+use crate::refusal::NamesRefusal;
 use indexmap::IndexSet;
-use std::alloc::{AllocError, AllocFailed, Global};
+use std::alloc::Global;
 use std::marker::Model;
 
 /// Names with their numbers, from 0. Contracts see the list of the names, in which no name stands twice.
@@ -31,34 +32,6 @@ impl Model for Names {
 impl Drop for Names {
     fn drop(self) {
         let Self { names: _, alloc: _ } = self;
-    }
-}
-
-/// Why a name could not be added.
-#[derive(Clone, Copy, Debug, PartialEq, Eq)]
-pub enum NamesRefusal {
-    /// The name is there already, with this number.
-    Taken(u32),
-    Memory,
-}
-
-impl From<AllocError> for NamesRefusal {
-    ghost use Rattle.cq_base.specs.declared.names.NamesRefusal.TheVariants.{Memory};
-
-    ghost from_gives = { λ _ e. e ≡ Memory };
-
-    fn from(_error: AllocError) -> NamesRefusal {
-        NamesRefusal::Memory
-    }
-}
-
-impl<T: Drop> From<AllocFailed<T>> for NamesRefusal {
-    ghost use Rattle.cq_base.specs.declared.names.NamesRefusal.TheVariants.{Memory};
-
-    ghost from_gives = { λ _ e. e ≡ Memory };
-
-    fn from(_error: AllocFailed<T>) -> NamesRefusal {
-        NamesRefusal::Memory
     }
 }
 

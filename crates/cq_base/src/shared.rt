@@ -6,7 +6,8 @@ ghost use Rattle.std.specs.Hash as fed;
 ghost use Rattle.std.specs.Str.{bytes_eq};
 
 use crate::hashing::Hashing;
-use crate::name::{LONGEST, Name, NameRefusal};
+use crate::name::{LONGEST, Name};
+use crate::refusal::NameRefusal;
 use indexmap::{Equivalent, IndexSet};
 use std::alloc::Global;
 

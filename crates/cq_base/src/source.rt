@@ -2,7 +2,8 @@
 ghost use Rattle.std.specs.Prelude.{◌≡◌, ◌<◌, ◌↔◌, IfOk, length};
 
 use crate::hashing::key_of;
-use crate::name::{LONGEST, Name, NameRefusal, Text};
+use crate::name::{LONGEST, Name, Text};
+use crate::refusal::NameRefusal;
 use crate::shared::SharedTexts;
 use std::alloc::{AllocError, Global};
 use std::rc::Rc;

@@ -9,7 +9,7 @@ use Rattle.cq_base.specs.declared.name.Name.{Name}
 use Rattle.cq_base.specs.Names.{same_name}
 use Rattle.cq_blocks.specs.declared.parts.Clause.{Clause}
 use Rattle.cq_blocks.specs.Blocks.{gives_symbol, gives_variable, first_fault_after, clause_fault, clauses_fault}
-use Rattle.cq_theory.specs.declared.lookup.TheoryRefusal.{TheoryRefusal}
+use Rattle.cq_theory.specs.declared.refusal.TheoryRefusal.{TheoryRefusal}
 use Rattle.cq_theory.specs.SchemaData.{SchemaData as Schema}
 use Rattle.cq_theory.specs.Resolve.{or_else}
 use Rattle.cq_blocks.proofs.Scoping.{fault_step}

@@ -7,12 +7,12 @@ use Rattle.cq_base.specs.declared.raw.Raw.{Raw}
 use Rattle.cq_base.specs.Names.{number_of, same_name}
 use Rattle.cq_theory.specs.declared.lookup.Symbol.{Symbol}
 use Rattle.cq_theory.specs.declared.lookup.Symbol.TheVariants as symbol
-use Rattle.cq_theory.specs.declared.lookup.TermRefusal.{TermRefusal}
-use Rattle.cq_theory.specs.declared.lookup.TermRefusal.TheVariants as term_refusal
-use Rattle.cq_theory.specs.declared.lookup.TheoryRefusal.{TheoryRefusal}
-use Rattle.cq_theory.specs.declared.lookup.TheoryRefusal.TheVariants as theory_refusal
-use Rattle.cq_theory.specs.declared.lookup.ArrowRefusal.{ArrowRefusal}
-use Rattle.cq_theory.specs.declared.lookup.ArrowRefusal.TheVariants.{Missing}
+use Rattle.cq_theory.specs.declared.refusal.TermRefusal.{TermRefusal}
+use Rattle.cq_theory.specs.declared.refusal.TermRefusal.TheVariants as term_refusal
+use Rattle.cq_theory.specs.declared.refusal.TheoryRefusal.{TheoryRefusal}
+use Rattle.cq_theory.specs.declared.refusal.TheoryRefusal.TheVariants as theory_refusal
+use Rattle.cq_theory.specs.declared.refusal.ArrowRefusal.{ArrowRefusal}
+use Rattle.cq_theory.specs.declared.refusal.ArrowRefusal.TheVariants.{Missing}
 use Rattle.cq_theory.specs.declared.presentation.Sort.{Sort}
 use Rattle.cq_theory.specs.declared.presentation.Sort.TheVariants.{Plain, Entity}
 use Rattle.cq_theory.specs.declared.presentation.Equation.{Equation}

@@ -14,7 +14,7 @@ ghost use Rattle.cq_cells.specs.Shown.{Lists, most_faults, shown};
 
 use crate::cells::{Over, Pass};
 use crate::faults::{Fault, Faults, Kind};
-use crate::index::{Indexed, MOST_GENERATORS, find_total, hashing_of};
+use crate::index::{Indexed, find_total, hashing_of};
 use crate::readings::{Reading, Unread, read_files};
 use crate::rows::{Tested, check_reading};
 use crate::tables::read_cells;
@@ -22,7 +22,7 @@ use cq_base::Name;
 use cq_import::columns::{Column, columns, header};
 use cq_import::labels::Labels;
 use cq_io::Folder;
-use cq_theory::Schema;
+use cq_theory::{MOST_GENERATORS, Schema};
 use std::alloc::{AllocError, Global};
 
 /// Tests what was read of an entity's file.

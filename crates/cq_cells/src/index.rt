@@ -3,10 +3,8 @@ ghost use Rattle.std.specs.Prelude.{◌≡◌, ◌≤◌, ◌<◌, MatchOption, 
 
 use crate::ids::Places;
 use cq_base::Hashing;
+use cq_theory::MOST_GENERATORS;
 use std::hash::{BuildHasher, DefaultHasher, Hasher};
-
-/// The most generators of a presentation.
-pub const MOST_GENERATORS: u32 = 16_000_000;
 
 /// The ids of a file, and how many records it has.
 pub struct Indexed {

@@ -4,12 +4,10 @@ ghost use Rattle.cq_import.specs.Imports.{file_name as name_in};
 ghost use Rattle.cq_cells.specs.Readings.{AreReadings, IsReading, text_in};
 
 use cq_base::Name;
+use cq_import::{LONGEST_FILE, file_name};
 use cq_io::{Folder, ReadRefusal};
 use cq_theory::Schema;
 use std::alloc::{AllocError, Global};
-
-/// The most bytes of a file.
-const LONGEST_FILE: u64 = 64 * 1024 * 1024;
 
 /// What was read of a file.
 pub enum Reading {
@@ -55,17 +53,6 @@ impl From<AllocError> for Unread {
     fn from(_error: AllocError) -> Unread {
         Unread::Memory
     }
-}
-
-/// The name of a file in a folder.
-pub fn file_name(alloc: Global, dir: &Name, file: &str) -> Result<String, AllocError>
-    ensures { IfOk result (λ name. string_bytes name ≡ name_in dir.now file.now) }
-{
-    let mut name = String::from_str(alloc, dir.as_str())?;
-    name.push_str("/")?;
-    name.push_str(file)?;
-    name.push_str(".csv")?;
-    Ok(name)
 }
 
 /// Reads a file of at most 64 MiB.

@@ -14,8 +14,8 @@ use Rattle.cq_check.specs.Frame.{IsFrame, IsApart}
 use Rattle.cq_check.specs.declared.deciding.Cause.{Cause}
 use Rattle.cq_check.specs.declared.deciding.Cause.TheVariants.{NotDerivable, Depth, TooManyRows}
 use Rattle.cq_check.specs.declared.deciding.Unmet.{Unmet}
-use Rattle.cq_check.specs.declared.duties.CheckRefusal.{CheckRefusal}
-use Rattle.cq_check.specs.declared.duties.CheckRefusal.TheVariants as refusal
+use Rattle.cq_check.specs.declared.refusal.CheckRefusal.{CheckRefusal}
+use Rattle.cq_check.specs.declared.refusal.CheckRefusal.TheVariants as refusal
 use Rattle.cq_check.specs.Refusing.{refusal_of}
 use Rattle.cq_check.proofs.Lists.{at_place}
 use Rattle.cq_check.proofs.Rows.{filled_traced}

@@ -13,8 +13,8 @@ use Rattle.cq_check.specs.Refusing.{refusal_of}
 use Rattle.cq_check.specs.declared.deciding.Cause.{Cause}
 use Rattle.cq_check.specs.declared.deciding.Cause.TheVariants as because
 use Rattle.cq_check.specs.declared.deciding.Unmet.{Unmet}
-use Rattle.cq_check.specs.declared.duties.CheckRefusal.{CheckRefusal}
-use Rattle.cq_check.specs.declared.duties.CheckRefusal.TheVariants.{NotPreserved, Depth, TooManyRows}
+use Rattle.cq_check.specs.declared.refusal.CheckRefusal.{CheckRefusal}
+use Rattle.cq_check.specs.declared.refusal.CheckRefusal.TheVariants.{NotPreserved, Depth, TooManyRows}
 use Rattle.cq_check.proofs.Lists.{at_place, one_at}
 use Rattle.cq_check.proofs.MappingDuties.{duty_sorted, duty_within}
 use Rattle.cq_check.proofs.Numbered.{first_unmet, first_too_deep, first_too_wide}

@@ -5,7 +5,7 @@ use Rattle.std.specs.List.{flat_map, range_with_len}
 use Rattle.std.proofs.lemmas.List.{length-map}
 use Rattle.std.proofs.lemmas.Option.{slice_get_within}
 use Rattle.cq_check.specs.Answers.{IsWellSorted, AreMetOf}
-use Rattle.cq_check.specs.declared.duties.CheckRefusal.{CheckRefusal}
+use Rattle.cq_check.specs.declared.refusal.CheckRefusal.{CheckRefusal}
 use Rattle.cq_check.proofs.Lists.{extends_append, image_at, item_at}
 use Rattle.cq_query.specs.QueryData.{QueryData as Query}
 use Rattle.cq_query.specs.IsQuery.{IsQuery}

@@ -1,8 +1,8 @@
 -- The refusal of a duty.
 use Rattle.std.specs.Prelude.{ℕ}
 use Rattle.cq_check.specs.declared.deciding.Cause.{Cause}
-use Rattle.cq_check.specs.declared.duties.CheckRefusal.{CheckRefusal}
-use Rattle.cq_check.specs.declared.duties.CheckRefusal.TheVariants.{NotPreserved, Depth, TooManyRows}
+use Rattle.cq_check.specs.declared.refusal.CheckRefusal.{CheckRefusal}
+use Rattle.cq_check.specs.declared.refusal.CheckRefusal.TheVariants.{NotPreserved, Depth, TooManyRows}
 use Rattle.cq_check.specs.declared.deciding.Cause.TheVariants as because
 
 abbrev pub refusal_of : Cause → ℕ → CheckRefusal

@@ -5,7 +5,7 @@ ghost use Rattle.cq_check.specs.Asking.{AreWellSorted, AreKnown};
 ghost use Rattle.cq_check.specs.Prepared.{IsPrepared};
 ghost use Rattle.cq_check.specs.Deciding.{AreDecided, AreAllDerived, IsFirst};
 ghost use Rattle.cq_rows.specs.Saturated.{SomeWide};
-ghost use Rattle.cq_rows.specs.declared.grow.RowsRefusal.TheVariants as rows;
+ghost use Rattle.cq_rows.specs.declared.refusal.RowsRefusal.TheVariants as rows;
 ghost use Rattle.cq_theory.specs.Presentation.{IsPresentation};
 
 use crate::asking::MadeRows;

@@ -3,37 +3,15 @@ ghost use Rattle.std.specs.Prelude.{ℕ, ◌≡◌, ◌≤◌, ◌+◌, Err, IfO
 ghost use Rattle.cq_check.specs.Answers.{IsWellSorted, IsDerived, IsTooDeep, IsTooWide};
 ghost use Rattle.cq_check.specs.Prepared.{IsPrepared};
 ghost use Rattle.cq_check.specs.Refusing.{refusal_of};
-ghost use Rattle.cq_check.specs.declared.duties.CheckRefusal.TheVariants.{NotPreserved, Depth, TooManyRows};
+ghost use Rattle.cq_check.specs.declared.refusal.CheckRefusal.TheVariants.{NotPreserved, Depth, TooManyRows};
 ghost use Rattle.cq_theory.specs.Presentation.{IsPresentation};
 
 use crate::deciding::{Cause, first_unmet};
 use crate::prepared::Prepared;
+use crate::refusal::CheckRefusal;
 use cq_theory::{Equation, Presentation};
-use std::alloc::{AllocError, Global};
+use std::alloc::Global;
 use std::slice;
-
-/// Why a mapping isn't known to preserve the equations of its source, or the duties of a query aren't known to hold.
-/// The number, from 1, is that of the first duty that isn't derived.
-#[derive(Clone, Copy, Debug, PartialEq, Eq)]
-pub enum CheckRefusal {
-    /// The duty isn't derivable.
-    NotPreserved(u64),
-    /// The duty isn't derived within the given depth, and its presentation closes at no depth up to it.
-    Depth(u64),
-    /// A stage of the duty's rows ended with more than 200,000 of them.
-    TooManyRows(u64),
-    Memory,
-}
-
-impl From<AllocError> for CheckRefusal {
-    ghost use Rattle.cq_check.specs.declared.duties.CheckRefusal.TheVariants.{Memory};
-
-    ghost from_gives = { λ _ e. e ≡ Memory };
-
-    fn from(_error: AllocError) -> CheckRefusal {
-        CheckRefusal::Memory
-    }
-}
 
 /// The refusal of a duty by its number.
 pub(crate) fn refusal(cause: Cause, number: u64) -> CheckRefusal

@@ -1,12 +1,13 @@
 //! Whether an equation is derivable from a presentation.
 ghost use Rattle.std.specs.Prelude.{ℕ, ◌≡◌, ◌≤◌, Err, IfOk};
 ghost use Rattle.cq_check.specs.Answers.{IsWellSorted, IsDerived, IsAnswer, IsTooDeep, IsTooWide};
-ghost use Rattle.cq_check.specs.declared.duties.CheckRefusal.TheVariants as duty;
-ghost use Rattle.cq_check.specs.declared.equality.EqualRefusal.TheVariants.{Depth, TooManyRows};
+ghost use Rattle.cq_check.specs.declared.refusal.CheckRefusal.TheVariants as duty;
+ghost use Rattle.cq_check.specs.declared.refusal.EqualRefusal.TheVariants.{Depth, TooManyRows};
 ghost use Rattle.cq_theory.specs.Presentation.{IsPresentation};
 
-use crate::duties::{CheckRefusal, check_duty};
+use crate::duties::check_duty;
 use crate::prepared::Prepared;
+use crate::refusal::{CheckRefusal, EqualRefusal};
 use cq_theory::{Equation, Presentation, Schema};
 use std::alloc::Global;
 use std::rc::Rc;
@@ -16,16 +17,6 @@ use std::rc::Rc;
 pub enum Verdict {
     Yes,
     No,
-}
-
-/// Why it isn't known whether an equation is derivable.
-#[derive(Clone, Copy, Debug, PartialEq, Eq)]
-pub enum EqualRefusal {
-    /// It isn't derived within the given depth, and the presentation closes at no depth up to it.
-    Depth,
-    /// A stage of the rows ended with more than 200,000 of them.
-    TooManyRows,
-    Memory,
 }
 
 /// Whether an equation is derivable, where it is the only one over its schema.

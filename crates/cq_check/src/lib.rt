@@ -28,8 +28,9 @@ pub mod mappings;
 pub(crate) mod nodes;
 pub(crate) mod prepared;
 pub mod queries;
+pub mod refusal;
 
-pub use duties::CheckRefusal;
-pub use equality::{EqualRefusal, Verdict, equal};
+pub use equality::{Verdict, equal};
 pub use mappings::check_mapping;
 pub use queries::check_query;
+pub use refusal::{CheckRefusal, EqualRefusal};

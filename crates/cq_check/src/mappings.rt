@@ -4,12 +4,13 @@ ghost use Rattle.std.specs.List.{All};
 ghost use Rattle.cq_check.specs.Answers.{IsNotPreserved, IsTooDeepDuty, IsTooWideDuty};
 ghost use Rattle.cq_check.specs.Entities.{duty_entities, equation_at as equation_in};
 ghost use Rattle.cq_check.specs.Entities.{AreDuties, AreMetOver, IsUnmetOver, IsCut};
-ghost use Rattle.cq_check.specs.declared.duties.CheckRefusal.TheVariants.{NotPreserved, Depth, TooManyRows};
+ghost use Rattle.cq_check.specs.declared.refusal.CheckRefusal.TheVariants.{NotPreserved, Depth, TooManyRows};
 ghost use Rattle.cq_mapping.specs.Duties.{Preserves, duties_of, one_generator};
 
 use crate::deciding::{Unmet, first_unmet};
-use crate::duties::{CheckRefusal, number_after, refusal};
+use crate::duties::{number_after, refusal};
 use crate::prepared::Prepared;
+use crate::refusal::CheckRefusal;
 use cq_base::{Name, Seq};
 use cq_mapping::{Duty, Mapping};
 use cq_theory::{Equation, Groups, Presentation, Schema, Sort};

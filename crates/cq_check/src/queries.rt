@@ -2,11 +2,12 @@
 ghost use Rattle.std.specs.Prelude.{ℕ, ◌≡◌, ◌<◌, ◌≤◌, ◌+◌, Err, IfOk, length};
 ghost use Rattle.cq_check.specs.Answers.{AreMetOf, IsUnsoundAt, IsTooDeepAt, IsTooWideAt};
 ghost use Rattle.cq_check.specs.Prepared.{IsPreparedFor};
-ghost use Rattle.cq_check.specs.declared.duties.CheckRefusal.TheVariants.{NotPreserved, Depth, TooManyRows};
+ghost use Rattle.cq_check.specs.declared.refusal.CheckRefusal.TheVariants.{NotPreserved, Depth, TooManyRows};
 ghost use Rattle.cq_query.specs.Duties.{Sound, duties_below};
 
-use crate::duties::{CheckRefusal, check_duty, number_after};
+use crate::duties::{check_duty, number_after};
 use crate::prepared::Prepared;
+use crate::refusal::CheckRefusal;
 use cq_query::Query;
 use cq_theory::Schema;
 use std::alloc::{AllocError, Global};

@@ -3,7 +3,7 @@ use Rattle.std.proofs.Common.{ℕ, Bool, true, false, List, [], ◌∷◌, ◌++
 use Rattle.std.specs.Prelude.{is_some, slice_get, option_and_then}
 use Rattle.std.specs.List.{flat_map}
 use Rattle.cq_base.specs.declared.name.Name.{Name}
-use Rattle.cq_theory.specs.declared.lookup.TheoryRefusal.TheVariants.{Duplicate, Unknown, WrongSort}
+use Rattle.cq_theory.specs.declared.refusal.TheoryRefusal.TheVariants.{Duplicate, Unknown, WrongSort}
 use Rattle.cq_theory.specs.declared.parts.ObsPart.{ObsPart}
 use Rattle.cq_theory.specs.declared.parts.SchemaParts.{SchemaParts}
 use Rattle.cq_theory.specs.declared.schema.Edge.{Edge}

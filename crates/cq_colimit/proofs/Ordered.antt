@@ -4,8 +4,8 @@ use Rattle.std.specs.Prelude.{All, option_map, nat_lt}
 use Rattle.std.proofs.lemmas.List.{length-map}
 use Rattle.std.proofs.lemmas.List.Elements.{All-map}
 use Rattle.cq_base.specs.declared.name.Name.{Name}
-use Rattle.cq_theory.specs.declared.lookup.TheoryRefusal.{TheoryRefusal}
-use Rattle.cq_theory.specs.declared.lookup.TheoryRefusal.TheVariants as theory
+use Rattle.cq_theory.specs.declared.refusal.TheoryRefusal.{TheoryRefusal}
+use Rattle.cq_theory.specs.declared.refusal.TheoryRefusal.TheVariants as theory
 use Rattle.cq_theory.specs.Canonical.{below}
 use Rattle.cq_theory.specs.Resolve.{or_else}
 use Rattle.cq_theory.specs.SchemaData.{SchemaData as Schema}

@@ -1,7 +1,8 @@
 -- Refusals of parts by other numbers.
 use Rattle.std.specs.Prelude.{ℕ}
-use Rattle.cq_theory.specs.declared.lookup.TheoryRefusal.{TheoryRefusal}
-use Rattle.cq_theory.specs.declared.lookup.TheoryRefusal.TheVariants.{Duplicate, Unknown, WrongCount, WrongSort, Reserved, TooLarge, Memory}
+use Rattle.cq_theory.specs.declared.refusal.TheoryRefusal.{TheoryRefusal}
+use Rattle.cq_theory.specs.declared.refusal.TheoryRefusal.TheVariants.{Duplicate, Unknown, WrongCount, WrongSort}
+use Rattle.cq_theory.specs.declared.refusal.TheoryRefusal.TheVariants.{Reserved, TooLarge, Memory}
 
 -- the number of the part that breaks a rule
 abbrev pub number_in : TheoryRefusal → ℕ

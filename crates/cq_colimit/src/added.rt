@@ -1,6 +1,6 @@
 //! Refusals of the added equations, by their numbers in the call.
 ghost use Rattle.std.specs.Prelude.{ℕ, ◌≡◌, ◌+◌, ◌<◌, ◌^◌};
-ghost use Rattle.cq_theory.specs.declared.lookup.TermRefusal.{TermRefusal};
+ghost use Rattle.cq_theory.specs.declared.refusal.TermRefusal.{TermRefusal};
 ghost use Rattle.cq_theory.specs.Resolve.{in_part};
 ghost use Rattle.cq_colimit.specs.Faults.{of_colimit as refusal_of_colimit};
 ghost use Rattle.cq_colimit.specs.Renumbered.{number_in, with_part};

@@ -21,7 +21,7 @@ use crate::numbered::number_entities;
 use crate::terms::{all_components, push_put_tests, push_translated_test, translate};
 use cq_base::{Name, Seq};
 use cq_query::{Block, Query};
-use cq_theory::{EntTerm, Equation, SizeRefusal, TypeTerm, alone};
+use cq_theory::{EntTerm, Equation, MOST_GENERATORS, SizeRefusal, TypeTerm, alone};
 use std::alloc::{AllocError, Global};
 
 /// The first component of each of the variables, if there are at most 16,000,000 components.
@@ -42,7 +42,7 @@ fn find_starts(
         starts.push(start)?;
         let width = width_at(first, var.1);
         total += width;
-        if total > 16_000_000 {
+        if total > MOST_GENERATORS as usize {
             return Ok(None);
         }
     }

@@ -1,18 +1,15 @@
 //! The records of the files of a folder that stand behind cited generators.
-ghost use Rattle.std.specs.Prelude.{◌≡◌, ◌<◌, ◌^◌, IfOk, IfSome, length, string_bytes};
-ghost use Rattle.cq_import.specs.Imports.{file_name as name_in};
+ghost use Rattle.std.specs.Prelude.{◌≡◌, ◌<◌, ◌^◌, IfOk, IfSome, length};
 
 use crate::sources::Files;
 use cq_base::Name;
+use cq_import::{LONGEST_FILE, file_name};
 use cq_io::Folder;
 use cq_origin::{FoundRecord, find_records, first_generator};
 use cq_theory::value_text::push_con;
 use cq_theory::{Con, Schema, Typeside};
 use cq_values::name_of;
 use std::alloc::{AllocError, Global};
-
-/// The most bytes of a file that is imported.
-const LONGEST_FILE: u64 = 64 * 1024 * 1024;
 
 /// A generator that is told under another name than its own.
 #[derive(Drop)]
@@ -143,22 +140,11 @@ fn read<F: Folder>(
     ensures files { (F.state folder.new).files ≡ (F.state folder.old).files }
     ensures short { IfOk result (λ found. IfSome found (λ text. length text.items < 2 ^ 31)) }
 {
-    let name = file_name(alloc, dir, entity)?;
+    let name = file_name(alloc, dir, entity.as_str())?;
     match folder.read(name.as_str(), LONGEST_FILE) {
         Ok(text) => Ok(Some(text)),
         Err(_) => Ok(None),
     }
-}
-
-/// The name of a file in a folder.
-fn file_name(alloc: Global, dir: &Name, entity: &Name) -> Result<String, AllocError>
-    ensures { IfOk result (λ name. string_bytes name ≡ name_in dir.now entity.now) }
-{
-    let mut name = String::from_str(alloc, dir.as_str())?;
-    name.push_str("/")?;
-    name.push_str(entity.as_str())?;
-    name.push_str(".csv")?;
-    Ok(name)
 }
 
 /// Adds the lines of records, and the names by which they are told.

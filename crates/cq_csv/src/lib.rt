@@ -7,5 +7,4 @@ mod fields;
 mod records;
 mod rows;
 
-pub use cq_import::{CsvRefusal, import, import2};
 pub use export::files;

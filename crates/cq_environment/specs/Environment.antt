@@ -4,8 +4,8 @@ use Rattle.std.specs.declared.alloc.Global.{Global}
 use Rattle.cq_base.specs.declared.name.Name.{Name}
 use Rattle.cq_base.specs.declared.place.Place.{Place}
 use Rattle.cq_environment.specs.declared.reason.Reason.{Reason}
-use Rattle.cq_environment.specs.declared.reason.ProgramRefusal.{ProgramRefusal}
-use Rattle.cq_environment.specs.declared.reason.ProgramRefusal.TheVariants as program_refusal
+use Rattle.cq_environment.specs.declared.refusal.ProgramRefusal.{ProgramRefusal}
+use Rattle.cq_environment.specs.declared.refusal.ProgramRefusal.TheVariants as program_refusal
 use Rattle.cq_environment.specs.declared.environment.Bound.{Bound}
 use Rattle.cq_environment.specs.declared.environment.NamedSchema.{NamedSchema}
 use Rattle.cq_environment.specs.declared.environment.NamedPart.{NamedPart}
@@ -165,15 +165,15 @@ abbrev pub AreSettled : Environment → Type 0
 AreSettled env = All (λ entry. IsSettled env entry.1) env × All (IsKnown env) env
 
 -- the refusal tells what the check found, or want of memory
-abbrev pub Refuses : {A : Type 0} → ProgramRefusal → Checked A → Type 0
-Refuses (program_refusal.Broken place reason) check = check ≡ Err (place, reason)
-Refuses (program_refusal.Read name cause) check = ⊥
-Refuses program_refusal.Memory check = Unit {0}
+abbrev pub TellsChecked : {A : Type 0} → ProgramRefusal → Checked A → Type 0
+TellsChecked (program_refusal.Broken place reason) check = check ≡ Err (place, reason)
+TellsChecked (program_refusal.Read name cause) check = ⊥
+TellsChecked program_refusal.Memory check = Unit {0}
 
 -- the answer is what the check gives, or want of memory
 abbrev pub Answers : {X A : Type 0} → (X → A) → Result X ProgramRefusal → Checked A → Type 0
 Answers view (Ok x) check = check ≡ Ok (view x)
-Answers view (Err refusal) check = Refuses refusal check
+Answers view (Err refusal) check = TellsChecked refusal check
 
 -- the refusal tells this rule and place, or want of memory
 abbrev pub Tells : ProgramRefusal → Option (Place × Reason) → Type 0

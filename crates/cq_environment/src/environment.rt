@@ -2,11 +2,12 @@
 ghost use Rattle.std.specs.Prelude.{◌≡◌, ◌++◌, ◌∷◌, [], Some, None, IfOk, IfErr, OnErr, OnOk, option_map};
 ghost use Rattle.cq_environment.specs.Meanings.{meant_by, moved_under, typeside, typeside_used, schema_used};
 ghost use Rattle.cq_environment.specs.Environment.{Answers, environment_of, meant, schema_meant};
-ghost use Rattle.cq_environment.specs.declared.reason.ProgramRefusal.TheVariants.{Broken};
+ghost use Rattle.cq_environment.specs.declared.refusal.ProgramRefusal.TheVariants.{Broken};
 ghost use Rattle.cq_environment.specs.declared.reason.Reason.TheVariants.{NameUnknown, WrongKind};
 
 use crate::moved::Moved;
-use crate::reason::{ProgramRefusal, Reason};
+use crate::reason::Reason;
+use crate::refusal::ProgramRefusal;
 use cq_base::{Hashing, Name, Seq};
 use cq_instance::{Instance, Transform};
 use cq_lazy::LazyQuery;

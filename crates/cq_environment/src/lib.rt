@@ -15,6 +15,7 @@ mod line;
 mod making;
 mod moved;
 mod reason;
+mod refusal;
 mod used;
 
 pub use environment::{
@@ -23,7 +24,8 @@ pub use environment::{
 };
 pub use line::{numbered_line, refusal_line};
 pub use moved::{Moved, Operation, moved_of};
-pub use reason::{ProgramRefusal, ReadCause, Reason};
+pub use reason::Reason;
+pub use refusal::{ProgramRefusal, ReadCause};
 pub use used::{
     NamedMapping, NamedQuery, colimit_of, copy_instance, instance_of, mapping_of, query_of,
     transform_of,

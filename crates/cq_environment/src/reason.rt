@@ -1,6 +1,5 @@
 //! Why a program is refused.
-use cq_base::{Name, Place, Seq};
-use std::alloc::AllocError;
+use cq_base::{Name, Seq};
 
 /// The rule that a declaration breaks, with the details that its line shows. Texts are given by their bytes.
 #[derive(Drop)]
@@ -65,33 +64,4 @@ pub enum Reason {
     NoSuchId(Seq<u8>, u32, u32),
     /// The records are too many.
     ManyRecords,
-}
-
-/// Why a file was not read.
-#[derive(Clone, Copy, Debug, PartialEq, Eq)]
-pub enum ReadCause {
-    Absent,
-    TooLong,
-    Failed,
-}
-
-/// Why a program has no meaning.
-#[derive(Drop)]
-pub enum ProgramRefusal {
-    /// The first rule that a declaration breaks, with the place to which its line points.
-    Broken(Place, Reason),
-    /// A file that a declaration names was not read, and why.
-    Read(String, ReadCause),
-    Memory,
-}
-
-impl From<AllocError> for ProgramRefusal {
-    ghost use Rattle.std.specs.Prelude.{◌≡◌};
-    ghost use Rattle.cq_environment.specs.declared.reason.ProgramRefusal.TheVariants.{Memory};
-
-    ghost from_gives = { λ _ e. e ≡ Memory };
-
-    fn from(_error: AllocError) -> ProgramRefusal {
-        ProgramRefusal::Memory
-    }
 }

@@ -7,7 +7,7 @@ ghost use Rattle.cq_environment.specs.Environment.{mapping_meant, query_meant, t
 use crate::environment::{
     Environment, Meaning, NamedColimit, NamedEnds, NamedInstance, NamedTransform, tell_wrong_kind,
 };
-use crate::reason::ProgramRefusal;
+use crate::refusal::ProgramRefusal;
 use cq_base::Name;
 use cq_instance::Instance;
 use cq_lazy::LazyQuery;

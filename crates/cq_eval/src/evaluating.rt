@@ -19,7 +19,7 @@ use cq_theory::Sheet;
 use std::alloc::{AllocError, Global};
 
 /// The most rows and nulls of an instance.
-const MOST_GENERATORS: u64 = 16_000_000;
+const MOST_GENERATORS: u64 = cq_theory::MOST_GENERATORS as u64;
 
 /// The instance of the tables of all answers, with their canonical presentation. An entity has a row for each answer,
 /// in their order, and equal cells merge nothing; a foreign key leads to the answer that its terms give, and a cell

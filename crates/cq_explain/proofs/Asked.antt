@@ -3,13 +3,13 @@ use Rattle.std.proofs.Common.{◌≡◌, ◌∙◌, ◌||◌, ℕ, Bool, true, f
 use Rattle.std.specs.Prelude.{is_some, if◌then◌else◌, IfOk, Result, Ok, Err}
 use Rattle.cq_base.specs.declared.name.Name.{Name}
 use Rattle.cq_base.specs.declared.raw.Raw.{Raw}
-use Rattle.cq_theory.specs.declared.lookup.TermRefusal.{TermRefusal}
+use Rattle.cq_theory.specs.declared.refusal.TermRefusal.{TermRefusal}
 use Rattle.cq_theory.specs.declared.presentation.Equation.{Equation}
 use Rattle.cq_theory.specs.declared.presentation.Presentation.{Presentation}
 use Rattle.cq_theory.specs.declared.presentation.Sort.{Sort}
 use Rattle.cq_theory.specs.declared.term.Term.{Term}
 use Rattle.cq_theory.specs.Parts.{equation_of}
-use Rattle.cq_theory.specs.declared.lookup.TermRefusal.TheVariants.{Unknown, WrongCount, WrongSort, Reserved, TooLarge}
+use Rattle.cq_theory.specs.declared.refusal.TermRefusal.TheVariants.{Unknown, WrongCount, WrongSort, Reserved, TooLarge}
 use Rattle.cq_theory.specs.Resolve.{equation_fault, has_unknown, has_wrong_count, has_reserved, raw_sort, are_of_one_sort, is_too_large}
 use Rattle.cq_theory.specs.Resolved.{resolved}
 use Rattle.cq_theory.specs.SchemaData.{SchemaData as Schema}
@@ -18,7 +18,7 @@ use Rattle.cq_terms.specs.Generators.{names_of, sorts_of}
 use Rattle.cq_scope.specs.Firsts.{AreFirsts}
 use Rattle.cq_scope.proofs.Over.{has_unknown_over, raw_sort_over}
 use Rattle.cq_explain.specs.Question.{Asks, IsTextOfTerm, Makes}
-use Rattle.cq_explain.specs.declared.question.QuestionRefusal.{QuestionRefusal}
+use Rattle.cq_explain.specs.declared.refusal.QuestionRefusal.{QuestionRefusal}
 
 none_of : (o : Option TermRefusal) → is_some o ≡ false → o ≡ None
 none_of None h = refl

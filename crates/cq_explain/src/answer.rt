@@ -4,10 +4,11 @@ ghost use Rattle.cq_theory.specs.declared.presentation.Equation.{Equation};
 ghost use Rattle.cq_proof.specs.Answers.{IsInitial, IsWellSorted};
 ghost use Rattle.cq_explain.specs.Explained.{Explains, IsExplanation};
 ghost use Rattle.cq_explain.specs.Question.{Asks};
-ghost use Rattle.cq_explain.specs.declared.question.QuestionRefusal.{QuestionRefusal};
+ghost use Rattle.cq_explain.specs.declared.refusal.QuestionRefusal.{QuestionRefusal};
 
 use crate::lines::{different_text, equal_text};
-use crate::question::{QuestionRefusal, question};
+use crate::question::question;
+use crate::refusal::QuestionRefusal;
 use cq_instance::Instance;
 use cq_proof::{Answer, explain};
 use cq_theory::Equation;

@@ -4,10 +4,11 @@
 mod answer;
 mod lines;
 mod question;
+mod refusal;
 mod terms;
 mod words;
 
 pub use answer::explanation;
-pub use question::QuestionRefusal;
+pub use refusal::QuestionRefusal;
 pub use terms::push_equation;
 pub use words::push_ordinal;

@@ -6,8 +6,9 @@ ghost use Rattle.cq_theory.specs.Resolve.{equation_fault};
 ghost use Rattle.cq_theory.specs.Resolved.{resolved};
 ghost use Rattle.cq_theory.specs.declared.presentation.Equation.{Equation};
 ghost use Rattle.cq_explain.specs.Question.{Asks, IsTermOf, IsTextOfTerm, Makes};
-ghost use Rattle.cq_explain.specs.declared.question.QuestionRefusal.{QuestionRefusal};
+ghost use Rattle.cq_explain.specs.declared.refusal.QuestionRefusal.{QuestionRefusal};
 
+use crate::refusal::QuestionRefusal;
 use cq_base::{Name, Names, Raw};
 use cq_lex::{LexRefusal, Token, lex};
 use cq_parse::{ParseRefusal, parse_term};
@@ -17,27 +18,7 @@ use cq_theory::lookup::{
     sort_of_raw,
 };
 use cq_theory::{Equation, Presentation, Schema, Sort};
-use std::alloc::{AllocError, Global};
-
-/// Why two texts ask about no equation.
-#[derive(Clone, Copy, Debug, PartialEq, Eq)]
-pub enum QuestionRefusal {
-    /// A text is over 8 MiB, or isn't one term of at most 64 levels, or the two terms make no equation over the
-    /// presentation.
-    BadTerm,
-    Memory,
-}
-
-impl From<AllocError> for QuestionRefusal {
-    ghost use Rattle.std.specs.Prelude.{◌≡◌};
-    ghost use Rattle.cq_explain.specs.declared.question.QuestionRefusal.TheVariants.{Memory};
-
-    ghost from_gives = { λ _ e. e ≡ Memory };
-
-    fn from(_error: AllocError) -> QuestionRefusal {
-        QuestionRefusal::Memory
-    }
-}
+use std::alloc::Global;
 
 /// The most bytes of a term's text: 8 MiB.
 const TEXT_LIMIT: usize = 8388608;

@@ -6,8 +6,8 @@ use Rattle.std.specs.List.{remove}
 use Rattle.cq_io.specs.Account.{Account}
 use Rattle.cq_io.specs.Content.{File}
 use Rattle.cq_io.specs.Counts.{Rose}
-use Rattle.cq_io.specs.declared.exporter.PutRefusal.{PutRefusal}
-use Rattle.cq_io.specs.declared.exporter.PutRefusal.TheVariants as put
+use Rattle.cq_io.specs.declared.refusal.PutRefusal.{PutRefusal}
+use Rattle.cq_io.specs.declared.refusal.PutRefusal.TheVariants as put
 use Rattle.cq_export.specs.Handing.{Takes, StopsEarly, Fails, HandsTo, RunsOut, Hands, nobody, took, failed}
 use Rattle.cq_export.specs.Files.{Files, files_in}
 

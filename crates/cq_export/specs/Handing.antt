@@ -3,8 +3,8 @@ use Rattle.std.specs.Prelude.{◌≡◌, ◌<◌, ◌≤◌, ℕ, List, [], ◌�
 use Rattle.cq_io.specs.Account.{Account}
 use Rattle.cq_io.specs.Content.{File}
 use Rattle.cq_io.specs.Counts.{Rose}
-use Rattle.cq_io.specs.declared.exporter.PutRefusal.{PutRefusal}
-use Rattle.cq_io.specs.declared.exporter.PutRefusal.TheVariants as put
+use Rattle.cq_io.specs.declared.refusal.PutRefusal.{PutRefusal}
+use Rattle.cq_io.specs.declared.refusal.PutRefusal.TheVariants as put
 use Rattle.cq_export.specs.Files.{Files, files_in}
 use Rattle.cq_export.specs.declared.handing.Handed.{Handed}
 use Rattle.cq_export.specs.declared.handing.Handed.TheVariants as handed

@@ -19,7 +19,7 @@ use Rattle.cq_import.specs.declared.refusal.CsvRefusal.{CsvRefusal}
 use Rattle.cq_import.specs.declared.refusal.CsvRefusal.TheVariants as refusal
 use Rattle.cq_import.specs.Cells.{Cell, Sheet, all_cells, cell_fault, cell_uses, cells_fault, column_fault, content_fault, content_of, key_fault, missing_id, row_with_id, trouble_fault}
 use Rattle.cq_import.specs.Context.{sheet_in}
-use Rattle.cq_import.specs.Faults.{Fault, Refuses, TooLarge}
+use Rattle.cq_import.specs.Faults.{Fault, Tells, TooLarge}
 use Rattle.cq_import.specs.Folders.{AreRead, Stops}
 use Rattle.cq_import.specs.Imports.{IsImport, OfFiles, presented, sheets_fault, size_fault, total}
 use Rattle.cq_import.specs.Labels.{Labels, Room, uses_in, uses_trouble, with_uses}
@@ -59,7 +59,7 @@ pub sheets_no_read : (S : Schema) (sheets : List Sheet) → NoRead (sheets_fault
 sheets_no_read S sheets = or_no_read (size_fault (total S sheets)) _ (if_no_read _ (Some TooLarge) None tt tt) (cells_no_read sheets S.typeside (Some (16000000 - total S sheets)) [] (all_cells S sheets))
 
 pub answer_presents : (files : Option (List File)) (dir : Name) (S : Schema) → IsSchema S → (made : List EntityFile) → AreRead dir S files made → length made ≡ length S.entities → (result : Result Presentation CsvRefusal)
-    → OnOk result (sheets_fault S (map sheet_in made) ≡ None) → IfOk result (λ p. p ≡ presented S (map sheet_in made)) → IfErr result (λ r. Refuses r (sheets_fault S (map sheet_in made)))
+    → OnOk result (sheets_fault S (map sheet_in made) ≡ None) → IfOk result (λ p. p ≡ presented S (map sheet_in made)) → IfErr result (λ r. Tells r (sheets_fault S (map sheet_in made)))
     → OfFiles files (λ f. IsImport f dir S result)
 answer_presents (Some files) dir S schema made read few result passed is refused = answered files dir S made read few result passed is refused (sheets_no_read S (map sheet_in made))
 answer_presents None dir S schema made read few result passed is refused =

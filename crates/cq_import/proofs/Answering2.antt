@@ -19,7 +19,7 @@ use Rattle.cq_import.specs.Cells.{Sheet, all_cells, cells_fault}
 use Rattle.cq_import.specs.Columns.{header}
 use Rattle.cq_import.specs.Context.{sheet_in}
 use Rattle.cq_import.specs.Entries.{IsImport2Over, OfFiles2, contents2_fault, entries_fault, entries_file, entry_fault, fault2_over, is_entry, is_new, is_null, kind_fault, labels2_of, line_fault, lines_fault, mark, marked_fault, null_fault, nulls_fault, or_bad, presented2, rest_fault, right_fault, sheets2_fault, sides_fault, size2_fault, text_lines, text_records, trouble_in, type_named, uses_fault, with_null}
-use Rattle.cq_import.specs.Faults.{Absent, BadCell, BadHeader, Fault, NotCsv, Refuses, TooLarge, TooLong, or_else, told}
+use Rattle.cq_import.specs.Faults.{Absent, BadCell, BadHeader, Fault, NotCsv, Tells, TooLarge, TooLong, or_else, told}
 use Rattle.cq_import.specs.Folders.{AreRead, IsRefused, IsUnread, IsWrong, Stops, name_of}
 use Rattle.cq_import.specs.Folders2.{IsEntriesRead, IsEntriesRefused, IsEntriesWrong}
 use Rattle.cq_import.specs.Imports.{file_fault, files_fault, most_bytes, reading_fault, sheets_of}
@@ -120,7 +120,7 @@ untold_unread name (refusal.NoSuchId file n k) unread = absurd unread
 untold_unread name refusal.TooLarge unread = absurd unread
 
 module _ (files : List File) (text : Option (List ℕ)) (dir : Name) (S : Schema) where
-  other_import2 : (r : CsvRefusal) → NotReading (told r) → Refuses r (fault2_over files text dir S) → IsImport2Over files text dir S (Err r)
+  other_import2 : (r : CsvRefusal) → NotReading (told r) → Tells r (fault2_over files text dir S) → IsImport2Over files text dir S (Err r)
   other_import2 (refusal.Absent file) none refuses = absurd none
   other_import2 (refusal.ReadFault file) none refuses = absurd none
   other_import2 (refusal.TooLong file) none refuses = absurd none
@@ -210,7 +210,7 @@ module _ (files : List File) (text : Option (List ℕ)) (dir : Name) (S : Schema
       after_reading : fault2_over files text dir S ≡ or_else (marked_fault (entries_file dir) (records_of bytes)) (sheets2_fault S (sheets_of files dir S) (rows_of bytes) (entries_file dir))
       after_reading = after_files ∙ ap then_marked there ∙ after_none _ _ (if_false (TooLong (entries_file dir)) _ (not_longer most_bytes (length bytes) short))
 
-      wrong2 : (r : CsvRefusal) → Refuses r (marked_fault (entries_file dir) (records_of bytes)) → IsImport2Over files text dir S (Err r)
+      wrong2 : (r : CsvRefusal) → Tells r (marked_fault (entries_file dir) (records_of bytes)) → IsImport2Over files text dir S (Err r)
       wrong2 r refuses =
           other_import2 r (told_no_read r _ refuses (marked_no_read (entries_file dir) (records_of bytes)))
           (elim refuses [
@@ -223,7 +223,7 @@ module _ (files : List File) (text : Option (List ℕ)) (dir : Name) (S : Schema
         after_all = after_reading ∙ after_none _ _ passed ∙ ap (λ sheets. sheets2_fault S sheets (rows_of bytes) (entries_file dir)) (sheets_are files dir S made read few)
 
         answered2 : (name : List ℕ) → name ≡ entries_file dir → (result : Result Presentation CsvRefusal) → OnOk result (sheets2_fault S (map sheet_in made) (rows_of bytes) name ≡ None)
-            → IfOk result (λ p. p ≡ presented2 S (map sheet_in made) (rows_of bytes)) → IfErr result (λ r. Refuses r (sheets2_fault S (map sheet_in made) (rows_of bytes) name))
+            → IfOk result (λ p. p ≡ presented2 S (map sheet_in made) (rows_of bytes)) → IfErr result (λ r. Tells r (sheets2_fault S (map sheet_in made) (rows_of bytes) name))
             → IsImport2Over files text dir S result
         answered2 name named (Ok p) none is refused = (
           after_all ∙ ap (sheets2_fault S (map sheet_in made) (rows_of bytes)) (sym named) ∙ none,
@@ -255,7 +255,7 @@ module _ (dir : Name) (S : Schema) (schema : IsSchema S) where
     pub answer2_presents : (told_files : Option (List File)) → AreRead dir S told_files made → (entries : EntriesFile) → IsEntriesRead dir told_files entries → (result : Result Presentation CsvRefusal)
         → OnOk result (sheets2_fault S (map sheet_in made) (rows_of entries.text.items) (string_bytes entries.name) ≡ None)
         → IfOk result (λ p. p ≡ presented2 S (map sheet_in made) (rows_of entries.text.items))
-        → IfErr result (λ r. Refuses r (sheets2_fault S (map sheet_in made) (rows_of entries.text.items) (string_bytes entries.name)))
+        → IfErr result (λ r. Tells r (sheets2_fault S (map sheet_in made) (rows_of entries.text.items) (string_bytes entries.name)))
         → OfFiles2 told_files dir (λ f t. IsImport2Over f t dir S result)
     answer2_presents (Some files) read entries entered result passed is refused =
         answered2 files (find_file (entries_file dir) files) dir S made read few entries.text.items entered.found entered.short entered.passed (string_bytes entries.name) entered.named result passed is refused

@@ -12,7 +12,7 @@ use Rattle.cq_import.specs.declared.content.Content.TheVariants.{Blank, Wrong, M
 use Rattle.cq_import.specs.declared.refusal.CsvRefusal.{CsvRefusal}
 use Rattle.cq_import.specs.Cells.{cell_equations, cell_uses, column_equations, column_fault, column_uses, content_equations, content_fault, content_of, trouble_fault, uses_of}
 use Rattle.cq_import.specs.Context.{ReadsCell, fault_in, sheets_in, shown_cell, typeside_in}
-use Rattle.cq_import.specs.Faults.{BadCell, Refuses}
+use Rattle.cq_import.specs.Faults.{BadCell, Tells}
 use Rattle.cq_import.specs.Labels.{Labels, uses_in, uses_trouble, with_uses}
 use Rattle.cq_import.proofs.Faulty.{refuses_same}
 
@@ -45,8 +45,8 @@ module _ (context : Context) (cell : RustCell) (a type : ℕ) (column : cell.col
   }
 
   -- a field without a meaning is wrong
-  pub wrong_refused : (made : Made) (r : CsvRefusal) → content_of (typeside_in context) type cell.field.now ≡ Wrong → Refuses r (Some (BadCell cell.file.now cell.row_number cell.column_number))
-      → Refuses r (fault_in context made (shown_cell cell))
+  pub wrong_refused : (made : Made) (r : CsvRefusal) → content_of (typeside_in context) type cell.field.now ≡ Wrong → Tells r (Some (BadCell cell.file.now cell.row_number cell.column_number))
+      → Tells r (fault_in context made (shown_cell cell))
   wrong_refused made r content refuses = refuses_same r _ _ (sym (fault_is context cell a type column Wrong content made)) refuses
 
   module _ (T : Typeside) (v : Value) (same : T ≡ typeside_in context) (content : content_of (typeside_in context) type cell.field.now ≡ Means v) where
@@ -54,8 +54,8 @@ module _ (context : Context) (cell : RustCell) (a type : ℕ) (column : cell.col
     here = ap (λ (t : Typeside). uses_in t v type) same
 
     -- what is wrong with the labels of a value is wrong with the cell
-    pub value_refused : (made : Made) (r : CsvRefusal) → Refuses r (trouble_fault (shown_cell cell) (uses_trouble context.room made.labels (uses_in T v type)))
-        → Refuses r (fault_in context made (shown_cell cell))
+    pub value_refused : (made : Made) (r : CsvRefusal) → Tells r (trouble_fault (shown_cell cell) (uses_trouble context.room made.labels (uses_in T v type)))
+        → Tells r (fault_in context made (shown_cell cell))
     value_refused made r refuses =
         refuses_same r _ _
         (ap (λ us. trouble_fault (shown_cell cell) (uses_trouble context.room made.labels us)) here ∙ sym (fault_is context cell a type column (Means v) content made)) refuses

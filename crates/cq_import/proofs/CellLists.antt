@@ -10,7 +10,7 @@ use Rattle.cq_import.specs.declared.cells.Made.{Made}
 use Rattle.cq_import.specs.declared.refusal.CsvRefusal.{CsvRefusal}
 use Rattle.cq_import.specs.Cells.{Cell, Sheet, cell_equations, cell_fault, cell_in, cell_uses, cells_fault, equations_from}
 use Rattle.cq_import.specs.Context.{Reads, ReadsCell, faults_in, sheets_in, shown_cell, typeside_in}
-use Rattle.cq_import.specs.Faults.{Refuses, or_else}
+use Rattle.cq_import.specs.Faults.{Tells, or_else}
 use Rattle.cq_import.specs.Labels.{Labels, Room, with_uses}
 use Rattle.cq_import.specs.Records.{Record, field_in}
 use Rattle.cq_import.proofs.Faulty.{after_none, or_else-assoc, refuses_first, refuses_same}
@@ -66,7 +66,7 @@ reads_one context old new cell reads =
     }
 
 module _ (context : Context) (old now : Made) (whole rest : List Cell) (reading : AreReading context old now whole rest) where
-  pub reading_refused : (first behind : List Cell) (r : CsvRefusal) → rest ≡ first ++ behind → Refuses r (faults_in context now first) → Refuses r (faults_in context old whole)
+  pub reading_refused : (first behind : List Cell) (r : CsvRefusal) → rest ≡ first ++ behind → Tells r (faults_in context now first) → Tells r (faults_in context old whole)
   reading_refused first behind r is refuses =
       let same = reading.fault ∙ ap (faults_in context now) is ∙ cells_fault-append (sheets_in context) (typeside_in context) context.room context.first now.labels first behind in
       refuses_same r _ _ (sym same) (refuses_first r (faults_in context now first) _ refuses)

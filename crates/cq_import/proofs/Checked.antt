@@ -4,7 +4,7 @@ use Rattle.std.specs.Borrow.{Bor}
 use Rattle.std.proofs.lemmas.List.{append-nil}
 use Rattle.csv.specs.declared.reader.Reader.{Reader}
 use Rattle.cq_import.specs.declared.refusal.CsvRefusal.{CsvRefusal}
-use Rattle.cq_import.specs.Faults.{Fault, BadHeader, Refuses, or_else}
+use Rattle.cq_import.specs.Faults.{Fault, BadHeader, Tells, or_else}
 use Rattle.cq_import.specs.Records.{Record, Remains, Takes, Steps}
 use Rattle.cq_import.specs.Rows.{id_of, ids_of, row_fault, rows_fault, same_record, sheet_fault}
 use Rattle.cq_import.proofs.Faulty.{after_none, refuses_first, refuses_same}
@@ -35,7 +35,7 @@ module _ (file : List ℕ) (count number : ℕ) (ids : List (List ℕ)) (reader 
     fault_here : rows_fault file count [] 1 rows ≡ or_else (row_fault file count ids number fields) (rows_fault file count (ids ++ id_of fields ∷ []) (number + 1) takes.others)
     fault_here = checked.fault ∙ ap (rows_fault file count ids number) takes.first
 
-    pub one_refused : (r : CsvRefusal) → Refuses r (row_fault file count ids number fields) → Refuses r (rows_fault file count [] 1 rows)
+    pub one_refused : (r : CsvRefusal) → Tells r (row_fault file count ids number fields) → Tells r (rows_fault file count [] 1 rows)
     one_refused r refuses = refuses_same r _ _ (sym fault_here) (refuses_first r (row_fault file count ids number fields) _ refuses)
 
     pub one_checked : (more : List (List ℕ)) → row_fault file count ids number fields ≡ None → more ≡ ids ++ id_of fields ∷ [] → AreChecked file count (number + 1) more next rows

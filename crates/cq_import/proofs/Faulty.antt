@@ -1,7 +1,7 @@
 -- Faults one behind the other.
 use Rattle.std.proofs.Common.{List, [], ◌∷◌, ◌++◌, ◌≡◌, Option, Some, None, inl, inr, refl, sym, ap, subst, ◌∙◌}
 use Rattle.cq_import.specs.declared.refusal.CsvRefusal.{CsvRefusal}
-use Rattle.cq_import.specs.Faults.{Fault, Refuses, or_else, first_fault}
+use Rattle.cq_import.specs.Faults.{Fault, Tells, or_else, first_fault}
 
 pub after_none : (first second : Option Fault) → first ≡ None → or_else first second ≡ second
 after_none first second none = ap (λ f. or_else f second) none
@@ -9,14 +9,14 @@ after_none first second none = ap (λ f. or_else f second) none
 pub both_none : (first second : Option Fault) → first ≡ None → second ≡ None → or_else first second ≡ None
 both_none first second none nothing = after_none first second none ∙ nothing
 
-pub refuses_same : (r : CsvRefusal) (fault other : Option Fault) → fault ≡ other → Refuses r fault → Refuses r other
-refuses_same r fault other same = subst (Refuses r) same
+pub refuses_same : (r : CsvRefusal) (fault other : Option Fault) → fault ≡ other → Tells r fault → Tells r other
+refuses_same r fault other same = subst (Tells r) same
 
-pub refuses_first : (r : CsvRefusal) (first second : Option Fault) → Refuses r first → Refuses r (or_else first second)
+pub refuses_first : (r : CsvRefusal) (first second : Option Fault) → Tells r first → Tells r (or_else first second)
 refuses_first r first second (inl memory) = inl memory
 refuses_first r first second (inr is) = inr (ap (λ f. or_else f second) is)
 
-pub refuses_after : (r : CsvRefusal) (first second : Option Fault) → first ≡ None → Refuses r second → Refuses r (or_else first second)
+pub refuses_after : (r : CsvRefusal) (first second : Option Fault) → first ≡ None → Tells r second → Tells r (or_else first second)
 refuses_after r first second none = refuses_same r second (or_else first second) (sym (after_none first second none))
 
 pub or_else-assoc : (a b c : Option Fault) → or_else (or_else a b) c ≡ or_else a (or_else b c)

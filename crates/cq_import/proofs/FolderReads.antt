@@ -15,7 +15,7 @@ use Rattle.cq_import.specs.declared.entity_file.EntityFile.{EntityFile}
 use Rattle.cq_import.specs.declared.refusal.CsvRefusal.{CsvRefusal}
 use Rattle.cq_import.specs.declared.refusal.CsvRefusal.TheVariants as refusal
 use Rattle.cq_import.specs.Columns.{columns, header, header_with}
-use Rattle.cq_import.specs.Faults.{Fault, Absent, ReadFault, TooLong, Refuses, or_else, told}
+use Rattle.cq_import.specs.Faults.{Fault, Absent, ReadFault, TooLong, Tells, or_else, told}
 use Rattle.cq_io.specs.FolderData.{FolderData}
 use Rattle.cq_import.specs.Folders.{AreRead, IsRead, IsRefused, IsUnread, Keeps, Raises, Stops, name_of}
 use Rattle.cq_import.specs.Imports.{IfAbsent, IfReadFault, IfTooLong, most_bytes, name_at}
@@ -54,7 +54,7 @@ pub sheet_no_read : (file : List ℕ) (wanted : Record) (rows : List Record) →
 sheet_no_read file wanted [] = tt
 sheet_no_read file wanted (first ∷ rows) = if_no_read (same_record first wanted) _ _ (rows_no_read file (length wanted) [] 1 rows) tt
 
-pub told_no_read : (r : CsvRefusal) (fault : Option Fault) → Refuses r fault → NoRead fault → NotReading (told r)
+pub told_no_read : (r : CsvRefusal) (fault : Option Fault) → Tells r fault → NoRead fault → NotReading (told r)
 told_no_read r fault (inl memory) none = subst NotReading (sym memory) tt
 told_no_read r fault (inr is) none = subst NoRead is none
 
@@ -70,7 +70,7 @@ raises_other a b (refusal.NoSuchId file n k) none = record { absent = tt; failed
 raises_other a b refusal.TooLarge none = record { absent = tt; failed = tt; too_long = tt; fails = tt }
 raises_other a b refusal.Memory none = record { absent = tt; failed = tt; too_long = tt; fails = tt }
 
-pub raises_of : {A : Type 0} (a b : FolderData) (result : Result A CsvRefusal) (fault : Option Fault) → IfErr result (λ r. Refuses r fault) → NoRead fault → Raises a b result
+pub raises_of : {A : Type 0} (a b : FolderData) (result : Result A CsvRefusal) (fault : Option Fault) → IfErr result (λ r. Tells r fault) → NoRead fault → Raises a b result
 raises_of a b (Ok x) fault refuses none = record { absent = tt; failed = tt; too_long = tt; fails = tt }
 raises_of a b (Err r) fault refuses none = raises_other a b r (told_no_read r fault refuses none)
 
@@ -149,7 +149,7 @@ module _ (files : Option (List File)) (dir : Name) (S : Schema) (entity : ℕ) (
     passed = ap (λ t. sheet_fault (name_of dir S entity) (header S entity) (records_of t)) same.1 ∙ sym wanted ∙ passed;
   }
 
-  pub read_refused : (result : Result EntityFile CsvRefusal) → IfErr result (λ r. Refuses r (sheet_fault name (header_with S found) (records_of text))) → IfErr result (IsRefused dir S files entity)
+  pub read_refused : (result : Result EntityFile CsvRefusal) → IfErr result (λ r. Tells r (sheet_fault name (header_with S found) (records_of text))) → IfErr result (IsRefused dir S files entity)
   read_refused (Ok file) refuses = tt
   read_refused (Err r) refuses = inr (record { text = text; short = short; found = there_named; refuses = refuses_same r _ _ wanted refuses })
 

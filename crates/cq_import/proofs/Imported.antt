@@ -18,7 +18,7 @@ use Rattle.cq_import.specs.declared.refusal.CsvRefusal.TheVariants as refusal
 use Rattle.cq_import.specs.Cells.{Sheet}
 use Rattle.cq_import.specs.Columns.{header}
 use Rattle.cq_import.specs.Context.{sheet_in}
-use Rattle.cq_import.specs.Faults.{Fault, Absent, TooLong, Refuses, first_fault, or_else, told}
+use Rattle.cq_import.specs.Faults.{Fault, Absent, TooLong, Tells, first_fault, or_else, told}
 use Rattle.cq_import.specs.Folders.{AreRead, IsRead, IsRefused, IsUnread, IsWrong, name_of}
 use Rattle.cq_import.specs.Imports.{IsImport, IsNext, fault_of, file_fault, files_fault, imported, most_bytes, presented, reading_fault, sheet_of, sheets_fault, sheets_of}
 use Rattle.cq_import.specs.Records.{records_of}
@@ -96,7 +96,7 @@ module _ (files : List File) (dir : Name) (S : Schema) where
         let d = item_at made k within in
         get_or-map sheet_in made k d none within ∙ sheet_same k (get_or made k d) (read k d within)))
 
-  other_import : (r : CsvRefusal) → NotReading (told r) → Refuses r (fault_of files dir S) → IsImport files dir S (Err r)
+  other_import : (r : CsvRefusal) → NotReading (told r) → Tells r (fault_of files dir S) → IsImport files dir S (Err r)
   other_import (refusal.Absent file) none refuses = absurd none
   other_import (refusal.ReadFault file) none refuses = absurd none
   other_import (refusal.TooLong file) none refuses = absurd none
@@ -116,7 +116,7 @@ module _ (files : List File) (dir : Name) (S : Schema) where
 
   -- the answer where all files are read and pass
   pub answered : (made : List EntityFile) → AreRead dir S (Some files) made → length made ≡ length S.entities → (result : Result Presentation CsvRefusal)
-      → OnOk result (sheets_fault S (map sheet_in made) ≡ None) → IfOk result (λ p. p ≡ presented S (map sheet_in made)) → IfErr result (λ r. Refuses r (sheets_fault S (map sheet_in made)))
+      → OnOk result (sheets_fault S (map sheet_in made) ≡ None) → IfOk result (λ p. p ≡ presented S (map sheet_in made)) → IfErr result (λ r. Tells r (sheets_fault S (map sheet_in made)))
       → NoRead (sheets_fault S (map sheet_in made)) → IsImport files dir S result
   answered made read few (Ok p) passed is refused other =
       let same = sheets_are made read few in

@@ -10,7 +10,7 @@ use Rattle.cq_import.specs.declared.refusal.CsvRefusal.{CsvRefusal}
 use Rattle.cq_import.specs.Cells.{Cell, Sheet, all_cells, cells_fault, equations_from}
 use Rattle.cq_import.specs.Context.{Reads, faults_in, sheets_in, typeside_in}
 use Rattle.cq_import.specs.Entries.{contents2_fault, entries_fault, entry_equations, given, is_null, labels2_of, null_use, nulls_fault, rest_equations, rest_fault}
-use Rattle.cq_import.specs.Faults.{Fault, Refuses, or_else}
+use Rattle.cq_import.specs.Faults.{Fault, Tells, or_else}
 use Rattle.cq_import.specs.Labels.{Labels}
 use Rattle.cq_import.specs.Records.{Record}
 use Rattle.cq_import.proofs.CellEquations.{cells_given}
@@ -21,7 +21,7 @@ module _ (context : Context) (old : Made) (given_all : context.room ≡ None) wh
   abbrev cells : List Cell
   cells = all_cells context.schema.now (sheets_in context)
 
-  pub cells_refused : (lines : List Record) (file : List ℕ) (r : CsvRefusal) → Refuses r (faults_in context old cells) → Refuses r (rest_fault context.schema.now (sheets_in context) lines old.labels file)
+  pub cells_refused : (lines : List Record) (file : List ℕ) (r : CsvRefusal) → Tells r (faults_in context old cells) → Tells r (rest_fault context.schema.now (sheets_in context) lines old.labels file)
   cells_refused lines file r refuses =
       refuses_first r (cells_fault (sheets_in context) (typeside_in context) None old.labels cells) (entries_fault (typeside_in context) file old.labels 1 lines)
       (refuses_same r _ _ (ap (λ room. cells_fault (sheets_in context) (typeside_in context) room old.labels cells) given_all) refuses)
@@ -41,7 +41,7 @@ module _ (context : Context) (old : Made) (given_all : context.room ≡ None) wh
       rest_passed file none =
           both_none (cells_fault (sheets_in context) (typeside_in context) None old.labels cells) (entries_fault (typeside_in context) file old.labels 1 lines) no_fault (sym (entries_same file) ∙ none)
 
-      pub rest_refused : (file : List ℕ) (r : CsvRefusal) → Refuses r (entries_fault T file now.labels 1 lines) → Refuses r (rest_fault context.schema.now (sheets_in context) lines old.labels file)
+      pub rest_refused : (file : List ℕ) (r : CsvRefusal) → Tells r (entries_fault T file now.labels 1 lines) → Tells r (rest_fault context.schema.now (sheets_in context) lines old.labels file)
       rest_refused file r refuses =
           refuses_after r (cells_fault (sheets_in context) (typeside_in context) None old.labels cells) (entries_fault (typeside_in context) file old.labels 1 lines) no_fault
           (refuses_same r _ _ (entries_same file) refuses)
@@ -65,7 +65,7 @@ module _ (S : Schema) (sheets : List Sheet) (lines : List Record) (T : Typeside)
   nulls_same : (file : List ℕ) → nulls_fault T file old 1 lines ≡ nulls_fault S.typeside file [] 1 lines
   nulls_same file = λ i. nulls_fault (is i) file (none i) 1 lines
 
-  pub nulls_refused : (file : List ℕ) (r : CsvRefusal) → Refuses r (nulls_fault T file old 1 lines) → Refuses r (contents2_fault S sheets lines file)
+  pub nulls_refused : (file : List ℕ) (r : CsvRefusal) → Tells r (nulls_fault T file old 1 lines) → Tells r (contents2_fault S sheets lines file)
   nulls_refused file r refuses =
       refuses_first r (nulls_fault S.typeside file [] 1 lines) (rest_fault S sheets lines (labels2_of S sheets lines) file) (refuses_same r _ _ (nulls_same file) refuses)
 
@@ -77,6 +77,6 @@ module _ (S : Schema) (sheets : List Sheet) (lines : List Record) (T : Typeside)
     contents_passed nothing =
         both_none (nulls_fault S.typeside file [] 1 lines) (rest_fault S sheets lines (labels2_of S sheets lines) file) (sym (nulls_same file) ∙ passed) (sym rest_same ∙ nothing)
 
-    pub contents_refused : (r : CsvRefusal) → Refuses r (rest_fault S sheets lines now file) → Refuses r (contents2_fault S sheets lines file)
+    pub contents_refused : (r : CsvRefusal) → Tells r (rest_fault S sheets lines now file) → Tells r (contents2_fault S sheets lines file)
     contents_refused r refuses =
         refuses_after r (nulls_fault S.typeside file [] 1 lines) (rest_fault S sheets lines (labels2_of S sheets lines) file) (sym (nulls_same file) ∙ passed) (refuses_same r _ _ rest_same refuses)

@@ -9,7 +9,7 @@ use Rattle.cq_theory.specs.Canonical.{below, named}
 use Rattle.cq_theory.specs.SchemaData.{SchemaData as Schema}
 use Rattle.cq_import.specs.declared.refusal.CsvRefusal.{CsvRefusal}
 use Rattle.cq_import.specs.Cells.{Sheet, all_cells, cell_uses, cells_fault, equations_from}
-use Rattle.cq_import.specs.Faults.{Fault, Refuses, TooLarge, or_else}
+use Rattle.cq_import.specs.Faults.{Fault, Tells, TooLarge, or_else}
 use Rattle.cq_import.specs.Imports.{entity_sorts, presented, sheets_fault, size_fault, total}
 use Rattle.cq_import.specs.Labels.{with_uses}
 use Rattle.cq_import.proofs.Faulty.{both_none, refuses_after, refuses_same}
@@ -38,7 +38,7 @@ module _ (S : Schema) (sheets : List Sheet) where
   abbrev cells_at : ℕ → Option Fault
   cells_at first = cells_fault sheets S.typeside (Some (16000000 - first)) [] (all_cells S sheets)
 
-  pub many_refused : (r : CsvRefusal) → 16000000 < total S sheets → Refuses r (Some TooLarge) → Refuses r (sheets_fault S sheets)
+  pub many_refused : (r : CsvRefusal) → 16000000 < total S sheets → Tells r (Some TooLarge) → Tells r (sheets_fault S sheets)
   many_refused r many = refuses_same r (Some TooLarge) (sheets_fault S sheets) (sym (ap (λ o. or_else o (cells_at (total S sheets))) (size_fails (total S sheets) many)))
 
   module _ (first : ℕ) (is : first ≡ total S sheets) (few : first ≤ 16000000) (result : Result Presentation CsvRefusal) where
@@ -52,10 +52,10 @@ module _ (S : Schema) (sheets : List Sheet) where
         go (Ok p) none = both_none _ _ passes (ap cells_at (sym is) ∙ none)
         go (Err e) none = none
 
-    pub present_refused : IfErr result (λ r. Refuses r (cells_at first)) → IfErr result (λ r. Refuses r (sheets_fault S sheets))
+    pub present_refused : IfErr result (λ r. Tells r (cells_at first)) → IfErr result (λ r. Tells r (sheets_fault S sheets))
     present_refused = go result
       where
-        go : (r : Result Presentation CsvRefusal) → IfErr r (λ e. Refuses e (cells_at first)) → IfErr r (λ e. Refuses e (sheets_fault S sheets))
+        go : (r : Result Presentation CsvRefusal) → IfErr r (λ e. Tells e (cells_at first)) → IfErr r (λ e. Tells e (sheets_fault S sheets))
         go (Ok p) refuses = refuses
         go (Err e) refuses = refuses_after e _ _ passes (refuses_same e _ _ (ap cells_at is) refuses)
 

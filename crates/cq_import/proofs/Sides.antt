@@ -6,7 +6,7 @@ use Rattle.cq_theory.specs.TypesideData.{TypesideData as Typeside}
 use Rattle.cq_values.specs.Reading.{value_in}
 use Rattle.cq_import.specs.declared.refusal.CsvRefusal.{CsvRefusal}
 use Rattle.cq_import.specs.Entries.{right_equations, right_fault, sides_equations, sides_fault, uses_fault}
-use Rattle.cq_import.specs.Faults.{BadCell, Fault, Refuses, or_else}
+use Rattle.cq_import.specs.Faults.{BadCell, Fault, Tells, or_else}
 use Rattle.cq_import.specs.Labels.{Labels, value_term}
 use Rattle.cq_import.proofs.Faulty.{after_none, refuses_same}
 
@@ -29,6 +29,6 @@ module _ (T : Typeside) (file : List ℕ) (labels : Labels) (number : ℕ) (o : 
 
     -- what is wrong with the right side is wrong with the entry
     pub right_refused : uses_fault T file labels number 2 v type ≡ None → (right : List ℕ) (same : Labels) (r : CsvRefusal) → same ≡ labels
-        → Refuses r (right_fault T file same number type (value_in T type right)) → Refuses r (sides_fault T file labels number o right)
+        → Tells r (right_fault T file same number type (value_in T type right)) → Tells r (sides_fault T file labels number o right)
     right_refused passed right same r kept refuses =
         refuses_same r _ _ (ap (λ l. right_fault T file l number type (value_in T type right)) kept ∙ sym (left_passes passed right)) refuses

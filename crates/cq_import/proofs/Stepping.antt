@@ -9,7 +9,7 @@ use Rattle.cq_theory.specs.declared.presentation.Equation.{Equation}
 use Rattle.cq_theory.specs.TypesideData.{TypesideData as Typeside}
 use Rattle.cq_import.specs.declared.refusal.CsvRefusal.{CsvRefusal}
 use Rattle.cq_import.specs.Entries.{entries_fault, entry_equations, entry_fault, given, is_null, kind_fault, line_fault, lines_fault, mark, marked_fault, null_use, nulls_fault, with_null}
-use Rattle.cq_import.specs.Faults.{BadHeader, Fault, NotCsv, Refuses, or_else}
+use Rattle.cq_import.specs.Faults.{BadHeader, Fault, NotCsv, Tells, or_else}
 use Rattle.cq_import.specs.Labels.{Labels, Use}
 use Rattle.cq_import.specs.Records.{Record, Remains, Takes, records_of}
 use Rattle.cq_import.specs.Rows.{is_row, rows_of, same_record}
@@ -35,7 +35,7 @@ module _ {Y : Type 0} (whole : Option Fault) (list : List Y) (reader : Reader (B
   on_made none nothing = sym (on.made ∙ ap (λ l. done ++ g l) none ∙ ap (λ l. done ++ l) nothing ∙ append-nil done)
 
   module _ (next : Reader (Bor (List ℕ))) (fields : Record) (takes : Takes next on.others fields) (here later : Option Fault) (first : f (fields ∷ takes.others) ≡ or_else here later) where
-    pub on_refused : (r : CsvRefusal) → Refuses r here → Refuses r whole
+    pub on_refused : (r : CsvRefusal) → Tells r here → Tells r whole
     on_refused r refuses = refuses_same r (or_else here later) whole (sym (on.fault ∙ ap f takes.first ∙ first)) (refuses_first r here later refuses)
 
     pub on_more : (f' : List Record → Option Fault) (done' some : List Y) → here ≡ None → later ≡ f' takes.others → g (fields ∷ takes.others) ≡ some ++ g takes.others → done' ≡ done ++ some
@@ -96,7 +96,7 @@ module _ (file : List ℕ) (rows : List Record) (number nulls : ℕ) (reader : R
   counted_all none = sym counted.many ∙ ap length (on_made _ _ reader (lines_fault file number) counted.done (filter is_null) counted.on none refl)
 
   module _ (next : Reader (Bor (List ℕ))) (fields : Record) (takes : Takes next counted.on.others fields) where
-    pub counted_refused : (r : CsvRefusal) → Refuses r (line_fault file number fields) → Refuses r (lines_fault file 1 rows)
+    pub counted_refused : (r : CsvRefusal) → Tells r (line_fault file number fields) → Tells r (lines_fault file 1 rows)
     counted_refused r refuses =
         on_refused _ _ reader (lines_fault file number) counted.done (filter is_null) counted.on next fields takes (line_fault file number fields) (lines_fault file (number + 1) takes.others) refl r refuses
 
@@ -126,7 +126,7 @@ module _ (T : Typeside) (file : List ℕ) where
 
   module _ (old : Labels) (rows : List Record) (number : ℕ) (labels : Labels) (reader : Reader (Bor (List ℕ))) (on : AreGiven old rows number labels reader)
       (next : Reader (Bor (List ℕ))) (fields : Record) (takes : Takes next on.others fields) where
-    pub given_refused : (r : CsvRefusal) → Refuses r (kind_fault T file labels number fields) → Refuses r (nulls_fault T file old 1 rows)
+    pub given_refused : (r : CsvRefusal) → Tells r (kind_fault T file labels number fields) → Tells r (nulls_fault T file old 1 rows)
     given_refused r refuses =
         on_refused _ _ reader (nulls_fault T file labels number) labels (given T) on next fields takes (kind_fault T file labels number fields)
         (nulls_fault T file (with_null T labels fields) (number + 1) takes.others) refl r refuses
@@ -146,7 +146,7 @@ module _ (T : Typeside) (file : List ℕ) (first : ℕ) (labels : Labels) where
 
   module _ (old : List Equation) (rows : List Record) (number : ℕ) (equations : List Equation) (reader : Reader (Bor (List ℕ))) (on : AreEntered old rows number equations reader)
       (next : Reader (Bor (List ℕ))) (fields : Record) (takes : Takes next on.others fields) where
-    pub entered_refused : (r : CsvRefusal) (same : Labels) → same ≡ labels → Refuses r (entry_fault T file same number fields) → Refuses r (entries_fault T file labels 1 rows)
+    pub entered_refused : (r : CsvRefusal) (same : Labels) → same ≡ labels → Tells r (entry_fault T file same number fields) → Tells r (entries_fault T file labels 1 rows)
     entered_refused r same is refuses =
         on_refused _ _ reader (entries_fault T file labels number) equations (flat_map (entry_equations T first labels)) on next fields takes (entry_fault T file labels number fields)
         (entries_fault T file labels (number + 1) takes.others) refl r (refuses_same r _ _ (ap (λ l. entry_fault T file l number fields) is) refuses)

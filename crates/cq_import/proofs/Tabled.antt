@@ -8,7 +8,7 @@ use Rattle.cq_import.specs.declared.columns.Column.{Column}
 use Rattle.cq_import.specs.declared.refusal.CsvRefusal.{CsvRefusal}
 use Rattle.cq_import.specs.Cells.{row_cells, rows_cells}
 use Rattle.cq_import.specs.Context.{Reads, faults_in}
-use Rattle.cq_import.specs.Faults.{Refuses}
+use Rattle.cq_import.specs.Faults.{Tells}
 use Rattle.cq_import.specs.Records.{Record, Remains, Takes}
 use Rattle.cq_import.proofs.CellLists.{AreReading, reading_start, reading_refused, reading_more, reading_all}
 
@@ -46,7 +46,7 @@ module _ (context : Context) (file : List ℕ) (columns : List Column) (start nu
         ap (rows_cells file columns (start + (number - 1)) number) takes.first
         ∙ ap (λ n. row_cells file columns n number fields ++ rows_cells file columns (start + (number - 1) + 1) (number + 1) takes.others) (sym generator_is)
 
-    pub tabled_refused : (r : CsvRefusal) → Refuses r (faults_in context now (row_cells file columns generator number fields)) → Refuses r (faults_in context old (rows_cells file columns start 1 rows))
+    pub tabled_refused : (r : CsvRefusal) → Tells r (faults_in context now (row_cells file columns generator number fields)) → Tells r (faults_in context old (rows_cells file columns start 1 rows))
     tabled_refused r refuses = reading_refused context old now _ _ tabled.reading (row_cells file columns generator number fields) (rows_cells file columns (start + (number - 1) + 1) (number + 1) takes.others) r rest_is refuses
 
     pub tabled_more : 1 ≤ number → (new : Made) → Reads context now new (row_cells file columns generator number fields) → AreTabled context file columns start (number + 1) old new next rows

@@ -26,7 +26,7 @@ use Rattle.cq_import.specs.declared.labels.Trouble.{Trouble}
 use Rattle.cq_import.specs.declared.refusal.CsvRefusal.{CsvRefusal}
 use Rattle.cq_import.specs.Cells.{Sheet, all_cells, cell_uses, cells_fault, equations_from}
 use Rattle.cq_import.specs.Entries.{contents2_fault, entries_fault, entry_equations, entry_fault, given, is_entry, is_new, is_null, kind_fault, labels2_of, null_fault, null_use, nulls_fault, or_bad, presented2, rest_equations, rest_fault, right_equations, right_fault, sheets2_fault, sides_equations, sides_fault, size2_fault, trouble_in, type_named, uses_fault, with_null}
-use Rattle.cq_import.specs.Faults.{BadCell, Fault, Refuses, TooLarge}
+use Rattle.cq_import.specs.Faults.{BadCell, Fault, Tells, TooLarge}
 use Rattle.cq_import.specs.Imports.{entity_sorts, row_sorts, size_fault, total}
 use Rattle.cq_import.specs.Labels.{Labels, Use, uses_in, uses_trouble, value_term, with_uses}
 use Rattle.cq_import.specs.Records.{Record, field_in}
@@ -154,7 +154,7 @@ module _ (S : Schema) (sheets : List Sheet) (lines : List Record) (file : List �
   if_presented2 (Err r) schema same passed is = tt
 
   -- too many records
-  pub many2_refused : (r : CsvRefusal) → 16000000 < total S sheets + length (filter is_null lines) → Refuses r (Some TooLarge) → Refuses r (sheets2_fault S sheets lines file)
+  pub many2_refused : (r : CsvRefusal) → 16000000 < total S sheets + length (filter is_null lines) → Tells r (Some TooLarge) → Tells r (sheets2_fault S sheets lines file)
   many2_refused r many refuses =
       refuses_first r (size2_fault S sheets lines) (contents2_fault S sheets lines file) (refuses_same r _ _ (sym (size_fails (total S sheets + length (filter is_null lines)) many)) refuses)
 
@@ -166,7 +166,7 @@ module _ (S : Schema) (sheets : List Sheet) (lines : List Record) (file : List �
     present2_passed (Ok p) none = both_none (size2_fault S sheets lines) (contents2_fault S sheets lines file) passes none
     present2_passed (Err r) none = none
 
-    pub present2_refused : (result : Result Presentation CsvRefusal) → IfErr result (λ r. Refuses r (contents2_fault S sheets lines file)) → IfErr result (λ r. Refuses r (sheets2_fault S sheets lines file))
+    pub present2_refused : (result : Result Presentation CsvRefusal) → IfErr result (λ r. Tells r (contents2_fault S sheets lines file)) → IfErr result (λ r. Tells r (sheets2_fault S sheets lines file))
     present2_refused (Ok p) refuses = refuses
     present2_refused (Err r) refuses = refuses_after r (size2_fault S sheets lines) (contents2_fault S sheets lines file) passes refuses
 

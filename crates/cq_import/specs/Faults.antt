@@ -30,8 +30,8 @@ told refusal.TooLarge = TooLarge
 told refusal.Memory = Memory
 
 -- the refusal tells this fault, or want of memory
-abbrev pub Refuses : CsvRefusal → Option Fault → Type 0
-Refuses r fault = (told r ≡ Memory) ⊎ (fault ≡ Some (told r))
+abbrev pub Tells : CsvRefusal → Option Fault → Type 0
+Tells r fault = (told r ≡ Memory) ⊎ (fault ≡ Some (told r))
 
 abbrev pub or_else : Option Fault → Option Fault → Option Fault
 or_else None fault = fault

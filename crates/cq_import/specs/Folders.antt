@@ -12,7 +12,7 @@ use Rattle.cq_import.specs.declared.entity_file.EntityFile.{EntityFile}
 use Rattle.cq_import.specs.declared.refusal.CsvRefusal.{CsvRefusal}
 use Rattle.cq_import.specs.declared.refusal.CsvRefusal.TheVariants as refusal
 use Rattle.cq_import.specs.Columns.{header}
-use Rattle.cq_import.specs.Faults.{Refuses}
+use Rattle.cq_import.specs.Faults.{Tells}
 use Rattle.cq_import.specs.Imports.{IfAbsent, IfReadFault, IfTooLong, file_of, most_bytes}
 use Rattle.cq_import.specs.Records.{records_of}
 use Rattle.cq_import.specs.Rows.{sheet_fault}
@@ -63,7 +63,7 @@ module _ (dir : Name) (S : Schema) where
     pub text : List ℕ
     pub short : length text ≤ most_bytes
     pub found : IfSome files (λ told. find_file (name_of entity) told ≡ Some text)
-    pub refuses : Refuses r (sheet_fault (name_of entity) (header S entity) (records_of text))
+    pub refuses : Tells r (sheet_fault (name_of entity) (header S entity) (records_of text))
 
   -- the file of an entity was not read, or something is wrong in it
   abbrev pub IsRefused : Option (List File) → ℕ → CsvRefusal → Type 0

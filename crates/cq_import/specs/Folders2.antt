@@ -5,7 +5,7 @@ use Rattle.cq_io.specs.Content.{File, find_file}
 use Rattle.cq_import.specs.declared.entries_text.EntriesFile.{EntriesFile}
 use Rattle.cq_import.specs.declared.refusal.CsvRefusal.{CsvRefusal}
 use Rattle.cq_import.specs.Entries.{entries_file, marked_fault}
-use Rattle.cq_import.specs.Faults.{Refuses}
+use Rattle.cq_import.specs.Faults.{Tells}
 use Rattle.cq_import.specs.Folders.{IsUnread}
 use Rattle.cq_import.specs.Imports.{most_bytes}
 use Rattle.cq_import.specs.Records.{records_of}
@@ -23,7 +23,7 @@ module _ (dir : Name) (files : Option (List File)) where
     pub text : List ℕ
     pub short : length text ≤ most_bytes
     pub found : IfSome files (λ told. find_file (entries_file dir) told ≡ Some text)
-    pub refuses : Refuses r (marked_fault (entries_file dir) (records_of text))
+    pub refuses : Tells r (marked_fault (entries_file dir) (records_of text))
 
   -- the file was not read, or something is wrong in it
   abbrev pub IsEntriesRefused : CsvRefusal → Type 0

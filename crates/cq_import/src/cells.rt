@@ -5,7 +5,7 @@ ghost use Rattle.cq_theory.specs.declared.presentation.Equation.TheVariants as e
 ghost use Rattle.cq_import.specs.declared.content.Content.TheVariants as content;
 ghost use Rattle.cq_import.specs.Cells.{content_equations, content_of, row_with_id, start_of, trouble_fault};
 ghost use Rattle.cq_import.specs.Context.{IsColumn, IsContext, ReadsCell, fault_in, sheets_in, shown_cell, typeside_in};
-ghost use Rattle.cq_import.specs.Faults.{Refuses, BadCell as BadCellFault, NoSuchId as NoSuchIdFault};
+ghost use Rattle.cq_import.specs.Faults.{Tells, BadCell as BadCellFault, NoSuchId as NoSuchIdFault};
 ghost use Rattle.cq_import.specs.Labels.{uses_in, uses_trouble, with_uses};
 
 use crate::capacities::empty_equations;
@@ -91,7 +91,7 @@ pub struct Cell<'a> {
 }
 
 fn wrong(context: &Context, cell: &Cell) -> CsvRefusal
-    ensures { Refuses result (Some (BadCellFault cell.now.file.now cell.now.row_number cell.now.column_number)) }
+    ensures { Tells result (Some (BadCellFault cell.now.file.now cell.now.row_number cell.now.column_number)) }
 {
     bad_cell(
         context.alloc,
@@ -102,7 +102,7 @@ fn wrong(context: &Context, cell: &Cell) -> CsvRefusal
 }
 
 fn no_such_id(context: &Context, cell: &Cell) -> CsvRefusal
-    ensures { Refuses result (Some (NoSuchIdFault cell.now.file.now cell.now.row_number cell.now.column_number)) }
+    ensures { Tells result (Some (NoSuchIdFault cell.now.file.now cell.now.row_number cell.now.column_number)) }
 {
     match String::from_str(context.alloc, cell.file) {
         Ok(file) => CsvRefusal::NoSuchId(file, cell.row_number, cell.column_number),
@@ -175,7 +175,7 @@ fn read_key(
     requires room { context.now.first + length made.old.labels ≤ 16000000 }
     ensures passed { OnOk result (ReadsCell context.now made.old made.new (shown_cell cell.now)) }
     ensures room { OnOk result (context.now.first + length made.new.labels ≤ 16000000) }
-    ensures refused { IfErr result (λ r. Refuses r (fault_in context.now made.old (shown_cell cell.now))) }
+    ensures refused { IfErr result (λ r. Tells r (fault_in context.now made.old (shown_cell cell.now))) }
 {
     if cell.field.is_empty() {
         return Ok(());
@@ -225,7 +225,7 @@ fn note_value(
     ensures passed { OnOk result (uses_trouble context.now.room labels.old
         (uses_in typeside.now value.now sort) ≡ None) }
     ensures labels { OnOk result (labels.new ≡ with_uses labels.old (uses_in typeside.now value.now sort)) }
-    ensures refused { IfErr result (λ r. Refuses r (trouble_fault (shown_cell cell.now)
+    ensures refused { IfErr result (λ r. Tells r (trouble_fault (shown_cell cell.now)
         (uses_trouble context.now.room labels.old (uses_in typeside.now value.now sort)))) }
 {
     match note_labels(typeside, context.room, value, sort, labels)? {
@@ -250,7 +250,7 @@ fn read_value(
     requires room { context.now.first + length made.old.labels ≤ 16000000 }
     ensures passed { OnOk result (ReadsCell context.now made.old made.new (shown_cell cell.now)) }
     ensures room { OnOk result (context.now.first + length made.new.labels ≤ 16000000) }
-    ensures refused { IfErr result (λ r. Refuses r (fault_in context.now made.old (shown_cell cell.now))) }
+    ensures refused { IfErr result (λ r. Tells r (fault_in context.now made.old (shown_cell cell.now))) }
 {
     let schema: &Schema = context.schema;
     let typeside: &Typeside = &schema.typeside;
@@ -275,7 +275,7 @@ fn read_attribute(
     requires room { context.now.first + length made.old.labels ≤ 16000000 }
     ensures passed { OnOk result (ReadsCell context.now made.old made.new (shown_cell cell.now)) }
     ensures room { OnOk result (context.now.first + length made.new.labels ≤ 16000000) }
-    ensures refused { IfErr result (λ r. Refuses r (fault_in context.now made.old (shown_cell cell.now))) }
+    ensures refused { IfErr result (λ r. Tells r (fault_in context.now made.old (shown_cell cell.now))) }
 {
     let schema: &Schema = context.schema;
     let typeside: &Typeside = &schema.typeside;
@@ -294,7 +294,7 @@ pub fn read_cell(context: &Context, cell: &Cell, made: &mut Made) -> Result<(), 
     requires room { context.now.first + length made.old.labels ≤ 16000000 }
     ensures passed { OnOk result (ReadsCell context.now made.old made.new (shown_cell cell.now)) }
     ensures room { OnOk result (context.now.first + length made.new.labels ≤ 16000000) }
-    ensures refused { IfErr result (λ r. Refuses r (fault_in context.now made.old (shown_cell cell.now))) }
+    ensures refused { IfErr result (λ r. Tells r (fault_in context.now made.old (shown_cell cell.now))) }
 {
     match cell.column {
         Column::Attribute(attribute, sort) => read_attribute(context, cell, attribute, sort, made),

@@ -8,7 +8,7 @@ ghost use Rattle.cq_values.specs.Built.{built_in};
 ghost use Rattle.cq_values.specs.Reading.{value_in};
 ghost use Rattle.cq_import.specs.Entries.{entries_fault, entry_equations, entry_fault, right_fault, sides_equations};
 ghost use Rattle.cq_import.specs.Entries.{sides_fault, trouble_in, uses_fault};
-ghost use Rattle.cq_import.specs.Faults.{Fault, Refuses, BadCell as BadCellFault};
+ghost use Rattle.cq_import.specs.Faults.{Fault, Tells, BadCell as BadCellFault};
 ghost use Rattle.cq_import.specs.Labels.{uses_in, uses_trouble, value_term as term_of_value};
 ghost use Rattle.cq_import.specs.Records.{Record, Remains, field_in};
 ghost use Rattle.cq_import.specs.Rows.{rows_of};
@@ -53,7 +53,7 @@ fn are_given(
 }
 
 fn wrong(over: &Over, number: u32, column: u32) -> CsvRefusal
-    ensures { Refuses result (Some (BadCellFault over.now.file.now number column)) }
+    ensures { Tells result (Some (BadCellFault over.now.file.now number column)) }
 {
     bad_cell(over.alloc, over.file, number, column)
 }
@@ -71,7 +71,7 @@ fn read_left(
         left.0 ≡ None) }
     ensures kept { OnOk result (labels.new ≡ labels.old) }
     ensures refused { (right : List ℕ) → IfErr result
-        (λ r. Refuses r (sides_fault over.now.typeside.now over.now.file.now labels.old number
+        (λ r. Tells r (sides_fault over.now.typeside.now over.now.file.now labels.old number
         (built_in over.now.typeside.now (field_in (fields_of fields.now) 1)) right)) }
 {
     let Some((sort, value)) = read_built(over.alloc, over.typeside, field(fields, 1))? else {
@@ -97,7 +97,7 @@ fn read_right(
     ensures passed { OnOk result (right_fault over.now.typeside.now over.now.file.now labels.old number sort
         (value_in over.now.typeside.now sort (field_in (fields_of fields.now) 2)) ≡ None) }
     ensures kept { OnOk result (labels.new ≡ labels.old) }
-    ensures refused { IfErr result (λ r. Refuses r (right_fault over.now.typeside.now over.now.file.now labels.old
+    ensures refused { IfErr result (λ r. Tells r (right_fault over.now.typeside.now over.now.file.now labels.old
         number sort (value_in over.now.typeside.now sort (field_in (fields_of fields.now) 2)))) }
 {
     let Some(value) = read_value(over.alloc, over.typeside, sort, field(fields, 2))? else {
@@ -129,7 +129,7 @@ fn with_right(
         (built_in over.now.typeside.now (field_in (fields_of fields.now) 1)) (field_in (fields_of fields.now) 2)
         ≡ equation.Typ (term_of_value first given sides.0) (term_of_value first given sides.1) ∷ []) }
     ensures kept { OnOk result (labels.new ≡ labels.old) }
-    ensures refused { IfErr result (λ r. Refuses r (sides_fault over.now.typeside.now over.now.file.now labels.old
+    ensures refused { IfErr result (λ r. Tells r (sides_fault over.now.typeside.now over.now.file.now labels.old
         number (built_in over.now.typeside.now (field_in (fields_of fields.now) 1))
         (field_in (fields_of fields.now) 2))) }
 {
@@ -154,7 +154,7 @@ fn read_sides(
         (built_in over.now.typeside.now (field_in (fields_of fields.now) 1)) (field_in (fields_of fields.now) 2)
         ≡ equation.Typ (term_of_value first given sides.0) (term_of_value first given sides.1) ∷ []) }
     ensures kept { OnOk result (labels.new ≡ labels.old) }
-    ensures refused { IfErr result (λ r. Refuses r (sides_fault over.now.typeside.now over.now.file.now labels.old
+    ensures refused { IfErr result (λ r. Tells r (sides_fault over.now.typeside.now over.now.file.now labels.old
         number (built_in over.now.typeside.now (field_in (fields_of fields.now) 1))
         (field_in (fields_of fields.now) 2))) }
 {
@@ -193,7 +193,7 @@ fn read_entry(
     ensures equations { OnOk result (made.new.equations.items ≡ made.old.equations.items
         ++ sides_equations over.now.typeside.now over.now.first made.old.labels
         (built_in over.now.typeside.now (field_in (fields_of fields.now) 1)) (field_in (fields_of fields.now) 2)) }
-    ensures refused { IfErr result (λ r. Refuses r (sides_fault over.now.typeside.now over.now.file.now made.old.labels
+    ensures refused { IfErr result (λ r. Tells r (sides_fault over.now.typeside.now over.now.file.now made.old.labels
         number (built_in over.now.typeside.now (field_in (fields_of fields.now) 1))
         (field_in (fields_of fields.now) 2))) }
 {
@@ -216,7 +216,7 @@ fn read_line(
     ensures labels { OnOk result (made.new.labels ≡ made.old.labels) }
     ensures equations { OnOk result (made.new.equations.items ≡ made.old.equations.items
         ++ entry_equations over.now.typeside.now over.now.first made.old.labels (fields_of fields.now)) }
-    ensures refused { IfErr result (λ r. Refuses r (entry_fault over.now.typeside.now over.now.file.now made.old.labels
+    ensures refused { IfErr result (λ r. Tells r (entry_fault over.now.typeside.now over.now.file.now made.old.labels
         number (fields_of fields.now))) }
 {
     if is_entry(fields) {
@@ -241,7 +241,7 @@ fn read_lines(
         → OnOk result (made.new.equations.items ≡ made.old.equations.items
         ++ flat_map (entry_equations over.now.typeside.now over.now.first made.old.labels) lines) }
     ensures refused { (lines : List Record) → Remains reader.old lines
-        → IfErr result (λ r. Refuses r (entries_fault over.now.typeside.now over.now.file.now
+        → IfErr result (λ r. Tells r (entries_fault over.now.typeside.now over.now.file.now
         made.old.labels 1 lines)) }
 {
     for number in 1..u32::MAX {
@@ -263,7 +263,7 @@ pub fn read_entries(over: &Over, text: &[u8], made: &mut Made) -> Result<(), Csv
     ensures labels { OnOk result (made.new.labels ≡ made.old.labels) }
     ensures equations { OnOk result (made.new.equations.items ≡ made.old.equations.items
         ++ flat_map (entry_equations over.now.typeside.now over.now.first made.old.labels) (rows_of text.now)) }
-    ensures refused { IfErr result (λ r. Refuses r (entries_fault over.now.typeside.now over.now.file.now
+    ensures refused { IfErr result (λ r. Tells r (entries_fault over.now.typeside.now over.now.file.now
         made.old.labels 1 (rows_of text.now))) }
 {
     let Some(mut opened) = open_behind(over.alloc, text)? else {

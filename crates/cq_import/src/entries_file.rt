@@ -1,7 +1,7 @@
 //! The file of the nulls and the entries is read and tested.
 ghost use Rattle.std.specs.Prelude.{◌≡◌, IfOk, OnOk, IfErr, string_bytes};
 ghost use Rattle.cq_import.specs.Entries.{marked_fault};
-ghost use Rattle.cq_import.specs.Faults.{Refuses};
+ghost use Rattle.cq_import.specs.Faults.{Tells};
 ghost use Rattle.cq_import.specs.Folders.{Keeps, Raises};
 ghost use Rattle.cq_import.specs.Folders2.{IsEntriesRead, IsEntriesRefused};
 ghost use Rattle.cq_import.specs.Records.{records_of};
@@ -19,7 +19,7 @@ fn check_text(alloc: Global, name: String, text: Vec<u8>) -> Result<EntriesFile,
     ensures named { IfOk result (λ file. (string_bytes file.name ≡ string_bytes name)
         × (file.text.items ≡ text.items)) }
     ensures passed { OnOk result (marked_fault (string_bytes name) (records_of text.items) ≡ None) }
-    ensures refused { IfErr result (λ r. Refuses r (marked_fault (string_bytes name) (records_of text.items))) }
+    ensures refused { IfErr result (λ r. Tells r (marked_fault (string_bytes name) (records_of text.items))) }
 {
     match check_marked(alloc, name.as_str(), text.as_slice()) {
         Ok(nulls) => Ok(EntriesFile { name, text, nulls }),

@@ -1,7 +1,7 @@
 //! The files of a folder are read and tested.
 ghost use Rattle.std.specs.Prelude.{◌≡◌, ◌<◌, ◌⊎◌, ◌++◌, ◌∷◌, [], None, IfOk, IfErr, OnOk, length, string_bytes};
 ghost use Rattle.cq_import.specs.Columns.{AreColumns, columns as columns_of, header_with};
-ghost use Rattle.cq_import.specs.Faults.{Refuses};
+ghost use Rattle.cq_import.specs.Faults.{Tells};
 ghost use Rattle.cq_import.specs.Folders.{AreRead, IsRead, IsReadText, IsRefused, IsUnread, Keeps, Raises, Stops};
 ghost use Rattle.cq_import.specs.Imports.{file_name as name_in};
 ghost use Rattle.cq_import.specs.Records.{records_of};
@@ -17,7 +17,7 @@ use cq_theory::Schema;
 use std::alloc::{AllocError, Global};
 
 /// The most bytes of a file.
-const LONGEST_FILE: u64 = 64 * 1024 * 1024;
+pub const LONGEST_FILE: u64 = 64 * 1024 * 1024;
 
 /// The name of a file in a folder.
 pub fn file_name(alloc: Global, dir: &Name, file: &str) -> Result<String, AllocError>
@@ -58,7 +58,7 @@ fn check_text(
         × (file.text.items ≡ text.items)) }
     ensures passed { OnOk result (sheet_fault (string_bytes name) (header_with schema.now columns.now)
         (records_of text.items) ≡ None) }
-    ensures refused { IfErr result (λ r. Refuses r (sheet_fault (string_bytes name) (header_with schema.now columns.now)
+    ensures refused { IfErr result (λ r. Tells r (sheet_fault (string_bytes name) (header_with schema.now columns.now)
         (records_of text.items))) }
 {
     let wanted = header(alloc, schema, columns)?;

@@ -29,6 +29,7 @@ pub mod refusal;
 mod rows;
 mod tables;
 
+pub use folder::{LONGEST_FILE, file_name};
 pub use ids::Id;
 pub use importing::import;
 pub use importing_entries::import2;

@@ -4,7 +4,7 @@ ghost use Rattle.std.specs.Prelude.{IfOk, OnOk, IfErr, MatchOption};
 ghost use Rattle.csv.specs.Records.{fields_of};
 ghost use Rattle.cq_import.specs.Entries.{is_entry as entry_is, is_null as null_is, lines_fault, mark as mark_is};
 ghost use Rattle.cq_import.specs.Entries.{marked_fault};
-ghost use Rattle.cq_import.specs.Faults.{Refuses};
+ghost use Rattle.cq_import.specs.Faults.{Tells};
 ghost use Rattle.cq_import.specs.Records.{Record, Remains, records_of};
 ghost use Rattle.cq_import.specs.Rows.{rows_of};
 
@@ -83,7 +83,7 @@ fn check_lines(
     ensures count { (lines : List Record) → Remains reader.old lines
         → IfOk result (λ nulls. nulls ≡ length (filter null_is lines)) }
     ensures refused { (lines : List Record) → Remains reader.old lines
-        → IfErr result (λ r. Refuses r (lines_fault file.now 1 lines)) }
+        → IfErr result (λ r. Tells r (lines_fault file.now 1 lines)) }
 {
     let mut nulls = 0;
     for number in 1..u32::MAX {
@@ -112,7 +112,7 @@ fn check_records(
     ensures count { (lines : List Record) → Remains reader.old lines
         → IfOk result (λ nulls. nulls ≡ length (filter null_is (drop 1 lines))) }
     ensures refused { (lines : List Record) → Remains reader.old lines
-        → IfErr result (λ r. Refuses r (marked_fault file.now lines)) }
+        → IfErr result (λ r. Tells r (marked_fault file.now lines)) }
 {
     if !next(reader, fields)? {
         return Err(bad_header(alloc, file));
@@ -127,7 +127,7 @@ fn check_records(
 pub fn check_marked(alloc: Global, file: &str, text: &[u8]) -> Result<u32, CsvRefusal>
     ensures passed { OnOk result (marked_fault file.now (records_of text.now) ≡ None) }
     ensures count { IfOk result (λ nulls. nulls ≡ length (filter null_is (rows_of text.now))) }
-    ensures refused { IfErr result (λ r. Refuses r (marked_fault file.now (records_of text.now))) }
+    ensures refused { IfErr result (λ r. Tells r (marked_fault file.now (records_of text.now))) }
 {
     let wanted = mark(alloc)?;
     let mut opened = open(alloc, text);

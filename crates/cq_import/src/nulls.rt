@@ -4,7 +4,7 @@ ghost use Rattle.csv.specs.Records.{fields_of};
 ghost use Rattle.cq_values.specs.Built.{label_in};
 ghost use Rattle.cq_import.specs.Entries.{given, is_new, kind_fault, null_fault, null_use, nulls_fault};
 ghost use Rattle.cq_import.specs.Entries.{type_named as named_type, with_null};
-ghost use Rattle.cq_import.specs.Faults.{Refuses};
+ghost use Rattle.cq_import.specs.Faults.{Tells};
 ghost use Rattle.cq_import.specs.Labels.{type_of_label};
 ghost use Rattle.cq_import.specs.Records.{Record, Remains};
 ghost use Rattle.cq_import.specs.Rows.{rows_of};
@@ -53,7 +53,7 @@ fn read_null(
 ) -> Result<(), CsvRefusal>
     ensures passed { OnOk result (null_fault typeside.now file.now labels.old number (fields_of fields.now) ≡ None) }
     ensures added { OnOk result (labels.new ≡ labels.old ++ null_use typeside.now (fields_of fields.now) ∷ []) }
-    ensures refused { IfErr result (λ r. Refuses r (null_fault typeside.now file.now labels.old number
+    ensures refused { IfErr result (λ r. Tells r (null_fault typeside.now file.now labels.old number
         (fields_of fields.now))) }
 {
     let Some(label) = new_label(labels, field(fields, 1)) else {
@@ -77,7 +77,7 @@ fn read_line(
 ) -> Result<(), CsvRefusal>
     ensures passed { OnOk result (kind_fault typeside.now file.now labels.old number (fields_of fields.now) ≡ None) }
     ensures added { OnOk result (labels.new ≡ with_null typeside.now labels.old (fields_of fields.now)) }
-    ensures refused { IfErr result (λ r. Refuses r (kind_fault typeside.now file.now labels.old number
+    ensures refused { IfErr result (λ r. Tells r (kind_fault typeside.now file.now labels.old number
         (fields_of fields.now))) }
 {
     if is_null(fields) {
@@ -103,7 +103,7 @@ fn read_lines(
     ensures added { (lines : List Record) → Remains reader.old lines
         → OnOk result (labels.new ≡ labels.old ++ given typeside.now lines) }
     ensures refused { (lines : List Record) → Remains reader.old lines
-        → IfErr result (λ r. Refuses r (nulls_fault typeside.now file.now labels.old 1 lines)) }
+        → IfErr result (λ r. Tells r (nulls_fault typeside.now file.now labels.old 1 lines)) }
 {
     for number in 1..u32::MAX {
         if !next(reader, fields)? {
@@ -126,7 +126,7 @@ pub fn read_nulls(
 ) -> Result<(), CsvRefusal>
     ensures passed { OnOk result (nulls_fault typeside.now file.now labels.old 1 (rows_of text.now) ≡ None) }
     ensures added { OnOk result (labels.new ≡ labels.old ++ given typeside.now (rows_of text.now)) }
-    ensures refused { IfErr result (λ r. Refuses r (nulls_fault typeside.now file.now labels.old 1
+    ensures refused { IfErr result (λ r. Tells r (nulls_fault typeside.now file.now labels.old 1
         (rows_of text.now))) }
 {
     let Some(mut opened) = open_behind(alloc, text)? else {

@@ -8,7 +8,7 @@ ghost use Rattle.cq_theory.specs.declared.presentation.Sort.TheVariants.{Plain};
 ghost use Rattle.cq_import.specs.Cells.{all_cells, cell_uses, cells_fault, counts, equations_from, start_of};
 ghost use Rattle.cq_import.specs.Columns.{AreColumns};
 ghost use Rattle.cq_import.specs.Context.{IsContext, sheet_in, sheets_in, typeside_in};
-ghost use Rattle.cq_import.specs.Faults.{Refuses};
+ghost use Rattle.cq_import.specs.Faults.{Tells};
 ghost use Rattle.cq_import.specs.Imports.{entity_sorts, presented, sheets_fault};
 ghost use Rattle.cq_import.specs.Labels.{with_uses};
 
@@ -22,11 +22,8 @@ use crate::refusal::CsvRefusal;
 use crate::tables::read_cells;
 use cq_base::{Name, Seq};
 use cq_terms::name_generators;
-use cq_theory::{Presentation, Schema, Sort};
+use cq_theory::{MOST_GENERATORS, Presentation, Schema, Sort};
 use std::alloc::{AllocError, Global};
-
-/// The most generators of a presentation.
-pub const MOST_GENERATORS: u32 = 16_000_000;
 
 /// The generator of the first record of each file, and how many records there are; None where they are too many.
 pub fn find_starts(
@@ -97,7 +94,7 @@ fn present_cells(context: &Context) -> Result<Presentation, CsvRefusal>
         (all_cells context.now.schema.now (sheets_in context.now)))))) }
     ensures equations { IfOk result (λ p. p.equations ≡ equations_from (sheets_in context.now) (typeside_in context.now)
         context.now.first [] (all_cells context.now.schema.now (sheets_in context.now))) }
-    ensures refused { IfErr result (λ r. Refuses r (cells_fault (sheets_in context.now) (typeside_in context.now)
+    ensures refused { IfErr result (λ r. Tells r (cells_fault (sheets_in context.now) (typeside_in context.now)
         context.now.room [] (all_cells context.now.schema.now (sheets_in context.now)))) }
 {
     let mut made = Made::new(context, hashing_of(context.files))?;
@@ -119,7 +116,7 @@ pub fn present(
     ensures passed { OnOk result (sheets_fault schema.now (map sheet_in files.now) ≡ None) }
     ensures made { IfOk result (λ made. made ≡ presented schema.now (map sheet_in files.now)) }
     ensures presentation { IfOk result (IsPresentation schema.now) }
-    ensures refused { IfErr result (λ r. Refuses r (sheets_fault schema.now (map sheet_in files.now))) }
+    ensures refused { IfErr result (λ r. Tells r (sheets_fault schema.now (map sheet_in files.now))) }
 {
     schema.is_well_sorted();
     let Some((starts, total)) = find_starts(alloc, files)? else {

@@ -9,7 +9,7 @@ ghost use Rattle.cq_import.specs.Columns.{AreColumns};
 ghost use Rattle.cq_import.specs.Context.{IsContext, sheet_in, sheets_in, typeside_in};
 ghost use Rattle.cq_import.specs.Entries.{contents2_fault, is_null, labels2_of, presented2, rest_equations, rest_fault};
 ghost use Rattle.cq_import.specs.Entries.{sheets2_fault};
-ghost use Rattle.cq_import.specs.Faults.{Refuses};
+ghost use Rattle.cq_import.specs.Faults.{Tells};
 ghost use Rattle.cq_import.specs.Imports.{entity_sorts};
 ghost use Rattle.cq_import.specs.Rows.{rows_of};
 
@@ -19,11 +19,11 @@ use crate::entity_file::EntityFile;
 use crate::entries::{Over, read_entries};
 use crate::entries_text::EntriesFile;
 use crate::nulls::read_nulls;
-use crate::presenting::{MOST_GENERATORS, find_starts, finish};
+use crate::presenting::{find_starts, finish};
 use crate::refusal::CsvRefusal;
 use crate::tables::read_cells;
 use cq_base::Hashing;
-use cq_theory::{Presentation, Schema, Typeside};
+use cq_theory::{MOST_GENERATORS, Presentation, Schema, Typeside};
 use std::alloc::Global;
 
 /// Reads the cells of the other files, then the entries.
@@ -39,7 +39,7 @@ fn read_rest(context: &Context, over: &Over, text: &[u8], made: &mut Made) -> Re
     ensures equations { OnOk result (made.new.equations.items ≡ made.old.equations.items
         ++ rest_equations context.now.schema.now (sheets_in context.now) (rows_of text.now) context.now.first
         made.old.labels) }
-    ensures refused { IfErr result (λ r. Refuses r (rest_fault context.now.schema.now (sheets_in context.now)
+    ensures refused { IfErr result (λ r. Tells r (rest_fault context.now.schema.now (sheets_in context.now)
         (rows_of text.now) made.old.labels over.now.file.now)) }
 {
     if let Err(refusal) = read_cells(context, made) {
@@ -63,7 +63,7 @@ fn read_all(context: &Context, over: &Over, text: &[u8], made: &mut Made) -> Res
     ensures equations { OnOk result (made.new.equations.items ≡ made.old.equations.items
         ++ rest_equations context.now.schema.now (sheets_in context.now) (rows_of text.now) context.now.first
         (labels2_of context.now.schema.now (sheets_in context.now) (rows_of text.now))) }
-    ensures refused { IfErr result (λ r. Refuses r (contents2_fault context.now.schema.now (sheets_in context.now)
+    ensures refused { IfErr result (λ r. Tells r (contents2_fault context.now.schema.now (sheets_in context.now)
         (rows_of text.now) over.now.file.now)) }
 {
     if let Err(refusal) = read_nulls(over.alloc, over.typeside, over.file, text, &mut made.labels) {
@@ -88,7 +88,7 @@ fn present_all(context: &Context, over: &Over, text: &[u8]) -> Result<Presentati
     ensures equations { IfOk result (λ p. p.equations
         ≡ rest_equations context.now.schema.now (sheets_in context.now) (rows_of text.now) context.now.first
         (labels2_of context.now.schema.now (sheets_in context.now) (rows_of text.now))) }
-    ensures refused { IfErr result (λ r. Refuses r (contents2_fault context.now.schema.now (sheets_in context.now)
+    ensures refused { IfErr result (λ r. Tells r (contents2_fault context.now.schema.now (sheets_in context.now)
         (rows_of text.now) over.now.file.now)) }
 {
     let mut made = Made::new(context, Hashing::of_text(text))?;
@@ -113,7 +113,7 @@ pub fn present_entries(
     ensures made { IfOk result (λ made. made ≡ presented2 schema.now (map sheet_in files.now)
         (rows_of entries.now.text.items)) }
     ensures presentation { IfOk result (IsPresentation schema.now) }
-    ensures refused { IfErr result (λ r. Refuses r (sheets2_fault schema.now (map sheet_in files.now)
+    ensures refused { IfErr result (λ r. Tells r (sheets2_fault schema.now (map sheet_in files.now)
         (rows_of entries.now.text.items) (string_bytes entries.now.name))) }
 {
     schema.is_well_sorted();

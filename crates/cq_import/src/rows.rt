@@ -3,7 +3,7 @@ ghost use Rattle.std.specs.Prelude.{ℕ, List, ◌≡◌, ◌+◌, ◌<◌, ◌^
 ghost use Rattle.std.specs.Prelude.{length, drop, IfOk, OnOk, IfErr};
 ghost use Rattle.csv.specs.Records.{fields_of};
 ghost use Rattle.cq_base.specs.Names.{number_of};
-ghost use Rattle.cq_import.specs.Faults.{Refuses, NotCsv as NotCsvFault, BadHeader as BadHeaderFault};
+ghost use Rattle.cq_import.specs.Faults.{Tells, NotCsv as NotCsvFault, BadHeader as BadHeaderFault};
 ghost use Rattle.cq_import.specs.Faults.{BadCell as BadCellFault, DoubleId as DoubleIdFault};
 ghost use Rattle.cq_import.specs.Records.{Record, Remains, records_of};
 ghost use Rattle.cq_import.specs.Rows.{id_of, ids_of, row_fault, rows_fault, rows_of, sheet_fault};
@@ -17,7 +17,7 @@ use std::alloc::{AllocError, Global};
 
 /// The refusal of a file for its header.
 pub fn bad_header(alloc: Global, file: &str) -> CsvRefusal
-    ensures { Refuses result (Some (BadHeaderFault file.now)) }
+    ensures { Tells result (Some (BadHeaderFault file.now)) }
 {
     match String::from_str(alloc, file) {
         Ok(file) => CsvRefusal::BadHeader(file),
@@ -27,7 +27,7 @@ pub fn bad_header(alloc: Global, file: &str) -> CsvRefusal
 
 /// The refusal of a record for its fields.
 pub fn not_csv(alloc: Global, file: &str, number: u32) -> CsvRefusal
-    ensures { Refuses result (Some (NotCsvFault file.now number)) }
+    ensures { Tells result (Some (NotCsvFault file.now number)) }
 {
     match String::from_str(alloc, file) {
         Ok(file) => CsvRefusal::NotCsv(file, number),
@@ -37,7 +37,7 @@ pub fn not_csv(alloc: Global, file: &str, number: u32) -> CsvRefusal
 
 /// The refusal of a cell.
 pub fn bad_cell(alloc: Global, file: &str, number: u32, column: u32) -> CsvRefusal
-    ensures { Refuses result (Some (BadCellFault file.now number column)) }
+    ensures { Tells result (Some (BadCellFault file.now number column)) }
 {
     match String::from_str(alloc, file) {
         Ok(file) => CsvRefusal::BadCell(file, number, column),
@@ -46,7 +46,7 @@ pub fn bad_cell(alloc: Global, file: &str, number: u32, column: u32) -> CsvRefus
 }
 
 fn double_id(alloc: Global, file: &str, number: u32) -> CsvRefusal
-    ensures { Refuses result (Some (DoubleIdFault file.now number)) }
+    ensures { Tells result (Some (DoubleIdFault file.now number)) }
 {
     match String::from_str(alloc, file) {
         Ok(file) => CsvRefusal::DoubleId(file, number),
@@ -76,7 +76,7 @@ fn check_row(
     requires { length ids.old < 2 ^ 32 - 1 }
     ensures passed { OnOk result (row_fault file.now count ids.old number (fields_of fields.now) ≡ None) }
     ensures added { OnOk result (ids.new ≡ ids.old ++ id_of (fields_of fields.now) ∷ []) }
-    ensures refused { IfErr result (λ r. Refuses r (row_fault file.now count ids.old number (fields_of fields.now))) }
+    ensures refused { IfErr result (λ r. Tells r (row_fault file.now count ids.old number (fields_of fields.now))) }
 {
     if !is_row(fields, count) {
         return Err(not_csv(alloc, file, number));
@@ -105,7 +105,7 @@ fn check_rows(
         → OnOk result (rows_fault file.now count [] 1 rows ≡ None) }
     ensures added { (rows : List Record) → Remains reader.old rows → OnOk result (ids.new ≡ ids_of rows) }
     ensures refused { (rows : List Record) → Remains reader.old rows
-        → IfErr result (λ r. Refuses r (rows_fault file.now count [] 1 rows)) }
+        → IfErr result (λ r. Tells r (rows_fault file.now count [] 1 rows)) }
 {
     for number in 1..u32::MAX {
         if !next(reader, fields)? {
@@ -132,7 +132,7 @@ fn check_records(
         → OnOk result (sheet_fault file.now wanted.now rows ≡ None) }
     ensures added { (rows : List Record) → Remains reader.old rows → OnOk result (ids.new ≡ ids_of (drop 1 rows)) }
     ensures refused { (rows : List Record) → Remains reader.old rows
-        → IfErr result (λ r. Refuses r (sheet_fault file.now wanted.now rows)) }
+        → IfErr result (λ r. Tells r (sheet_fault file.now wanted.now rows)) }
 {
     if !next(reader, fields)? {
         return Err(bad_header(alloc, file));
@@ -153,7 +153,7 @@ pub fn check_sheet(
 ) -> Result<Ids, CsvRefusal>
     ensures passed { OnOk result (sheet_fault file.now wanted.now (records_of text.now) ≡ None) }
     ensures ids { IfOk result (λ ids. ids ≡ ids_of (rows_of text.now)) }
-    ensures refused { IfErr result (λ r. Refuses r (sheet_fault file.now wanted.now (records_of text.now))) }
+    ensures refused { IfErr result (λ r. Tells r (sheet_fault file.now wanted.now (records_of text.now))) }
 {
     let mut opened = open(alloc, text);
     let mut fields = ByteRecord::new(alloc);

@@ -3,7 +3,7 @@ ghost use Rattle.std.specs.Prelude.{ℕ, List, ◌≡◌, ◌+◌, ◌≤◌, �
 ghost use Rattle.csv.specs.Records.{fields_of};
 ghost use Rattle.cq_import.specs.Cells.{all_cells, entity_cells, row_cells, rows_cells};
 ghost use Rattle.cq_import.specs.Context.{IsColumn, IsContext, Reads, faults_in, sheets_in};
-ghost use Rattle.cq_import.specs.Faults.{Refuses};
+ghost use Rattle.cq_import.specs.Faults.{Tells};
 ghost use Rattle.cq_import.specs.Records.{Record, Remains};
 ghost use Rattle.cq_import.specs.Rows.{rows_of};
 
@@ -49,7 +49,7 @@ fn read_row(
     ensures passed { OnOk result (Reads context.now made.old made.new
         (row_cells row.now.file.now columns.now row.now.generator row.now.number (fields_of row.now.fields.now))) }
     ensures room { OnOk result (context.now.first + length made.new.labels ≤ 16000000) }
-    ensures refused { IfErr result (λ r. Refuses r (faults_in context.now made.old
+    ensures refused { IfErr result (λ r. Tells r (faults_in context.now made.old
         (row_cells row.now.file.now columns.now row.now.generator row.now.number (fields_of row.now.fields.now)))) }
 {
     let mut rest = rest_behind_id(row.text, row.fields);
@@ -90,7 +90,7 @@ fn read_rows(
         (rows_cells table.now.file.now table.now.columns.now table.now.start 1 rows)) }
     ensures room { OnOk result (context.now.first + length made.new.labels ≤ 16000000) }
     ensures refused { (rows : List Record) → Remains reader.old rows → table.now.start + length rows ≤ 16000000
-        → IfErr result (λ r. Refuses r (faults_in context.now made.old
+        → IfErr result (λ r. Tells r (faults_in context.now made.old
         (rows_cells table.now.file.now table.now.columns.now table.now.start 1 rows))) }
 {
     for number in 1..u32::MAX {
@@ -129,7 +129,7 @@ fn read_records(
         (rows_cells table.now.file.now table.now.columns.now table.now.start 1 (drop 1 rows))) }
     ensures room { OnOk result (context.now.first + length made.new.labels ≤ 16000000) }
     ensures refused { (rows : List Record) → Remains reader.old rows → table.now.start + length (drop 1 rows) ≤ 16000000
-        → IfErr result (λ r. Refuses r (faults_in context.now made.old
+        → IfErr result (λ r. Tells r (faults_in context.now made.old
         (rows_cells table.now.file.now table.now.columns.now table.now.start 1 (drop 1 rows)))) }
 {
     if !next(reader, fields)? {
@@ -148,7 +148,7 @@ fn read_table(context: &Context, table: &Table, made: &mut Made) -> Result<(), C
     ensures passed { OnOk result (Reads context.now made.old made.new
         (rows_cells table.now.file.now table.now.columns.now table.now.start 1 (rows_of table.now.text.now))) }
     ensures room { OnOk result (context.now.first + length made.new.labels ≤ 16000000) }
-    ensures refused { IfErr result (λ r. Refuses r (faults_in context.now made.old
+    ensures refused { IfErr result (λ r. Tells r (faults_in context.now made.old
         (rows_cells table.now.file.now table.now.columns.now table.now.start 1 (rows_of table.now.text.now)))) }
 {
     made.source = Source::new(context.alloc, table.text)?;
@@ -168,7 +168,7 @@ fn read_entity(context: &Context, entity: u32, made: &mut Made) -> Result<(), Cs
     ensures passed { OnOk result (Reads context.now made.old made.new
         (entity_cells context.now.schema.now (sheets_in context.now) entity)) }
     ensures room { OnOk result (context.now.first + length made.new.labels ≤ 16000000) }
-    ensures refused { IfErr result (λ r. Refuses r (faults_in context.now made.old
+    ensures refused { IfErr result (λ r. Tells r (faults_in context.now made.old
         (entity_cells context.now.schema.now (sheets_in context.now) entity))) }
 {
     let schema: &Schema = context.schema;
@@ -195,7 +195,7 @@ pub fn read_cells(context: &Context, made: &mut Made) -> Result<(), CsvRefusal>
     ensures passed { OnOk result (Reads context.now made.old made.new
         (all_cells context.now.schema.now (sheets_in context.now))) }
     ensures room { OnOk result (context.now.first + length made.new.labels ≤ 16000000) }
-    ensures refused { IfErr result (λ r. Refuses r (faults_in context.now made.old
+    ensures refused { IfErr result (λ r. Tells r (faults_in context.now made.old
         (all_cells context.now.schema.now (sheets_in context.now)))) }
 {
     context.schema.is_well_sorted();

@@ -1,5 +1,5 @@
 -- Numbers by which values are placed: those of the kit's hasher after a key, so that equal values have one number.
-use Rattle.std.specs.Prelude.{ℕ, List, ◌++◌, fold}
+use Rattle.std.specs.Prelude.{ℕ, List, ◌++◌, ◌+◌, ◌*◌, ◌/◌, ◌%◌, fold}
 use Rattle.std.specs.List.{flat_map}
 use Rattle.std.specs.Hash as fed
 use Rattle.std.specs.Hash.{HashWrites}
@@ -9,6 +9,7 @@ use Rattle.cq_theory.specs.declared.constant.Con.{Con}
 use Rattle.cq_theory.specs.declared.constant.Con.TheVariants.{Named, Open}
 use Rattle.cq_theory.specs.declared.value.Value.{Value}
 use Rattle.cq_theory.specs.declared.value.Value.TheOpen.{Value-F, Const, Null, Fun}
+use Rattle.cq_theory.specs.declared.value.Value.TheVariants as value
 use Rattle.cq_theory.specs.declared.value.Value.TheFolds.{fold-Value}
 
 -- what the hasher is fed of a constant
@@ -29,7 +30,9 @@ fed_value = fold-Value HashWrites fed_step
 abbrev pub hash_of : Hashing → HashWrites → ℕ
 hash_of hashing writes = sip.finish (fold sip.write hashing.initial writes)
 
+-- the number of a value; those of nulls whose labels are of one block of 64 follow one another
 abbrev pub digest_of : Hashing → Value → ℕ
+digest_of hashing (value.Null n) = hash_of hashing (fed.u8 2 ++ fed.u64 (n / 64)) / 64 * 64 + n % 64
 digest_of hashing v = hash_of hashing (fed_value v)
 
 -- the number of a function at arguments

@@ -61,13 +61,24 @@ fn add_value(value: &Value, keys: &mut Keys) {
     }
 }
 
-/// The number of a value: one for all equal values.
+/// The number of a value: one for all equal values. Labels of rows that are read together follow one another, so what
+/// is kept by these numbers stands together too; nobody can choose labels that fall into one place of a table all the
+/// same, since it is the key that says where the 64 labels of a block begin.
 pub fn digest(hashing: Hashing, value: &Value) -> u64
     ensures { result ≡ digest_of hashing value.now }
 {
     let mut state = hashing.build_hasher();
-    feed(value, &mut state);
-    state.finish()
+    match value {
+        Value::Null(label) => {
+            state.write_u8(2);
+            state.write_u64(*label / 64);
+            state.finish() / 64 * 64 + *label % 64
+        }
+        _ => {
+            feed(value, &mut state);
+            state.finish()
+        }
+    }
 }
 
 /// The number of a function at arguments.

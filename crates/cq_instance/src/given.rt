@@ -9,6 +9,7 @@ use crate::canonical::canonical_presentation;
 use crate::canonical::generators::{row_names, standings};
 use crate::entries::EntryTable;
 use crate::instance::Instance;
+use crate::refusal::TablesRefusal;
 use crate::standing::Standing;
 use crate::values::copied_algebra;
 use cq_base::{Seq, number_at};
@@ -17,25 +18,7 @@ use std::alloc::{AllocError, Global};
 use std::rc::Rc;
 
 /// The most rows and nulls of an instance.
-const MOST_GENERATORS: u64 = 16_000_000;
-
-/// Why there is no instance of some tables.
-#[derive(Clone, Copy, Debug, PartialEq, Eq)]
-pub enum TablesRefusal {
-    /// There are over 16,000,000 rows and nulls together.
-    TooLarge,
-    Memory,
-}
-
-impl From<AllocError> for TablesRefusal {
-    ghost use Rattle.cq_instance.specs.declared.given.TablesRefusal.TheVariants.{Memory};
-
-    ghost from_gives = { λ _ e. e ≡ Memory };
-
-    fn from(_error: AllocError) -> TablesRefusal {
-        TablesRefusal::Memory
-    }
-}
+const MOST_GENERATORS: u64 = cq_theory::MOST_GENERATORS as u64;
 
 /// Whether there are over 16,000,000 rows and nulls together.
 fn is_too_large(counts: &[u32], nulls: usize) -> bool

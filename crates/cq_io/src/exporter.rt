@@ -6,16 +6,7 @@ ghost use Rattle.cq_io.specs.Content.{file_of};
 ghost use Rattle.cq_io.specs.Counts.{Rose};
 
 use crate::format::Format;
-use thiserror::Error;
-
-/// Why a file was not taken.
-#[derive(Clone, Copy, Debug, PartialEq, Eq, Error)]
-pub enum PutRefusal {
-    #[error("the file could not be written")]
-    Failed,
-    #[error("out of memory")]
-    Memory,
-}
+use crate::refusal::PutRefusal;
 
 /// A place that takes files of one format, one by one. Its account tells the format, the files that it took, in
 /// order, and how many calls failed. A steady exporter never fails.

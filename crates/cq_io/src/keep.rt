@@ -3,7 +3,7 @@
 ghost use Rattle.std.specs.Prelude.{◌≡◌, ◌++◌, ◌∷◌, [], ◌<◌, map, IfOk, IfErr, OnOk, OnErr, vec_len, vec_capacity};
 ghost use Rattle.cq_io.specs.Content.{file_of};
 
-use crate::exporter::PutRefusal;
+use crate::refusal::PutRefusal;
 use std::alloc::Global;
 
 /// A copy of a file. The memory for its place at the end of the list is taken too.

@@ -10,13 +10,14 @@ ghost use Rattle.cq_io.specs.Content.{file_of, find_file};
 ghost use Rattle.cq_io.specs.Failing.{is_empty, spare_room};
 ghost use Rattle.std.specs.Option.{option_copied};
 
-use crate::exporter::{Exporter, PutRefusal};
+use crate::exporter::Exporter;
 use crate::failing::Failing;
-use crate::folder::{Folder, ReadRefusal};
+use crate::folder::Folder;
 use crate::format::Format;
 use crate::keep::keep;
 use crate::listing::Listing;
 use crate::overruns::Overruns;
+use crate::refusal::{PutRefusal, ReadRefusal};
 use crate::sink::{Failed, Sink};
 use std::alloc::{AllocError, Global};
 

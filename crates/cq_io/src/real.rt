@@ -7,12 +7,13 @@ ghost use Rattle.cq_io.specs.Counts.{Rose};
 ghost use Rattle.cq_io.specs.Content.{file_of, path_of};
 ghost use Rattle.cq_io.specs.Reads.{IsReadUpTo};
 
-use crate::exporter::{Exporter, PutRefusal};
-use crate::folder::{Folder, ReadRefusal};
+use crate::exporter::Exporter;
+use crate::folder::Folder;
 use crate::format::Format;
 use crate::keep::copy_of;
 use crate::listing::Listing;
 use crate::overruns::Overruns;
+use crate::refusal::{PutRefusal, ReadRefusal};
 use crate::sink::{Failed, Sink};
 use std::alloc::{AllocError, Global};
 use std::io::{ErrorKind, Read, Write};

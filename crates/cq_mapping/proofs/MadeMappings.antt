@@ -9,12 +9,12 @@ use Rattle.cq_base.specs.declared.name.Name.{Name}
 use Rattle.cq_base.specs.Names.{number_of}
 use Rattle.cq_base.proofs.Numbers.{number_of-within}
 use Rattle.cq_theory.specs.declared.lookup.Symbol.TheVariants as symbol
-use Rattle.cq_theory.specs.declared.lookup.TermRefusal.{TermRefusal}
-use Rattle.cq_theory.specs.declared.lookup.TermRefusal.TheVariants.{Unknown, WrongCount, WrongSort, Reserved, TooLarge}
-use Rattle.cq_theory.specs.declared.lookup.TheoryRefusal.{TheoryRefusal}
-use Rattle.cq_theory.specs.declared.lookup.TheoryRefusal.TheVariants as theory_refusal
-use Rattle.cq_theory.specs.declared.lookup.ArrowRefusal.{ArrowRefusal}
-use Rattle.cq_theory.specs.declared.lookup.ArrowRefusal.TheVariants.{Missing, Memory}
+use Rattle.cq_theory.specs.declared.refusal.TermRefusal.{TermRefusal}
+use Rattle.cq_theory.specs.declared.refusal.TermRefusal.TheVariants.{Unknown, WrongCount, WrongSort, Reserved, TooLarge}
+use Rattle.cq_theory.specs.declared.refusal.TheoryRefusal.{TheoryRefusal}
+use Rattle.cq_theory.specs.declared.refusal.TheoryRefusal.TheVariants as theory_refusal
+use Rattle.cq_theory.specs.declared.refusal.ArrowRefusal.{ArrowRefusal}
+use Rattle.cq_theory.specs.declared.refusal.ArrowRefusal.TheVariants.{Missing, Memory}
 use Rattle.cq_theory.specs.declared.parts.MappingParts.{MappingParts}
 use Rattle.cq_theory.specs.declared.parts.ArrowPart.{ArrowPart}
 use Rattle.cq_theory.specs.declared.parts.ArrowImage.{ArrowImage}

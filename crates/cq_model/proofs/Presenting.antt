@@ -1,8 +1,8 @@
 -- What is answered by calls that make a presentation of others.
 use Rattle.std.proofs.Common.{true, false, ◌≡◌, ◌⊎◌, inl, inr, Result, Ok, Err, IfOk, subst}
 use Rattle.std.specs.Prelude.{IfErr}
-use Rattle.cq_theory.specs.declared.lookup.SizeRefusal.{SizeRefusal}
-use Rattle.cq_theory.specs.declared.lookup.SizeRefusal.TheVariants.{TooLarge, Memory}
+use Rattle.cq_theory.specs.declared.refusal.SizeRefusal.{SizeRefusal}
+use Rattle.cq_theory.specs.declared.refusal.SizeRefusal.TheVariants.{TooLarge, Memory}
 use Rattle.cq_theory.specs.declared.presentation.Presentation.{Presentation}
 use Rattle.cq_theory.specs.Presentation.{is_oversized}
 use Rattle.cq_model.specs.Moving.{Presents}

@@ -1,7 +1,7 @@
 -- Where the limits on tables refuse what a mapping pulls back.
 use Rattle.std.specs.Prelude.{Bool, true, ◌≡◌}
-use Rattle.cq_theory.specs.declared.lookup.SizeRefusal.{SizeRefusal}
-use Rattle.cq_theory.specs.declared.lookup.SizeRefusal.TheVariants.{TooLarge, Memory}
+use Rattle.cq_theory.specs.declared.refusal.SizeRefusal.{SizeRefusal}
+use Rattle.cq_theory.specs.declared.refusal.SizeRefusal.TheVariants.{TooLarge, Memory}
 
 -- the refusal tells that a limit is passed, or want of memory
 abbrev pub TellsSize : Bool → SizeRefusal → Type 0

@@ -19,7 +19,7 @@ use cq_theory::{Sheet, SizeRefusal, TypeTerm, Value};
 use std::alloc::{AllocError, Global};
 
 /// The most rows and nulls of an instance.
-const MOST_GENERATORS: u64 = 16_000_000;
+const MOST_GENERATORS: u64 = cq_theory::MOST_GENERATORS as u64;
 
 /// The instance of the tables that the mapping pulls back, with their canonical presentation. The rows of an entity
 /// are those of its image, with their numbers; a foreign key leads where its path leads, and a cell has the value of

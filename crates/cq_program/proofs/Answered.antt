@@ -31,11 +31,11 @@ use Rattle.cq_query.specs.Coeval.{coeval_of}
 use Rattle.cq_query.proofs.CopiedPresentations.{coeval_is}
 use Rattle.cq_theory.specs.Tables.{Tables, IsWellFormed}
 use Rattle.cq_environment.specs.declared.reason.Reason.TheVariants as reason
-use Rattle.cq_environment.specs.declared.reason.ProgramRefusal.{ProgramRefusal}
-use Rattle.cq_environment.specs.declared.reason.ProgramRefusal.TheVariants as program_refusal
+use Rattle.cq_environment.specs.declared.refusal.ProgramRefusal.{ProgramRefusal}
+use Rattle.cq_environment.specs.declared.refusal.ProgramRefusal.TheVariants as program_refusal
 use Rattle.cq_program.specs.Posed.{a_made}
 use Rattle.cq_environment.specs.Environment.{IsTermModel}
-use Rattle.cq_program.specs.Judging.{IsAnswerOf, TellsConstants, Withholds}
+use Rattle.cq_program.specs.Judging.{IsAnswerOf, TellsConstants, TellsUnmade}
 use Rattle.cq_program.specs.Program.{IsModelOf}
 use Rattle.cq_program.proofs.Constants.{constants_within}
 
@@ -91,27 +91,27 @@ module _ (S : SchemaData) (P : Presentation) (depth : ℕ) (answer : Result Inst
           subst (λ (U : TypesideData). is_named_con U d ≡ true) (sym typeside) named.1,
         )
 
-    pub withholds_deep : (at : Place) (name : Name) → answer ≡ Err Depth → Withholds depth at (a_made name S P) (program_refusal.Broken at reason.Depth)
-    withholds_deep at name is = (refl, inr (subst (λ (r : Result InstanceData MoveRefusal). SaysSize r (is_too_large P)) is of.size, inl (refl, of.deep is)))
+    pub unmade_deep : (at : Place) (name : Name) → answer ≡ Err Depth → TellsUnmade depth at (a_made name S P) (program_refusal.Broken at reason.Depth)
+    unmade_deep at name is = (refl, inr (subst (λ (r : Result InstanceData MoveRefusal). SaysSize r (is_too_large P)) is of.size, inl (refl, of.deep is)))
 
-    pub withholds_wide : (at : Place) (name : Name) → answer ≡ Err TooManyRows → Withholds depth at (a_made name S P) (program_refusal.Broken at reason.TooManyRows)
-    withholds_wide at name is =
+    pub unmade_wide : (at : Place) (name : Name) → answer ≡ Err TooManyRows → TellsUnmade depth at (a_made name S P) (program_refusal.Broken at reason.TooManyRows)
+    unmade_wide at name is =
         let wide = of.many is in
         (refl, inr (subst (λ (r : Result InstanceData MoveRefusal). SaysSize r (is_too_large P)) is of.size, inr (refl, wide.0, wide.1, wide.2)))
 
-    pub withholds_large : (at : Place) (name : Name) → answer ≡ Err TooLarge → Withholds depth at (a_made name S P) (program_refusal.Broken at reason.Oversized)
-    withholds_large at name is = (refl, inl (inl (refl, subst (λ (r : Result InstanceData MoveRefusal). SaysSize r (is_too_large P)) is of.size)))
+    pub unmade_large : (at : Place) (name : Name) → answer ≡ Err TooLarge → TellsUnmade depth at (a_made name S P) (program_refusal.Broken at reason.Oversized)
+    unmade_large at name is = (refl, inl (inl (refl, subst (λ (r : Result InstanceData MoveRefusal). SaysSize r (is_too_large P)) is of.size)))
 
     told_clash : (at : Place) (name : Name) (c d : Con) (refusal : ProgramRefusal) → is_too_large P ≡ false → IsInconsistentAt S P c d
-        → TellsConstants at (value_text S.typeside (Const c)) (value_text S.typeside (Const d)) refusal → Withholds depth at (a_made name S P) refusal
+        → TellsConstants at (value_text S.typeside (Const c)) (value_text S.typeside (Const d)) refusal → TellsUnmade depth at (a_made name S P) refusal
     told_clash at name c d (program_refusal.Broken place why) short clash told = (told.0, inl (inr (short, record { least = c; greater = d; equal = clash; told = told.1 })))
     told_clash at name c d (program_refusal.Read file cause) short clash told = told
     told_clash at name c d program_refusal.Memory short clash told = tt
 
     -- the refusal with the texts of two constants that clash tells why nothing is made
-    pub withholds_clash_made : (at : Place) (name : Name) (T : TypesideData) → T ≡ S.typeside → (c d : Con) (refusal : ProgramRefusal) → answer ≡ Err (Clashing c d)
-        → TellsConstants at (value_text T (Const c)) (value_text T (Const d)) refusal → Withholds depth at (a_made name S P) refusal
-    withholds_clash_made at name T typeside c d refusal is told =
+    pub unmade_clash_made : (at : Place) (name : Name) (T : TypesideData) → T ≡ S.typeside → (c d : Con) (refusal : ProgramRefusal) → answer ≡ Err (Clashing c d)
+        → TellsConstants at (value_text T (Const c)) (value_text T (Const d)) refusal → TellsUnmade depth at (a_made name S P) refusal
+    unmade_clash_made at name T typeside c d refusal is told =
         told_clash at name c d refusal (subst (λ (r : Result InstanceData MoveRefusal). SaysSize r (is_too_large P)) is of.size) (of.clash c d is)
         (subst (λ (U : TypesideData). TellsConstants at (value_text U (Const c)) (value_text U (Const d)) refusal) typeside told)
 

@@ -18,8 +18,8 @@ use Rattle.cq_environment.specs.declared.reason.Reason.{Reason}
 use Rattle.cq_environment.specs.Meanings.{Meant, Environment, Checked, binding}
 use Rattle.cq_program.specs.Posed.{Posed, a_typeside, a_schema, a_mapping, an_identity, a_colimit, an_inclusion, a_query, a_composite, a_mapping_query, a_presentation, a_made, a_delta, an_eval, a_transform, a_move}
 use Rattle.cq_program.specs.Checks.{Stated, stated_by}
-use Rattle.cq_environment.specs.declared.reason.ReadCause.{ReadCause}
-use Rattle.cq_environment.specs.declared.reason.ReadCause.TheVariants.{Failed}
+use Rattle.cq_environment.specs.declared.refusal.ReadCause.{ReadCause}
+use Rattle.cq_environment.specs.declared.refusal.ReadCause.TheVariants.{Failed}
 use Rattle.cq_program.specs.Folders.{Reads, TellsFault, LacksFile}
 use Rattle.cq_program.specs.Program.{IsModelOf, Stands, TellsMade, Fails, ExceedsAtDuty, ExceedsAtQueryDuty, ExceedsAtModel, Exceeds, IsLimit, IsWithinLimits, Declares, Breach, by_rule, by_fault, by_failure, by_limit, Follow, Listing, Means, Breaks, Lacks}
 use Rattle.cq_program.proofs.Constants.{one_clash}

@@ -21,11 +21,11 @@ use Rattle.cq_colimit.specs.Joined.{framed, inclusion, inclusions, joined, keyed
 use Rattle.cq_colimit.specs.Placing.{Part, past, placed_from}
 use Rattle.cq_program.specs.declared.colimits.stating.UsedSchema.{UsedSchema}
 use Rattle.cq_environment.specs.declared.environment.NamedPart.{NamedPart}
-use Rattle.cq_environment.specs.declared.reason.ProgramRefusal.{ProgramRefusal}
+use Rattle.cq_environment.specs.declared.refusal.ProgramRefusal.{ProgramRefusal}
 use Rattle.cq_environment.specs.Meanings.{ColimitMeant, Environment, PartMeant, SchemaMeant, colimit, colimit_used, meant_by, schema, schema_used, typeside}
 use Rattle.cq_program.specs.Posed.{a_colimit, a_schema}
 use Rattle.cq_program.specs.Colimits.{colimit_breach, colimit_given, colimit_of, first_apart, included, named_schemas, part_named, parts_used, posed_colimit}
-use Rattle.cq_environment.specs.Environment.{AreSettled, IsPartPrinted, IsPartSettled, IsPrinted, IsSettled, Refuses, Tells, part_meant}
+use Rattle.cq_environment.specs.Environment.{AreSettled, IsPartPrinted, IsPartSettled, IsPrinted, IsSettled, TellsChecked, Tells, part_meant}
 use Rattle.cq_program.specs.Views.{used_meant, useds_meant}
 use Rattle.cq_parts.specs.Parts.{colimit_parts, colimit_places, observation_part, path_eq_part}
 use Rattle.cq_program.specs.Posing.{IsGrounded}
@@ -96,7 +96,7 @@ few_joins lit joins n m is same few =
 module _ (T : TypesideData) (named : List Part) (parts : List (Spot × SchemaMeant)) (joins : ColimitParts) (lit : ColimitLit)
     (are : named ≡ named_schemas parts) (is : joins ≡ colimit_parts lit) where
   pub refused_as : (place : Place) (name : Name) (answer : ProgramRefusal) (found : List Place) (refusal : ColimitRefusal) → found ≡ colimit_places lit
-      → Tells answer (colimit_breach place found refusal) → (refusal ≡ joining.Memory) ⊎ (colimit_fault T named joins ≡ Some refusal) → Refuses answer (colimit_given place lit name T parts)
+      → Tells answer (colimit_breach place found refusal) → (refusal ≡ joining.Memory) ⊎ (colimit_fault T named joins ≡ Some refusal) → TellsChecked answer (colimit_given place lit name T parts)
   unfolding colimit_given
   refused_as place name answer those refusal at tells why =
       refused (colimit_breach place (colimit_places lit)) joining.Memory refl answer refusal (colimit_fault T (named_schemas parts) (colimit_parts lit)) (colimit_of lit name T parts)

@@ -32,9 +32,9 @@ use Rattle.cq_program.specs.Program.{TellsClash}
 use Rattle.cq_base.specs.declared.name.Name.{Name}
 use Rattle.cq_base.specs.declared.place.Place.{Place}
 use Rattle.cq_program.specs.Posed.{a_presentation}
-use Rattle.cq_program.specs.Judging.{TellsConstants, Withholds}
-use Rattle.cq_environment.specs.declared.reason.ProgramRefusal.{ProgramRefusal}
-use Rattle.cq_environment.specs.declared.reason.ProgramRefusal.TheVariants as program_refusal
+use Rattle.cq_program.specs.Judging.{TellsConstants, TellsUnmade}
+use Rattle.cq_environment.specs.declared.refusal.ProgramRefusal.{ProgramRefusal}
+use Rattle.cq_environment.specs.declared.refusal.ProgramRefusal.TheVariants as program_refusal
 
 -- what a map of an option gives was given
 mapped : {A B : Type 0} (f : A → B) (o : Option A) (b : B) → option_map f o ≡ Some b → (a : A) × (o ≡ Some a)
@@ -85,9 +85,9 @@ one_clash S P reason other tells tells' =
     tells.told ∙ (λ i. Inconsistent (value_text S.typeside (Const (least i))) (value_text S.typeside (Const (greater i)))) ∙ sym tells'.told
 
 -- the refusal with the texts of two constants that clash tells why nothing is made of a presentation
-pub withholds_clash : (depth : ℕ) (at : Place) (name : Name) (S : SchemaData) (P : Presentation) (c d : Con) (refusal : ProgramRefusal) → IsInconsistentAt S P c d
-    → TellsConstants at (value_text S.typeside (Const c)) (value_text S.typeside (Const d)) refusal → Withholds depth at (a_presentation name S P) refusal
-withholds_clash depth at name S P c d (program_refusal.Broken place reason) clash told =
+pub unmade_clash : (depth : ℕ) (at : Place) (name : Name) (S : SchemaData) (P : Presentation) (c d : Con) (refusal : ProgramRefusal) → IsInconsistentAt S P c d
+    → TellsConstants at (value_text S.typeside (Const c)) (value_text S.typeside (Const d)) refusal → TellsUnmade depth at (a_presentation name S P) refusal
+unmade_clash depth at name S P c d (program_refusal.Broken place reason) clash told =
     (told.0, inl (record { least = c; greater = d; equal = clash; told = told.1 }))
-withholds_clash depth at name S P c d (program_refusal.Read name' cause) clash told = told
-withholds_clash depth at name S P c d program_refusal.Memory clash told = tt
+unmade_clash depth at name S P c d (program_refusal.Read name' cause) clash told = told
+unmade_clash depth at name S P c d program_refusal.Memory clash told = tt

@@ -7,12 +7,12 @@ use Rattle.cq_instance.specs.InstanceData.{InstanceData}
 use Rattle.cq_syntax.specs.declared.part.Spot.{Spot}
 use Rattle.cq_environment.specs.declared.moved.Operation.{Operation}
 use Rattle.cq_environment.specs.declared.reason.Reason.TheVariants.{WrongOperand, WrongSchema}
-use Rattle.cq_environment.specs.declared.reason.ProgramRefusal.{ProgramRefusal}
+use Rattle.cq_environment.specs.declared.refusal.ProgramRefusal.{ProgramRefusal}
 use Rattle.cq_environment.specs.Meanings.{Checked, Ends, Environment, InstanceMeant, TransformMeant, and_then, instance_used, transform_used}
 use Rattle.cq_environment.specs.Routes.{Route}
 use Rattle.cq_program.specs.Movements.{Move, along_checked, along_fits, between_used, counit_checked, counit_fits, ends_used, is_declared, moved_along, route_used}
 use Rattle.cq_program.specs.Movements.{there_and_back, unit_checked, unit_fits}
-use Rattle.cq_environment.specs.Environment.{Refuses}
+use Rattle.cq_environment.specs.Environment.{TellsChecked}
 use Rattle.cq_program.proofs.Given.{refused_after, refused_then}
 
 -- a test that is passed, and one that isn't
@@ -33,20 +33,20 @@ other_names false h = refl
 
 -- the ends are refused, behind what is used before them
 module _ (env : Environment) (op : Operation) (by moved source target : Spot) (x : Name × Route) (route_is : route_used env op by ≡ Ok x) (answer : ProgramRefusal)
-    (refuses : Refuses answer (ends_used env source target)) where
-  pub along_ends : (h : TransformMeant) → transform_used env moved ≡ Ok h → Refuses answer (along_checked env op by moved source target)
+    (refuses : TellsChecked answer (ends_used env source target)) where
+  pub along_ends : (h : TransformMeant) → transform_used env moved ≡ Ok h → TellsChecked answer (along_checked env op by moved source target)
   along_ends h used =
       refused_after answer (route_used env op by) x (λ route. and_then (transform_used env moved) (λ t. and_then (ends_used env source target) (λ e. along_fits env op by moved source target route t e))) route_is
       (refused_after answer (transform_used env moved) h (λ t. and_then (ends_used env source target) (λ e. along_fits env op by moved source target x t e)) used
       (refused_then answer (ends_used env source target) (λ e. along_fits env op by moved source target x h e) refuses))
 
-  pub unit_ends : (i : InstanceMeant) → instance_used env moved ≡ Ok i → Refuses answer (unit_checked env op by moved source target)
+  pub unit_ends : (i : InstanceMeant) → instance_used env moved ≡ Ok i → TellsChecked answer (unit_checked env op by moved source target)
   unit_ends i used =
       refused_after answer (route_used env op by) x (λ route. and_then (instance_used env moved) (λ t. and_then (ends_used env source target) (λ e. unit_fits env op by moved source target route t e))) route_is
       (refused_after answer (instance_used env moved) i (λ t. and_then (ends_used env source target) (λ e. unit_fits env op by moved source target x t e)) used
       (refused_then answer (ends_used env source target) (λ e. unit_fits env op by moved source target x i e) refuses))
 
-  pub counit_ends : (i : InstanceMeant) → instance_used env moved ≡ Ok i → Refuses answer (counit_checked env op by moved source target)
+  pub counit_ends : (i : InstanceMeant) → instance_used env moved ≡ Ok i → TellsChecked answer (counit_checked env op by moved source target)
   counit_ends i used =
       refused_after answer (route_used env op by) x (λ route. and_then (instance_used env moved) (λ t. and_then (ends_used env source target) (λ e. counit_fits env op by moved source target route t e))) route_is
       (refused_after answer (instance_used env moved) i (λ t. and_then (ends_used env source target) (λ e. counit_fits env op by moved source target x t e)) used
@@ -134,10 +134,10 @@ module _ (env : Environment) (op : Operation) (by moved source target : Spot) (x
     pub unit_elsewhere : same_name x.0 i.schema ≡ true → same_name moved.name source.name ≡ false → unit_checked env op by moved source target ≡ Err (source.place, WrongOperand)
     unit_elsewhere over same = unit_at over ∙ failed (same_name moved.name source.name) unit_end (Err (source.place, WrongOperand)) same
 
-    pub unit_refused : (answer : ProgramRefusal) → same_name x.0 i.schema ≡ true → same_name moved.name source.name ≡ true → Refuses answer (between_used env op by moved target)
-        → Refuses answer (unit_checked env op by moved source target)
+    pub unit_refused : (answer : ProgramRefusal) → same_name x.0 i.schema ≡ true → same_name moved.name source.name ≡ true → TellsChecked answer (between_used env op by moved target)
+        → TellsChecked answer (unit_checked env op by moved source target)
     unit_refused answer over same refuses =
-        subst (Refuses answer) (sym (unit_here over same)) (refused_then answer (between_used env op by moved target) (λ there. Ok (made there)) refuses)
+        subst (TellsChecked answer) (sym (unit_here over same)) (refused_then answer (between_used env op by moved target) (λ there. Ok (made there)) refuses)
 
     abbrev counit_end : InstanceData → Checked Move
     counit_end there = if same_name moved.name target.name then Ok (made there) else Err (target.place, WrongOperand)
@@ -162,7 +162,7 @@ module _ (env : Environment) (op : Operation) (by moved source target : Spot) (x
         → counit_checked env op by moved source target ≡ Err (target.place, WrongOperand)
     counit_elsewhere there over found same = counit_here there over found ∙ failed (same_name moved.name target.name) (Ok (made there)) (Err (target.place, WrongOperand)) same
 
-    pub counit_refused : (answer : ProgramRefusal) → same_name x.0 i.schema ≡ true → Refuses answer (between_used env op by moved source)
-        → Refuses answer (counit_checked env op by moved source target)
+    pub counit_refused : (answer : ProgramRefusal) → same_name x.0 i.schema ≡ true → TellsChecked answer (between_used env op by moved source)
+        → TellsChecked answer (counit_checked env op by moved source target)
     counit_refused answer over refuses =
-        subst (Refuses answer) (sym (counit_at over)) (refused_then answer (between_used env op by moved source) counit_end refuses)
+        subst (TellsChecked answer) (sym (counit_at over)) (refused_then answer (between_used env op by moved source) counit_end refuses)

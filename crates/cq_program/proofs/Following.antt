@@ -8,18 +8,18 @@ use Rattle.cq_syntax.specs.declared.program.Decl.{Decl}
 use Rattle.cq_syntax.specs.declared.program.Program.{Program}
 use Rattle.cq_io.specs.FolderData.{FolderData}
 use Rattle.cq_import.specs.Folders.{Keeps}
-use Rattle.cq_environment.specs.declared.reason.ProgramRefusal.{ProgramRefusal}
-use Rattle.cq_environment.specs.declared.reason.ProgramRefusal.TheVariants as program_refusal
-use Rattle.cq_environment.specs.declared.reason.ReadCause.{ReadCause}
-use Rattle.cq_environment.specs.declared.reason.ReadCause.TheVariants.{Absent, TooLong, Failed}
+use Rattle.cq_environment.specs.declared.refusal.ProgramRefusal.{ProgramRefusal}
+use Rattle.cq_environment.specs.declared.refusal.ProgramRefusal.TheVariants as program_refusal
+use Rattle.cq_environment.specs.declared.refusal.ReadCause.{ReadCause}
+use Rattle.cq_environment.specs.declared.refusal.ReadCause.TheVariants.{Absent, TooLong, Failed}
 use Rattle.cq_environment.specs.Meanings.{Environment, Meant, binding}
 use Rattle.cq_program.specs.Posed.{Posed}
 use Rattle.cq_program.specs.Checks.{Stated, stated_by}
 use Rattle.cq_program.specs.Folders.{Told, Reads, LacksFile, Raised}
-use Rattle.cq_environment.specs.Environment.{Refuses}
+use Rattle.cq_environment.specs.Environment.{TellsChecked}
 use Rattle.cq_program.specs.Program.{Breach, by_rule, by_fault, by_failure, by_limit, Follow}
-use Rattle.cq_program.specs.Posing.{RefusesReading}
-use Rattle.cq_program.specs.Judging.{AddsDecl, RefusesDecl, RefusesProgram, Withholds}
+use Rattle.cq_program.specs.Posing.{TellsReading}
+use Rattle.cq_program.specs.Judging.{AddsDecl, TellsDecl, TellsProgram, TellsUnmade}
 
 pub Follow-more : (told : Told) (env : Environment) (ds : List Decl) (d : Decl) (mid after : Environment)
     → Follow told env ds mid → AddsDecl told mid d after → Follow told env (ds ++ d ∷ []) after
@@ -37,7 +37,7 @@ raised_before old mid new Failed keeps raised = (rose_before old.faults mid.faul
 
 -- the first rule that a declaration breaks is that which the program breaks, and a file that it lacks is one that the program lacks
 pub refuses_program : (depth : ℕ) (old mid new : FolderData) (program : Program) (before after : List Decl) (d : Decl) (env : Environment) (answer : ProgramRefusal)
-    → Keeps old mid → program.decls ≡ before ++ d ∷ after → Follow old.files [] before env → RefusesDecl depth mid new env d answer → RefusesProgram depth old new program answer
+    → Keeps old mid → program.decls ≡ before ++ d ∷ after → Follow old.files [] before env → TellsDecl depth mid new env d answer → TellsProgram depth old new program answer
 refuses_program depth old mid new program before after d env (program_refusal.Broken place reason) keeps split follow refuses =
     record {
       before = before;
@@ -66,14 +66,14 @@ refuses_program depth old mid new program before after d env program_refusal.Mem
 
 -- what isn't stated is refused
 pub refuses_stating : (depth : ℕ) (old new : FolderData) (env : Environment) (d : Decl) (answer : ProgramRefusal)
-    → Refuses answer (stated_by env d) → RefusesDecl depth old new env d answer
+    → TellsChecked answer (stated_by env d) → TellsDecl depth old new env d answer
 refuses_stating depth old new env d (program_refusal.Broken place reason) refuses = by_rule refuses
 refuses_stating depth old new env d (program_refusal.Read file cause) refuses = absurd refuses
 refuses_stating depth old new env d program_refusal.Memory refuses = tt
 
 -- what is stated and isn't read is refused
 pub refuses_reading : (depth : ℕ) (old new : FolderData) (env : Environment) (d : Decl) (stated : Stated) (answer : ProgramRefusal)
-    → stated_by env d ≡ Ok stated → RefusesReading d.place old new stated answer → RefusesDecl depth old new env d answer
+    → stated_by env d ≡ Ok stated → TellsReading d.place old new stated answer → TellsDecl depth old new env d answer
 refuses_reading depth old new env d stated (program_refusal.Broken place reason) is refuses = by_fault stated is refuses.0 refuses.1
 refuses_reading depth old new env d stated (program_refusal.Read file cause) is refuses =
     record { stated = stated; checked = is; lacks = refuses.0; raised = refuses.1 }
@@ -81,7 +81,7 @@ refuses_reading depth old new env d stated program_refusal.Memory is refuses = t
 
 -- what is posed and gets no model is refused
 pub refuses_model : (depth : ℕ) (old new : FolderData) (env : Environment) (d : Decl) (stated : Stated) (posed : Posed) (answer : ProgramRefusal)
-    → stated_by env d ≡ Ok stated → Reads old.files stated posed → Withholds depth d.place posed answer → RefusesDecl depth old new env d answer
+    → stated_by env d ≡ Ok stated → Reads old.files stated posed → TellsUnmade depth d.place posed answer → TellsDecl depth old new env d answer
 refuses_model depth old new env d stated posed (program_refusal.Broken place reason) is reads withholds = elim withholds.1 [
   | inl fails ↦ by_failure stated posed is reads withholds.0 fails
   | inr exceeds ↦ by_limit stated posed is reads withholds.0 exceeds
@@ -90,7 +90,7 @@ refuses_model depth old new env d stated posed (program_refusal.Read file cause)
 refuses_model depth old new env d stated posed program_refusal.Memory is reads withholds = tt
 
 pub refuses_result : {X : Type 0} (depth : ℕ) (old new : FolderData) (env : Environment) (d : Decl) (stated : Stated) (posed : Posed) (r : Result X ProgramRefusal)
-    → stated_by env d ≡ Ok stated → Reads old.files stated posed → IfErr r (Withholds depth d.place posed) → IfErr r (RefusesDecl depth old new env d)
+    → stated_by env d ≡ Ok stated → Reads old.files stated posed → IfErr r (TellsUnmade depth d.place posed) → IfErr r (TellsDecl depth old new env d)
 refuses_result depth old new env d stated posed (Ok x) is reads withholds = tt
 refuses_result depth old new env d stated posed (Err answer) is reads withholds = refuses_model depth old new env d stated posed answer is reads withholds
 
@@ -101,7 +101,7 @@ split_at decls i d inside is =
 -- the first rule that the declaration at place i breaks is that which the program breaks
 pub refuses_at : (depth : ℕ) (old mid new : FolderData) (program : Program) (decls : List Decl) (i : ℕ) (d : Decl) (env : Environment) (answer : ProgramRefusal)
     → Keeps old mid → decls ≡ program.decls → i < length decls → d ≡ get_or decls i d → Follow old.files [] (take i decls) env
-    → RefusesDecl depth mid new env d answer → RefusesProgram depth old new program answer
+    → TellsDecl depth mid new env d answer → TellsProgram depth old new program answer
 refuses_at depth old mid new program decls i d env answer keeps are inside is follow refuses =
     refuses_program depth old mid new program (take i decls) (drop (suc i) decls) d env answer keeps (sym are ∙ split_at decls i d inside is) follow refuses
 

@@ -3,11 +3,11 @@ use Rattle.std.proofs.Common.{List, ◌≡◌, ◌⊎◌, inl, inr, Option, Some
 use Rattle.std.specs.Prelude.{option_and_then, Ok, Err}
 use Rattle.cq_base.specs.declared.place.Place.{Place}
 use Rattle.cq_environment.specs.declared.reason.Reason.{Reason}
-use Rattle.cq_environment.specs.declared.reason.ProgramRefusal.{ProgramRefusal}
-use Rattle.cq_environment.specs.declared.reason.ProgramRefusal.TheVariants as program_refusal
+use Rattle.cq_environment.specs.declared.refusal.ProgramRefusal.{ProgramRefusal}
+use Rattle.cq_environment.specs.declared.refusal.ProgramRefusal.TheVariants as program_refusal
 use Rattle.cq_environment.specs.Meanings.{Checked, and_then}
 use Rattle.cq_program.specs.Posed.{broken_or, of_parts}
-use Rattle.cq_environment.specs.Environment.{Refuses, Tells}
+use Rattle.cq_environment.specs.Environment.{TellsChecked, Tells}
 
 -- the parts break no rule
 pub given : {A R : Type 0} (breach : R → Option (Place × Reason)) (fault : Option R) (made given_as : A) → fault ≡ None → made ≡ given_as → of_parts breach fault given_as ≡ Ok made
@@ -25,19 +25,19 @@ told breach memory none at reason refusal fault made tells (inr broken) =
 
 -- the parts break a rule, or there was no memory
 pub refused : {A R : Type 0} (breach : R → Option (Place × Reason)) (memory : R) → breach memory ≡ None → (answer : ProgramRefusal) (refusal : R) (fault : Option R) (made : A)
-    → Tells answer (breach refusal) → (refusal ≡ memory) ⊎ (fault ≡ Some refusal) → Refuses answer (of_parts breach fault made)
+    → Tells answer (breach refusal) → (refusal ≡ memory) ⊎ (fault ≡ Some refusal) → TellsChecked answer (of_parts breach fault made)
 refused breach memory none (program_refusal.Broken at reason) refusal fault made tells why = told breach memory none at reason refusal fault made tells why
 refused breach memory none (program_refusal.Read name cause) refusal fault made tells why = absurd tells
 refused breach memory none program_refusal.Memory refusal fault made tells why = tt
 
 -- what is refused first is refused
-pub refused_then : {A B : Type 0} (answer : ProgramRefusal) (check : Checked A) (f : A → Checked B) → Refuses answer check → Refuses answer (and_then check f)
+pub refused_then : {A B : Type 0} (answer : ProgramRefusal) (check : Checked A) (f : A → Checked B) → TellsChecked answer check → TellsChecked answer (and_then check f)
 refused_then (program_refusal.Broken at reason) check f refuses = ap (λ r. and_then r f) refuses
 refused_then (program_refusal.Read name cause) check f refuses = absurd refuses
 refused_then program_refusal.Memory check f refuses = tt
 
 -- what is given first is handed on
-pub refused_after : {A B : Type 0} (answer : ProgramRefusal) (check : Checked A) (a : A) (f : A → Checked B) → check ≡ Ok a → Refuses answer (f a) → Refuses answer (and_then check f)
+pub refused_after : {A B : Type 0} (answer : ProgramRefusal) (check : Checked A) (a : A) (f : A → Checked B) → check ≡ Ok a → TellsChecked answer (f a) → TellsChecked answer (and_then check f)
 refused_after (program_refusal.Broken at reason) check a f is refuses = ap (λ r. and_then r f) is ∙ refuses
 refused_after (program_refusal.Read name cause) check a f is refuses = absurd refuses
 refused_after program_refusal.Memory check a f is refuses = tt
@@ -51,7 +51,7 @@ module _ {P A R : Type 0} (fault : P → Option R) (make : P → A) (breach : Li
   given_parts made none is = given (breach places) (fault those) made (make those) (ap fault (sym are) ∙ none) (is ∙ ap make are)
 
   pub refused_parts : (memory : R) → breach places memory ≡ None → (answer : ProgramRefusal) (found : List Place) (refusal : R) → found ≡ places → Tells answer (breach found refusal)
-      → (refusal ≡ memory) ⊎ (fault parts ≡ Some refusal) → Refuses answer (of_parts (breach places) (fault those) (make those))
+      → (refusal ≡ memory) ⊎ (fault parts ≡ Some refusal) → TellsChecked answer (of_parts (breach places) (fault those) (make those))
   refused_parts memory none answer found refusal at tells why =
       refused (breach places) memory none answer refusal (fault those) (make those) (subst (λ (l : List Place). Tells answer (breach l refusal)) at tells)
       (subst (λ (p : P). (refusal ≡ memory) ⊎ (fault p ≡ Some refusal)) are why)

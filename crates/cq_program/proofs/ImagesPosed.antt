@@ -9,8 +9,8 @@ use Rattle.cq_base.specs.Names.{same_name}
 use Rattle.cq_syntax.specs.declared.literal.TransformLit.{TransformLit}
 use Rattle.cq_syntax.specs.declared.part.Bind.{Bind}
 use Rattle.cq_theory.specs.Schema.{IsSchema}
-use Rattle.cq_theory.specs.declared.lookup.ArrowRefusal.{ArrowRefusal}
-use Rattle.cq_theory.specs.declared.lookup.ArrowRefusal.TheVariants as arrow
+use Rattle.cq_theory.specs.declared.refusal.ArrowRefusal.{ArrowRefusal}
+use Rattle.cq_theory.specs.declared.refusal.ArrowRefusal.TheVariants as arrow
 use Rattle.cq_instance.specs.InstanceData.{InstanceData}
 use Rattle.cq_instance.specs.declared.transform.Image.{Image}
 use Rattle.cq_instance.specs.declared.transform.Transform.{Transform}
@@ -19,13 +19,13 @@ use Rattle.cq_transform.specs.declared.refusal.TransformRefusal.TheVariants as i
 use Rattle.cq_transform.specs.Images.{images_fault, images_made}
 use Rattle.cq_transform.specs.Transforming as transforming
 use Rattle.cq_transform.specs.Transforms.{GoesFrom}
-use Rattle.cq_environment.specs.declared.reason.ProgramRefusal.{ProgramRefusal}
+use Rattle.cq_environment.specs.declared.refusal.ProgramRefusal.{ProgramRefusal}
 use Rattle.cq_environment.specs.declared.reason.Reason.TheVariants.{WrongSchema}
 use Rattle.cq_program.specs.declared.statement.Statement.{Statement}
 use Rattle.cq_environment.specs.Meanings.{Checked, Ends, Environment, InstanceMeant, and_then, instance_used}
 use Rattle.cq_program.specs.Posed.{Posed, a_transform, arrow_breach}
 use Rattle.cq_program.specs.Transforms.{ends_of, images_given, images_posed, transform_between, transform_posed}
-use Rattle.cq_environment.specs.Environment.{Answers, AreEnds, IsTermModel, Refuses, Tells}
+use Rattle.cq_environment.specs.Environment.{Answers, AreEnds, IsTermModel, TellsChecked, Tells}
 use Rattle.cq_program.specs.Images.{broken_by_images, rule_on_images}
 use Rattle.cq_parts.specs.Parts.{transform_count, transform_parts, transform_places}
 use Rattle.cq_program.specs.Posing.{IsGrounded, posed_as}
@@ -70,7 +70,7 @@ told i j parts images.Memory rule tells is = inl (sym (same_some arrow.Memory ru
 -- images that break a rule are refused by it
 pub images_refused : (place : Place) (lit : TransformLit) (e : Ends) (refusal : TransformRefusal) (rule : ArrowRefusal) (answer : ProgramRefusal)
     → transforming.Tells e.start.instance e.finish.instance (transform_parts lit) refusal → rule_on_images refusal ≡ Some rule
-    → Tells answer (arrow_breach place (transform_places lit) rule) → Refuses answer (images_posed place lit e)
+    → Tells answer (arrow_breach place (transform_places lit) rule) → TellsChecked answer (images_posed place lit e)
 unfolding images_given
 images_refused place lit e refusal rule answer tells is said =
     let i : InstanceData = e.start.instance in

@@ -1,8 +1,8 @@
 -- What the calls that move transforms ask, and what they answer.
 use Rattle.std.proofs.Common.{◌≡◌, true, false, List, ◌⊎◌, inl, inr, refl, sym, ap, subst}
 use Rattle.std.specs.Prelude.{Result, Ok, Err, IfOk, IfErr}
-use Rattle.cq_theory.specs.declared.lookup.SizeRefusal.{SizeRefusal}
-use Rattle.cq_theory.specs.declared.lookup.SizeRefusal.TheVariants.{TooLarge, Memory}
+use Rattle.cq_theory.specs.declared.refusal.SizeRefusal.{SizeRefusal}
+use Rattle.cq_theory.specs.declared.refusal.SizeRefusal.TheVariants.{TooLarge, Memory}
 use Rattle.cq_theory.specs.Schema.{IsSchema}
 use Rattle.cq_mapping.specs.MappingData.{MappingData}
 use Rattle.cq_move.specs.Pulling.{TellsSize}

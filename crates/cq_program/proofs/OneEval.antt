@@ -27,11 +27,11 @@ use Rattle.cq_environment.specs.declared.reason.Reason.{Reason}
 use Rattle.cq_environment.specs.declared.reason.Reason.TheVariants.{TooManyAnswers, Oversized}
 use Rattle.cq_base.specs.declared.name.Name.{Name}
 use Rattle.cq_base.specs.declared.place.Place.{Place}
-use Rattle.cq_environment.specs.declared.reason.ProgramRefusal.{ProgramRefusal}
-use Rattle.cq_environment.specs.declared.reason.ProgramRefusal.TheVariants as program_refusal
+use Rattle.cq_environment.specs.declared.refusal.ProgramRefusal.{ProgramRefusal}
+use Rattle.cq_environment.specs.declared.refusal.ProgramRefusal.TheVariants as program_refusal
 use Rattle.cq_program.specs.Posed.{an_eval}
 use Rattle.cq_environment.specs.Environment.{Tells}
-use Rattle.cq_program.specs.Judging.{Withholds}
+use Rattle.cq_program.specs.Judging.{TellsUnmade}
 use Rattle.cq_program.specs.Program.{IsEvalWithin, TellsMany, TellsAnswers}
 
 -- a column of a list of columns that is as long as the list of edges
@@ -178,39 +178,39 @@ some_of f None b h = absurd (cc h)
 some_of f (Some a) b h = (a, refl, cc)
 
 -- the refusal with the name of the first entity that has too many answers tells why there are no tables
-pub withholds_many : (depth : ℕ) (at : Place) (name : Name) (Q : QueryData) (M : Tables) (entity : ℕ) (refusal : ProgramRefusal) → IsFirstMany Q M entity
-    → Tells refusal (option_map (λ (n : Name). (at, TooManyAnswers n)) (slice_get Q.target.entities entity)) → Withholds depth at (an_eval name Q M) refusal
-withholds_many depth at name Q M entity (program_refusal.Broken place reason) first told =
+pub unmade_many : (depth : ℕ) (at : Place) (name : Name) (Q : QueryData) (M : Tables) (entity : ℕ) (refusal : ProgramRefusal) → IsFirstMany Q M entity
+    → Tells refusal (option_map (λ (n : Name). (at, TooManyAnswers n)) (slice_get Q.target.entities entity)) → TellsUnmade depth at (an_eval name Q M) refusal
+unmade_many depth at name Q M entity (program_refusal.Broken place reason) first told =
     let t = some_of (λ (n : Name). let x : Place × Reason = (at, TooManyAnswers n) in x) (slice_get Q.target.entities entity) (place, reason) told in
     let here : at ≡ place = ap (λ (x : Place × Reason). x.0) t.2 in
     let what : TooManyAnswers t.0 ≡ reason = ap (λ (x : Place × Reason). x.1) t.2 in
     (sym here, inl (inl (record { entity = entity; name = t.0; there = t.1; told = sym what; first = first })))
-withholds_many depth at name Q M entity (program_refusal.Read file cause) first told = told
-withholds_many depth at name Q M entity program_refusal.Memory first told = tt
+unmade_many depth at name Q M entity (program_refusal.Read file cause) first told = told
+unmade_many depth at name Q M entity program_refusal.Memory first told = tt
 
 -- the same of tables that are too large
-withholds_large_answers : (depth : ℕ) (at : Place) (name : Name) (Q : QueryData) (M : Tables) (refusal : ProgramRefusal) → IsTooLarge Q M
-    → Tells refusal (Some (at, Oversized)) → Withholds depth at (an_eval name Q M) refusal
-withholds_large_answers depth at name Q M (program_refusal.Broken place reason) large told =
+unmade_large_answers : (depth : ℕ) (at : Place) (name : Name) (Q : QueryData) (M : Tables) (refusal : ProgramRefusal) → IsTooLarge Q M
+    → Tells refusal (Some (at, Oversized)) → TellsUnmade depth at (an_eval name Q M) refusal
+unmade_large_answers depth at name Q M (program_refusal.Broken place reason) large told =
     let one : (at, Oversized) ≡ (place, reason) = cc in
     let here : at ≡ place = ap (λ (x : Place × Reason). x.0) one in
     let what : Oversized ≡ reason = ap (λ (x : Place × Reason). x.1) one in
     (sym here, inl (inr (sym what, large)))
-withholds_large_answers depth at name Q M (program_refusal.Read file cause) large told = told
-withholds_large_answers depth at name Q M program_refusal.Memory large told = tt
+unmade_large_answers depth at name Q M (program_refusal.Read file cause) large told = told
+unmade_large_answers depth at name Q M program_refusal.Memory large told = tt
 
-withholds_memory : (depth : ℕ) (at : Place) (name : Name) (Q : QueryData) (M : Tables) (refusal : ProgramRefusal) → Tells refusal None → Withholds depth at (an_eval name Q M) refusal
-withholds_memory depth at name Q M (program_refusal.Broken place reason) told = absurd (cc told)
-withholds_memory depth at name Q M (program_refusal.Read file cause) told = told
-withholds_memory depth at name Q M program_refusal.Memory told = tt
+unmade_memory : (depth : ℕ) (at : Place) (name : Name) (Q : QueryData) (M : Tables) (refusal : ProgramRefusal) → Tells refusal None → TellsUnmade depth at (an_eval name Q M) refusal
+unmade_memory depth at name Q M (program_refusal.Broken place reason) told = absurd (cc told)
+unmade_memory depth at name Q M (program_refusal.Read file cause) told = told
+unmade_memory depth at name Q M program_refusal.Memory told = tt
 
 -- what is told of a refusal of eval tells why there are no tables
-pub withholds_answers : (depth : ℕ) (at : Place) (name : Name) (Q : QueryData) (M : Tables) (r : EvalRefusal) (refusal : ProgramRefusal) → TellsEval Q M r
+pub unmade_answers : (depth : ℕ) (at : Place) (name : Name) (Q : QueryData) (M : Tables) (r : EvalRefusal) (refusal : ProgramRefusal) → TellsEval Q M r
     → ((n : ℕ) → r ≡ eval.TooManyAnswers n → Tells refusal (option_map (λ (x : Name). (at, TooManyAnswers x)) (slice_get Q.target.entities n)))
-    → (r ≡ eval.TooLarge → Tells refusal (Some (at, Oversized))) → (r ≡ eval.Memory → Tells refusal None) → Withholds depth at (an_eval name Q M) refusal
-withholds_answers depth at name Q M (eval.TooManyAnswers n) refusal tells many large memory = withholds_many depth at name Q M n refusal tells (many n refl)
-withholds_answers depth at name Q M eval.TooLarge refusal tells many large memory = withholds_large_answers depth at name Q M refusal tells (large refl)
-withholds_answers depth at name Q M eval.Memory refusal tells many large memory = withholds_memory depth at name Q M refusal (memory refl)
+    → (r ≡ eval.TooLarge → Tells refusal (Some (at, Oversized))) → (r ≡ eval.Memory → Tells refusal None) → TellsUnmade depth at (an_eval name Q M) refusal
+unmade_answers depth at name Q M (eval.TooManyAnswers n) refusal tells many large memory = unmade_many depth at name Q M n refusal tells (many n refl)
+unmade_answers depth at name Q M eval.TooLarge refusal tells many large memory = unmade_large_answers depth at name Q M refusal tells (large refl)
+unmade_answers depth at name Q M eval.Memory refusal tells many large memory = unmade_memory depth at name Q M refusal (memory refl)
 
 -- an entity that is told is one of the target
 pub told_within : (Q : QueryData) (M : Tables) (r : EvalRefusal) → TellsEval Q M r → (n : ℕ) → r ≡ eval.TooManyAnswers n → n < length Q.target.entities

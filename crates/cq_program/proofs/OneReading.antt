@@ -6,8 +6,8 @@ use Rattle.cq_import.specs.Entries.{entries_text, fault2_of}
 use Rattle.cq_import.specs.Imports.{fault_of}
 use Rattle.cq_program.specs.declared.imports.stating.Format.TheVariants.{First, Second}
 use Rattle.cq_environment.specs.declared.reason.Reason.{Reason}
-use Rattle.cq_environment.specs.declared.reason.ReadCause.{ReadCause}
-use Rattle.cq_environment.specs.declared.reason.ReadCause.TheVariants.{Absent, TooLong, Failed}
+use Rattle.cq_environment.specs.declared.refusal.ReadCause.{ReadCause}
+use Rattle.cq_environment.specs.declared.refusal.ReadCause.TheVariants.{Absent, TooLong, Failed}
 use Rattle.cq_program.specs.Posed.{Posed}
 use Rattle.cq_program.specs.Checks.{Stated, at_once, a_folder}
 use Rattle.cq_program.specs.Folders.{Content, content_1, content_2, Reads, TellsFault, LacksFile, IsUnreadIn, rule_of}

@@ -7,21 +7,21 @@ use Rattle.cq_base.specs.declared.place.Place.{Place}
 use Rattle.cq_base.specs.Names.{same_name}
 use Rattle.cq_syntax.specs.declared.part.Spot.{Spot}
 use Rattle.cq_theory.specs.SchemaData.{SchemaData}
-use Rattle.cq_environment.specs.declared.reason.ProgramRefusal.{ProgramRefusal}
+use Rattle.cq_environment.specs.declared.refusal.ProgramRefusal.{ProgramRefusal}
 use Rattle.cq_transform.specs.Gluing.{coproduct_of}
 use Rattle.cq_environment.specs.declared.reason.Reason.TheVariants.{WrongSchema}
 use Rattle.cq_environment.specs.Meanings.{Checked, Environment, InstanceMeant, SchemaMeant, and_then, instance_used, schema_used}
 use Rattle.cq_program.specs.Posed.{Posed, a_made, broken_or}
 use Rattle.cq_program.specs.Gluing.{coproduct_over, coproduct_posed, first_misfit, operands_used, presentations_of}
 use Rattle.cq_program.specs.declared.gluing.stating.Operand.{Operand}
-use Rattle.cq_environment.specs.Environment.{AreSettled, IsPrinted, Refuses}
+use Rattle.cq_environment.specs.Environment.{AreSettled, IsPrinted, TellsChecked}
 use Rattle.cq_program.specs.Views.{operand_meant, operands_meant}
 use Rattle.cq_program.proofs.Settled.{instance_settled, one_printed}
 use Rattle.cq_program.proofs.Uses.{used_refused_at, used_given_at, used_hold, none_other, same_at, other_at, no_other}
 
 -- the operand at place i is refused, or is one more
 pub refused_at : (env : Environment) (spots : List Spot) (i : ℕ) (spot : Spot) (operands : List (Place × InstanceMeant)) (answer : ProgramRefusal) → i < length spots → spot ≡ get_or spots i spot
-    → operands_used env (take i spots) ≡ Ok operands → Refuses answer (instance_used env spot) → Refuses answer (operands_used env spots)
+    → operands_used env (take i spots) ≡ Ok operands → TellsChecked answer (instance_used env spot) → TellsChecked answer (operands_used env spots)
 refused_at env spots i spot operands answer inside is are refuses = used_refused_at (λ (s : Spot). s.place) (instance_used env) spots i spot operands answer inside is are refuses
 
 pub given_at : (env : Environment) (spots : List Spot) (i : ℕ) (spot : Spot) (operands more : List (Place × InstanceMeant)) (part : InstanceMeant) → i < length spots → spot ≡ get_or spots i spot

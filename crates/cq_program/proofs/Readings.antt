@@ -16,16 +16,16 @@ use Rattle.cq_io.specs.FolderData.{FolderData}
 use Rattle.cq_import.specs.Folders.{Keeps, Raises}
 use Rattle.cq_import.specs.Imports.{IsImport, OfFiles, IfAbsent, IfReadFault, IfTooLong}
 use Rattle.cq_environment.specs.declared.reason.Reason.{Reason}
-use Rattle.cq_environment.specs.declared.reason.ReadCause.{ReadCause}
-use Rattle.cq_environment.specs.declared.reason.ReadCause.TheVariants.{Absent, TooLong, Failed}
-use Rattle.cq_environment.specs.declared.reason.ProgramRefusal.{ProgramRefusal}
-use Rattle.cq_environment.specs.declared.reason.ProgramRefusal.TheVariants as program_refusal
+use Rattle.cq_environment.specs.declared.refusal.ReadCause.{ReadCause}
+use Rattle.cq_environment.specs.declared.refusal.ReadCause.TheVariants.{Absent, TooLong, Failed}
+use Rattle.cq_environment.specs.declared.refusal.ProgramRefusal.{ProgramRefusal}
+use Rattle.cq_environment.specs.declared.refusal.ProgramRefusal.TheVariants as program_refusal
 use Rattle.cq_program.specs.declared.imports.stating.Format.{Format}
 use Rattle.cq_program.specs.declared.imports.stating.Format.TheVariants.{First, Second}
 use Rattle.cq_program.specs.Posed.{a_presentation}
 use Rattle.cq_program.specs.Checks.{a_folder}
 use Rattle.cq_program.specs.Folders.{Told, Content, content_1, content_2, OfFolder, IsImportOf, Reads, IsUnreadIn, Raised, rule_of, unread_fault}
-use Rattle.cq_program.specs.Posing.{RefusesReading, TellsImport}
+use Rattle.cq_program.specs.Posing.{TellsReading, TellsImport}
 
 pub keeps_itself : (a : FolderData) → Keeps a a
 keeps_itself a = record { files = refl; absences = omega arith; faults = omega arith; overruns = omega arith; steady = refl; calm = λ steady. refl }
@@ -163,7 +163,7 @@ module _ (old new : FolderData) where
   -- what an import tells is refused
   pub refuses_folder : (at : Place) (format : Format) (n : Name) (S : SchemaData) (dir : Name) (r : CsvRefusal) (answer : ProgramRefusal)
       → OfFolder old.files format dir S (λ c. IsImportOf c (Err r))
-      → Raises {A = Presentation} old new (Err r) → TellsImport at (told r) answer → RefusesReading at old new (a_folder format n S dir) answer
+      → Raises {A = Presentation} old new (Err r) → TellsImport at (told r) answer → TellsReading at old new (a_folder format n S dir) answer
   refuses_folder at format n S dir r (program_refusal.Broken place reason) is by tells = (
     tells.0,
     of_map old.files format dir S (λ c. IsImportOf c (Err r)) (λ c. option_and_then rule_of c.first ≡ Some reason) (λ c here. faulty c (told r) reason (found c r here) tells.1) is,

@@ -7,8 +7,8 @@ use Rattle.cq_base.specs.declared.name.Name.{Name}
 use Rattle.cq_base.specs.Names.{same_name}
 use Rattle.cq_theory.specs.Resolve.{or_else}
 use Rattle.cq_theory.specs.Schema.{edge_names}
-use Rattle.cq_theory.specs.declared.lookup.TheoryRefusal.{TheoryRefusal}
-use Rattle.cq_theory.specs.declared.lookup.TheoryRefusal.TheVariants as theory
+use Rattle.cq_theory.specs.declared.refusal.TheoryRefusal.{TheoryRefusal}
+use Rattle.cq_theory.specs.declared.refusal.TheoryRefusal.TheVariants as theory
 use Rattle.cq_theory.specs.TypesideData.{TypesideData as Typeside}
 use Rattle.cq_theory.specs.Typeside.{function_names}
 use Rattle.cq_theory.specs.Paths.{is_among}

@@ -7,10 +7,10 @@ use Rattle.cq_base.specs.declared.name.Name.{Name}
 use Rattle.cq_base.specs.declared.place.Place.{Place}
 use Rattle.cq_base.specs.Names.{same_name}
 use Rattle.cq_syntax.specs.declared.part.Spot.{Spot}
-use Rattle.cq_environment.specs.declared.reason.ProgramRefusal.{ProgramRefusal}
+use Rattle.cq_environment.specs.declared.refusal.ProgramRefusal.{ProgramRefusal}
 use Rattle.cq_environment.specs.Meanings.{Checked, and_then}
 use Rattle.cq_program.specs.Posed.{all_used, first_other}
-use Rattle.cq_environment.specs.Environment.{Refuses}
+use Rattle.cq_environment.specs.Environment.{TellsChecked}
 use Rattle.cq_program.proofs.Given.{refused_after, refused_then}
 
 -- what one more and the rest give together, each gives
@@ -44,8 +44,8 @@ module _ {K A : Type 0} (key : Spot → K) (find : Spot → Checked A) where
       ∙ ap (λ (others : Checked (List (K × A))). and_then others (λ rest. Ok ((key x, t.first) ∷ rest))) (used_more spots spot t.rest a t.others_are is)
       ∙ ap (λ (l : List (K × A)). Ok (l ++ (key spot, a) ∷ [])) t.together
 
-  used_refused : (spots : List Spot) (spot : Spot) (after : List Spot) (found : List (K × A)) (answer : ProgramRefusal) → all_used key find spots ≡ Ok found → Refuses answer (find spot)
-      → Refuses answer (all_used key find (spots ++ spot ∷ after))
+  used_refused : (spots : List Spot) (spot : Spot) (after : List Spot) (found : List (K × A)) (answer : ProgramRefusal) → all_used key find spots ≡ Ok found → TellsChecked answer (find spot)
+      → TellsChecked answer (all_used key find (spots ++ spot ∷ after))
   used_refused [] spot after found answer are refuses =
       refused_then answer (find spot) (λ a. and_then (all_used key find after) (λ rest. Ok ((key spot, a) ∷ rest))) refuses
   used_refused (x ∷ spots) spot after found answer are refuses =
@@ -55,9 +55,9 @@ module _ {K A : Type 0} (key : Spot → K) (find : Spot → Checked A) where
 
   -- the name at place i is refused, or is one more
   pub used_refused_at : (spots : List Spot) (i : ℕ) (spot : Spot) (found : List (K × A)) (answer : ProgramRefusal) → i < length spots → spot ≡ get_or spots i spot
-      → all_used key find (take i spots) ≡ Ok found → Refuses answer (find spot) → Refuses answer (all_used key find spots)
+      → all_used key find (take i spots) ≡ Ok found → TellsChecked answer (find spot) → TellsChecked answer (all_used key find spots)
   used_refused_at spots i spot found answer inside is are refuses =
-      subst (λ (l : List Spot). Refuses answer (all_used key find l)) (sym (split_at spots i spot inside is))
+      subst (λ (l : List Spot). TellsChecked answer (all_used key find l)) (sym (split_at spots i spot inside is))
       (used_refused (take i spots) spot (drop (suc i) spots) found answer are refuses)
 
   pub used_given_at : (spots : List Spot) (i : ℕ) (spot : Spot) (found more : List (K × A)) (a : A) → i < length spots → spot ≡ get_or spots i spot

@@ -5,19 +5,19 @@ use Rattle.cq_io.specs.FolderData.{FolderData}
 use Rattle.cq_syntax.specs.declared.program.Decl.{Decl}
 use Rattle.cq_syntax.specs.declared.program.Program.{Program}
 use Rattle.cq_environment.specs.declared.environment.Environment.{Environment as TheEnvironment}
-use Rattle.cq_environment.specs.declared.reason.ProgramRefusal.{ProgramRefusal}
-use Rattle.cq_environment.specs.declared.reason.ProgramRefusal.TheVariants as program_refusal
+use Rattle.cq_environment.specs.declared.refusal.ProgramRefusal.{ProgramRefusal}
+use Rattle.cq_environment.specs.declared.refusal.ProgramRefusal.TheVariants as program_refusal
 use Rattle.cq_environment.specs.Environment.{AreSettled, environment_of}
 use Rattle.cq_program.specs.Folders.{LacksFile, Told}
 use Rattle.cq_environment.specs.Meanings.{Environment}
-use Rattle.cq_program.specs.Judging.{RefusesDecl, RefusesProgram}
+use Rattle.cq_program.specs.Judging.{TellsDecl, TellsProgram}
 use Rattle.cq_program.specs.Program.{Breach, Follow}
 use Rattle.cq_program.specs.declared.stops.Fault.{Fault}
 use Rattle.cq_program.specs.declared.stops.Fault.TheVariants.{Broken, Unread}
 use Rattle.cq_program.specs.declared.stops.Halt.{Halt}
 use Rattle.cq_program.specs.declared.stops.Halt.TheVariants as halt
 use Rattle.cq_program.specs.declared.stops.Stop.{Stop}
-use Rattle.cq_program.specs.Stop.{Halts, IsFaultOf, IsHalt, StopsAt, refusal_at, refusal_of}
+use Rattle.cq_program.specs.Stop.{TellsHalt, IsFaultOf, IsHalt, StopsAt, refusal_at, refusal_of}
 
 -- what is known when a declaration is refused: those before it are walked over, and the names stand for what they stood for
 pub record IsRefusedAt (told : Told) (program : Program) (n : ℕ) (d : Decl) (before after : TheEnvironment) : Type 0 where
@@ -59,7 +59,7 @@ refused_at told program slice i n d before after are inside is at follow settled
 
 -- what is wrong with a declaration that is refused
 fault_of : (depth : ℕ) (mid new : FolderData) (told : Told) (env : Environment) (d : Decl) (fault : Fault) → mid.files ≡ told
-    → RefusesDecl depth mid new env d (refusal_at fault) → IsFaultOf depth told env d fault
+    → TellsDecl depth mid new env d (refusal_at fault) → IsFaultOf depth told env d fault
 fault_of depth mid new told env d (Broken place reason) files refuses = subst (λ (t : Told). Breach depth t env d place reason) files refuses
 fault_of depth mid new told env d (Unread file cause) files refuses = record {
   stated = refuses.stated;
@@ -70,18 +70,18 @@ fault_of depth mid new told env d (Unread file cause) files refuses = record {
 -- the halt at a declaration that is refused
 pub halts_at : (depth : ℕ) (old mid new : FolderData) (program : Program) (n : ℕ) (d : Decl) (before after : TheEnvironment)
     (refusal : ProgramRefusal) (made : Halt) → mid.files ≡ old.files → IsRefusedAt old.files program n d before after
-    → RefusesDecl depth mid new (environment_of before.names.entries) d refusal → RefusesProgram depth old new program refusal
-    → IsHalt after n refusal made → Halts depth old new program made
+    → TellsDecl depth mid new (environment_of before.names.entries) d refusal → TellsProgram depth old new program refusal
+    → IsHalt after n refusal made → TellsHalt depth old new program made
 halts_at depth old mid new program n d before after refusal (halt.Stopped stop) files at refuses tells is =
     let env : Environment = environment_of before.names.entries in
-    let here : RefusesDecl depth mid new env d (refusal_at stop.fault) = subst (RefusesDecl depth mid new env d) (sym is.refusal_is) refuses in (
+    let here : TellsDecl depth mid new env d (refusal_at stop.fault) = subst (TellsDecl depth mid new env d) (sym is.refusal_is) refuses in (
       stops depth old.files program n d before after stop at (fault_of depth mid new old.files env d stop.fault files here) is.is_at.0 is.is_at.1,
-      subst (RefusesProgram depth old new program) (sym is.refusal_is) tells,
+      subst (TellsProgram depth old new program) (sym is.refusal_is) tells,
     )
 halts_at depth old mid new program n d before after refusal halt.Memory files at refuses tells is = tt
 
 -- what is refused where the walk ends
 pub refuses_halt : (depth : ℕ) (old new : FolderData) (program : Program) (h : Halt) (refusal : ProgramRefusal)
-    → refusal ≡ refusal_of h → Halts depth old new program h → RefusesProgram depth old new program refusal
-refuses_halt depth old new program (halt.Stopped stop) refusal is halts = subst (RefusesProgram depth old new program) (sym is) halts.1
-refuses_halt depth old new program halt.Memory refusal is halts = subst (RefusesProgram depth old new program) (sym is) tt
+    → refusal ≡ refusal_of h → TellsHalt depth old new program h → TellsProgram depth old new program refusal
+refuses_halt depth old new program (halt.Stopped stop) refusal is halts = subst (TellsProgram depth old new program) (sym is) halts.1
+refuses_halt depth old new program halt.Memory refusal is halts = subst (TellsProgram depth old new program) (sym is) tt

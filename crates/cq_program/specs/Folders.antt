@@ -14,8 +14,8 @@ use Rattle.cq_io.specs.FolderData.{FolderData}
 use Rattle.cq_import.specs.Imports.{IsNext, OfFiles, fault_of, imported}
 use Rattle.cq_environment.specs.declared.reason.Reason.{Reason}
 use Rattle.cq_environment.specs.declared.reason.Reason.TheVariants as reason
-use Rattle.cq_environment.specs.declared.reason.ReadCause.{ReadCause}
-use Rattle.cq_environment.specs.declared.reason.ReadCause.TheVariants.{Absent, TooLong, Failed}
+use Rattle.cq_environment.specs.declared.refusal.ReadCause.{ReadCause}
+use Rattle.cq_environment.specs.declared.refusal.ReadCause.TheVariants.{Absent, TooLong, Failed}
 use Rattle.cq_program.specs.declared.imports.stating.Format.{Format}
 use Rattle.cq_program.specs.declared.imports.stating.Format.TheVariants.{First, Second}
 use Rattle.cq_program.specs.Posed.{Posed, a_presentation}

@@ -2,8 +2,8 @@
 use Rattle.std.specs.Prelude.{List, Option, Some, None, option_and_then}
 use Rattle.cq_base.specs.declared.name.Name.{Name}
 use Rattle.cq_base.specs.declared.raw.Raw.{Raw}
-use Rattle.cq_theory.specs.declared.lookup.ArrowRefusal.{ArrowRefusal}
-use Rattle.cq_theory.specs.declared.lookup.ArrowRefusal.TheVariants as arrow
+use Rattle.cq_theory.specs.declared.refusal.ArrowRefusal.{ArrowRefusal}
+use Rattle.cq_theory.specs.declared.refusal.ArrowRefusal.TheVariants as arrow
 use Rattle.cq_instance.specs.InstanceData.{InstanceData}
 use Rattle.cq_transform.specs.declared.refusal.TransformRefusal.{TransformRefusal}
 use Rattle.cq_transform.specs.declared.refusal.TransformRefusal.TheVariants as images

@@ -14,9 +14,9 @@ use Rattle.cq_model.specs.Moving.{SaysSize}
 use Rattle.cq_model.specs.declared.refusal.MoveRefusal.{MoveRefusal}
 use Rattle.cq_model.specs.declared.refusal.MoveRefusal.TheVariants.{Depth, TooManyRows, Inconsistent as Clashing}
 use Rattle.cq_environment.specs.declared.reason.Reason.TheVariants.{Inconsistent}
-use Rattle.cq_environment.specs.declared.reason.ProgramRefusal.{ProgramRefusal}
-use Rattle.cq_environment.specs.declared.reason.ReadCause.{ReadCause}
-use Rattle.cq_environment.specs.declared.reason.ProgramRefusal.TheVariants as program_refusal
+use Rattle.cq_environment.specs.declared.refusal.ProgramRefusal.{ProgramRefusal}
+use Rattle.cq_environment.specs.declared.refusal.ReadCause.{ReadCause}
+use Rattle.cq_environment.specs.declared.refusal.ProgramRefusal.TheVariants as program_refusal
 use Rattle.cq_io.specs.FolderData.{FolderData}
 use Rattle.cq_program.specs.Folders.{Told, LacksFile, Raised}
 use Rattle.cq_environment.specs.Meanings.{Environment, Meant, binding}
@@ -25,10 +25,10 @@ use Rattle.cq_program.specs.Checks.{Stated, stated_by}
 use Rattle.cq_program.specs.Program.{Breach, Breaks, Lacks, Fails, Declares, Exceeds, IsModelOf}
 
 -- the refusal tells why nothing is made of what is posed, at the declaration's place, or want of memory
-abbrev pub Withholds : ℕ → Place → Posed → ProgramRefusal → Type 0
-Withholds depth at posed (program_refusal.Broken place reason) = (place ≡ at) × (Fails posed reason ⊎ Exceeds depth posed reason)
-Withholds depth at posed (program_refusal.Read name cause) = ⊥
-Withholds depth at posed program_refusal.Memory = Unit {0}
+abbrev pub TellsUnmade : ℕ → Place → Posed → ProgramRefusal → Type 0
+TellsUnmade depth at posed (program_refusal.Broken place reason) = (place ≡ at) × (Fails posed reason ⊎ Exceeds depth posed reason)
+TellsUnmade depth at posed (program_refusal.Read name cause) = ⊥
+TellsUnmade depth at posed program_refusal.Memory = Unit {0}
 
 -- the refusal tells two texts of constants, or want of memory
 abbrev pub TellsConstants : Place → List ℕ → List ℕ → ProgramRefusal → Type 0
@@ -48,17 +48,17 @@ pub record IsUnread (old new : FolderData) (env : Environment) (d : Decl) (file 
   pub raised : Raised cause old new
 
 -- the refusal tells the first rule that the declaration breaks, or a file that was not read, or want of memory
-abbrev pub RefusesDecl : ℕ → FolderData → FolderData → Environment → Decl → ProgramRefusal → Type 0
-RefusesDecl depth old new env d (program_refusal.Broken place reason) = Breach depth old.files env d place reason
-RefusesDecl depth old new env d (program_refusal.Read file cause) = IsUnread old new env d (string_bytes file) cause
-RefusesDecl depth old new env d program_refusal.Memory = Unit {0}
+abbrev pub TellsDecl : ℕ → FolderData → FolderData → Environment → Decl → ProgramRefusal → Type 0
+TellsDecl depth old new env d (program_refusal.Broken place reason) = Breach depth old.files env d place reason
+TellsDecl depth old new env d (program_refusal.Read file cause) = IsUnread old new env d (string_bytes file) cause
+TellsDecl depth old new env d program_refusal.Memory = Unit {0}
 
 -- the refusal tells the first rule that the program breaks, or a file that was not read, or want of memory
-abbrev pub RefusesProgram : ℕ → FolderData → FolderData → Program → ProgramRefusal → Type 0
-RefusesProgram depth old new program (program_refusal.Broken place reason) = Breaks depth old.files program place reason
-RefusesProgram depth old new program (program_refusal.Read file cause) = Lacks old.files program (string_bytes file) cause
+abbrev pub TellsProgram : ℕ → FolderData → FolderData → Program → ProgramRefusal → Type 0
+TellsProgram depth old new program (program_refusal.Broken place reason) = Breaks depth old.files program place reason
+TellsProgram depth old new program (program_refusal.Read file cause) = Lacks old.files program (string_bytes file) cause
     × Raised cause old new
-RefusesProgram depth old new program program_refusal.Memory = Unit {0}
+TellsProgram depth old new program program_refusal.Memory = Unit {0}
 
 -- What the answer of a call says that makes the listed model of a presentation over a schema, of rows up to a depth. The limit is tried
 -- first.

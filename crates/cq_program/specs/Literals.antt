@@ -2,7 +2,7 @@
 use Rattle.std.specs.Prelude.{Option, Ok}
 use Rattle.cq_base.specs.declared.place.Place.{Place}
 use Rattle.cq_syntax.specs.declared.literal.InstanceLit.{InstanceLit}
-use Rattle.cq_theory.specs.declared.lookup.TheoryRefusal.{TheoryRefusal}
+use Rattle.cq_theory.specs.declared.refusal.TheoryRefusal.{TheoryRefusal}
 use Rattle.cq_theory.specs.declared.presentation.Presentation.{Presentation}
 use Rattle.cq_theory.specs.declared.parts.PresentationParts.{PresentationParts}
 use Rattle.cq_theory.specs.SchemaData.{SchemaData}

@@ -14,8 +14,8 @@ use Rattle.cq_transform.specs.Images.{images_made}
 use Rattle.cq_transform.specs.Refusals.{IsBrokenAt}
 use Rattle.cq_transform.specs.Transforms.{GoesFrom}
 use Rattle.cq_transform.specs.Gluing.{coproduct_of}
-use Rattle.cq_environment.specs.declared.reason.ProgramRefusal.{ProgramRefusal}
-use Rattle.cq_environment.specs.declared.reason.ProgramRefusal.TheVariants as program_refusal
+use Rattle.cq_environment.specs.declared.refusal.ProgramRefusal.{ProgramRefusal}
+use Rattle.cq_environment.specs.declared.refusal.ProgramRefusal.TheVariants as program_refusal
 use Rattle.cq_program.specs.declared.transforms.stating.BrokenImages.{BrokenImages}
 use Rattle.cq_program.specs.declared.statement.Statement.{Statement}
 use Rattle.cq_program.specs.declared.statement.Statement.TheVariants as statement
@@ -197,7 +197,7 @@ TellsImport at told (program_refusal.Read file cause) = told ≡ unread_fault (s
 TellsImport at told program_refusal.Memory = told ≡ fault.Memory
 
 -- the refusal tells the first fault in the files that are read, at the declaration's place, or a file that was not read, or want of memory
-abbrev pub RefusesReading : Place → FolderData → FolderData → Stated → ProgramRefusal → Type 0
-RefusesReading at old new s (program_refusal.Broken place reason) = (place ≡ at) × TellsFault old.files s reason
-RefusesReading at old new s (program_refusal.Read file cause) = LacksFile old.files s (string_bytes file) cause × Raised cause old new
-RefusesReading at old new s program_refusal.Memory = Unit {0}
+abbrev pub TellsReading : Place → FolderData → FolderData → Stated → ProgramRefusal → Type 0
+TellsReading at old new s (program_refusal.Broken place reason) = (place ≡ at) × TellsFault old.files s reason
+TellsReading at old new s (program_refusal.Read file cause) = LacksFile old.files s (string_bytes file) cause × Raised cause old new
+TellsReading at old new s program_refusal.Memory = Unit {0}

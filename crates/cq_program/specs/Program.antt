@@ -46,7 +46,7 @@ use Rattle.cq_program.specs.Posed.{Posed, a_typeside, a_schema, a_mapping, an_id
 use Rattle.cq_program.specs.Posed.{a_composite, a_mapping_query, a_made, a_delta, an_eval, a_transform, a_move}
 use Rattle.cq_program.specs.Checks.{Stated, stated_by}
 use Rattle.cq_program.specs.Posing.{IsTransformOf}
-use Rattle.cq_environment.specs.declared.reason.ReadCause.{ReadCause}
+use Rattle.cq_environment.specs.declared.refusal.ReadCause.{ReadCause}
 use Rattle.cq_program.specs.Folders.{Told, Reads, TellsFault, LacksFile}
 
 -- the listed model of a presentation over a schema, both well sorted, which makes no two constants equal

@@ -8,9 +8,9 @@ use Rattle.cq_environment.specs.Environment.{AreSettled, environment_of}
 use Rattle.cq_program.specs.Folders.{LacksFile, Told}
 use Rattle.cq_environment.specs.Meanings.{Environment}
 use Rattle.cq_environment.specs.declared.environment.Environment.{Environment as TheEnvironment}
-use Rattle.cq_environment.specs.declared.reason.ProgramRefusal.{ProgramRefusal}
-use Rattle.cq_environment.specs.declared.reason.ProgramRefusal.TheVariants as program_refusal
-use Rattle.cq_program.specs.Judging.{RefusesProgram}
+use Rattle.cq_environment.specs.declared.refusal.ProgramRefusal.{ProgramRefusal}
+use Rattle.cq_environment.specs.declared.refusal.ProgramRefusal.TheVariants as program_refusal
+use Rattle.cq_program.specs.Judging.{TellsProgram}
 use Rattle.cq_program.specs.Program.{Breach, Follow}
 use Rattle.cq_program.specs.declared.stops.Fault.{Fault}
 use Rattle.cq_program.specs.declared.stops.Fault.TheVariants.{Broken, Unread}
@@ -51,10 +51,10 @@ refusal_of (halt.Stopped stop) = refusal_at stop.fault
 refusal_of halt.Memory = program_refusal.Memory
 
 -- what a halt tells: where the program stops, and the first rule that it breaks or a file that was not read; or want of memory
-abbrev pub Halts : ℕ → FolderData → FolderData → Program → Halt → Type 0
-Halts depth old new program (halt.Stopped stop) = StopsAt depth old.files program stop
-    × RefusesProgram depth old new program (refusal_at stop.fault)
-Halts depth old new program halt.Memory = Unit {0}
+abbrev pub TellsHalt : ℕ → FolderData → FolderData → Program → Halt → Type 0
+TellsHalt depth old new program (halt.Stopped stop) = StopsAt depth old.files program stop
+    × TellsProgram depth old new program (refusal_at stop.fault)
+TellsHalt depth old new program halt.Memory = Unit {0}
 
 -- the halt is a stop with these names and this number, where it is one
 abbrev pub IsAt : TheEnvironment → ℕ → Halt → Type 0

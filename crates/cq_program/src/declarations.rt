@@ -5,10 +5,10 @@ ghost use Rattle.cq_import.specs.Folders.{Keeps};
 ghost use Rattle.cq_parts.specs.Few.{HasFewParts, part_count};
 ghost use Rattle.cq_program.specs.Program.{Declares, Follow, Means, listing_of};
 ghost use Rattle.cq_environment.specs.Environment.{AreSettled, WillSettle, environment_of, meant};
-ghost use Rattle.cq_program.specs.Judging.{AddsDecl, RefusesDecl, RefusesProgram};
+ghost use Rattle.cq_program.specs.Judging.{AddsDecl, TellsDecl, TellsProgram};
 ghost use Rattle.cq_program.specs.Initial.{AreInitial};
 ghost use Rattle.cq_program.specs.Named.{listed_as, listings_in};
-ghost use Rattle.cq_program.specs.Stop.{Halts};
+ghost use Rattle.cq_program.specs.Stop.{TellsHalt};
 
 use crate::imports::reading::read_stated;
 use crate::models::meaning_of;
@@ -79,7 +79,7 @@ pub fn meaning<F: Folder>(
     ensures means { IfOk result (λ named. Means (F.state folder.old).files program.now (map listed_as named.items)) }
     ensures initial { IfOk result (λ named. AreInitial (map listed_as named.items)) }
     ensures keeps { Keeps (F.state folder.old) (F.state folder.new) }
-    ensures refuses { IfErr result (RefusesProgram depth (F.state folder.old) (F.state folder.new) program.now) }
+    ensures refused { IfErr result (TellsProgram depth (F.state folder.old) (F.state folder.new) program.now) }
 {
     match meaning_or_stop(alloc, program, folder, depth) {
         Ok(named) => Ok(named),
@@ -99,7 +99,7 @@ pub fn meaning_or_stop<F: Folder>(
     ensures means { IfOk result (λ named. Means (F.state folder.old).files program.now (map listed_as named.items)) }
     ensures initial { IfOk result (λ named. AreInitial (map listed_as named.items)) }
     ensures keeps { Keeps (F.state folder.old) (F.state folder.new) }
-    ensures halts { IfErr result (Halts depth (F.state folder.old) (F.state folder.new) program.now) }
+    ensures refused { IfErr result (TellsHalt depth (F.state folder.old) (F.state folder.new) program.now) }
 {
     let env = declare_all(alloc, program, folder, depth)?;
     let named = instances_of(alloc, env)?;
@@ -119,7 +119,7 @@ fn declare_all<F: Folder>(
         (environment_of env.names.entries)) }
     ensures settled { IfOk result (λ env. AreSettled (environment_of env.names.entries)) }
     ensures keeps { Keeps (F.state folder.old) (F.state folder.new) }
-    ensures halts { IfErr result (Halts depth (F.state folder.old) (F.state folder.new) program.now) }
+    ensures refused { IfErr result (TellsHalt depth (F.state folder.old) (F.state folder.new) program.now) }
 {
     let mut env = Environment::new(alloc);
     let mut number = 0;
@@ -149,7 +149,7 @@ fn declare<F: Folder>(
     ensures settled { OnOk result (AreSettled (environment_of env.new.names.entries)) }
     ensures unchanged { OnErr result (environment_of env.new.names.entries ≡ environment_of env.old.names.entries) }
     ensures keeps { Keeps (F.state folder.old) (F.state folder.new) }
-    ensures refuses { IfErr result (RefusesDecl depth (F.state folder.old) (F.state folder.new)
+    ensures refused { IfErr result (TellsDecl depth (F.state folder.old) (F.state folder.new)
         (environment_of env.old.names.entries) decl.now) }
 {
     env.make_used(alloc, &decl.body)?;
@@ -176,7 +176,7 @@ fn judge<F: Folder>(
     ensures settled { IfOk result (λ meaning. WillSettle (environment_of env.now.names.entries) decl.now.name
         (meant meaning)) }
     ensures keeps { Keeps (F.state folder.old) (F.state folder.new) }
-    ensures refuses { IfErr result (RefusesDecl depth (F.state folder.old) (F.state folder.new)
+    ensures refused { IfErr result (TellsDecl depth (F.state folder.old) (F.state folder.new)
         (environment_of env.now.names.entries) decl.now) }
 {
     let stated = state(alloc, env, decl)?;

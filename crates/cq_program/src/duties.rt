@@ -1,9 +1,9 @@
 //! Declarations whose duties aren't derived.
 ghost use Rattle.std.specs.Prelude.{ℕ, ◌≡◌};
-ghost use Rattle.cq_check.specs.declared.duties.CheckRefusal.TheVariants as of_check;
+ghost use Rattle.cq_check.specs.declared.refusal.CheckRefusal.TheVariants as of_check;
 ghost use Rattle.cq_program.specs.Program.{Exceeds, Fails};
 ghost use Rattle.cq_program.specs.Posed.{Posed};
-ghost use Rattle.cq_program.specs.Judging.{Withholds};
+ghost use Rattle.cq_program.specs.Judging.{TellsUnmade};
 ghost use Rattle.cq_environment.specs.declared.reason.Reason.TheVariants as reason;
 
 use cq_base::Place;
@@ -16,7 +16,7 @@ pub fn tell_unmet(place: Place, refusal: CheckRefusal) -> ProgramRefusal
         → ((n : ℕ) → refusal ≡ of_check.NotPreserved n → Fails posed (reason.NotPreserved n))
         → ((n : ℕ) → refusal ≡ of_check.Depth n → Exceeds depth posed (reason.DutyDepth n))
         → ((n : ℕ) → refusal ≡ of_check.TooManyRows n → Exceeds depth posed (reason.DutyRows n))
-        → Withholds depth place posed result }
+        → TellsUnmade depth place posed result }
 {
     match refusal {
         CheckRefusal::NotPreserved(duty) => {

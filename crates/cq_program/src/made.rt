@@ -7,7 +7,7 @@ ghost use Rattle.cq_theory.specs.SchemaData.{SchemaData};
 ghost use Rattle.cq_theory.specs.ValueText.{is_named_con, value_text as text_of};
 ghost use Rattle.cq_program.specs.Posed.{a_made};
 ghost use Rattle.cq_environment.specs.Environment.{IsModelled, IsTermModel, meant};
-ghost use Rattle.cq_program.specs.Judging.{IsAnswerOf, Withholds, TellsConstants};
+ghost use Rattle.cq_program.specs.Judging.{IsAnswerOf, TellsUnmade, TellsConstants};
 ghost use Rattle.cq_program.specs.Program.{Stands};
 ghost use Rattle.cq_theory.specs.declared.value.Value.TheVariants.{Const};
 ghost use Rattle.cq_environment.specs.Meanings.{instance};
@@ -34,8 +34,8 @@ pub fn mean_model(
     ensures stands { (S : SchemaData) (P : Presentation) (depth : ℕ) → IsAnswerOf S P depth answer
         → IfOk result (λ meaning. Stands (a_made name S P) (meant meaning)) }
     ensures modelled { IfOk result (λ meaning. IsModelled (meant meaning)) }
-    ensures withholds { (S : SchemaData) (P : Presentation) (depth : ℕ) → typeside.now ≡ S.typeside
-        → IsAnswerOf S P depth answer → IfErr result (Withholds depth place (a_made name S P)) }
+    ensures refused { (S : SchemaData) (P : Presentation) (depth : ℕ) → typeside.now ≡ S.typeside
+        → IsAnswerOf S P depth answer → IfErr result (TellsUnmade depth place (a_made name S P)) }
 {
     match answer {
         Ok(instance) => Ok(share_instance(alloc, name, instance)?),

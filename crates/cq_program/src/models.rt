@@ -3,7 +3,7 @@ ghost use Rattle.std.specs.Prelude.{◌≤◌, IfOk, IfErr};
 ghost use Rattle.cq_program.specs.Program.{Stands};
 ghost use Rattle.cq_environment.specs.Environment.{IsModelled, meant};
 ghost use Rattle.cq_program.specs.Posing.{IsPosed, posed_as};
-ghost use Rattle.cq_program.specs.Judging.{Withholds};
+ghost use Rattle.cq_program.specs.Judging.{TellsUnmade};
 
 use crate::evals::meaning::{mean_coeval, mean_eval};
 use crate::gluing::meaning::{mean_coproduct, mean_pushout};
@@ -33,7 +33,7 @@ pub fn meaning_of(
     requires depth { depth ≤ 64 }
     ensures stands { IfOk result (λ meaning. Stands (posed_as statement) (meant meaning)) }
     ensures modelled { IfOk result (λ meaning. IsModelled (meant meaning)) }
-    ensures withholds { IfErr result (Withholds depth place (posed_as statement)) }
+    ensures refused { IfErr result (TellsUnmade depth place (posed_as statement)) }
 {
     match statement {
         Statement::Typeside(typeside) => Ok(Meaning::Typeside(share_typeside(alloc, typeside)?)),

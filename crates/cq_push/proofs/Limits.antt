@@ -8,8 +8,8 @@ use Rattle.cq_theory.specs.declared.presentation.Sort.{Sort}
 use Rattle.cq_theory.specs.declared.presentation.Equation.{Equation}
 use Rattle.cq_theory.specs.declared.presentation.Presentation.{Presentation}
 use Rattle.cq_theory.specs.SchemaData.{SchemaData as Schema}
-use Rattle.cq_theory.specs.declared.lookup.SizeRefusal.{SizeRefusal}
-use Rattle.cq_theory.specs.declared.lookup.SizeRefusal.TheVariants as size
+use Rattle.cq_theory.specs.declared.refusal.SizeRefusal.{SizeRefusal}
+use Rattle.cq_theory.specs.declared.refusal.SizeRefusal.TheVariants as size
 use Rattle.cq_theory.specs.Canonical.{named}
 use Rattle.cq_theory.specs.Derivation.{left_of, right_of}
 use Rattle.cq_theory.specs.Presentation.{IsSort, IsEquation, IsPresentation, is_long, has_long_side, is_oversized}

@@ -9,11 +9,8 @@ use crate::generators::push_sorts;
 use crate::shifting::push_shifted;
 use cq_base::Seq;
 use cq_terms::name_generators;
-use cq_theory::{Equation, Presentation, SizeRefusal, Sort, has_long_sides};
+use cq_theory::{Equation, MOST_GENERATORS, Presentation, SizeRefusal, Sort, has_long_sides};
 use std::alloc::{AllocError, Global};
-
-/// The most generators of a presentation.
-const MOST_GENERATORS: u32 = 16_000_000;
 
 /// The sorts of the generators so far, and the equations between terms over them.
 pub(crate) struct Gluing {

@@ -15,7 +15,7 @@ use Rattle.std.proofs.Math.Nat.{mul-le-mul_right, suc-mul, zero-mul}
 use Rattle.cq_base.specs.declared.name.Name.{Name}
 use Rattle.cq_theory.specs.declared.presentation.Sort.{Sort}
 use Rattle.cq_theory.specs.declared.presentation.Sort.TheVariants.{Plain, Entity}
-use Rattle.cq_theory.specs.declared.lookup.SizeRefusal.{SizeRefusal}
+use Rattle.cq_theory.specs.declared.refusal.SizeRefusal.{SizeRefusal}
 use Rattle.cq_theory.specs.declared.presentation.Presentation.{Presentation}
 use Rattle.cq_theory.specs.Presentation.{has_long_side, is_oversized}
 use Rattle.cq_theory.specs.Tables.{Tables}

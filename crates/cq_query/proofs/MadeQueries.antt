@@ -13,10 +13,10 @@ use Rattle.cq_base.specs.declared.raw.Raw.{Raw}
 use Rattle.cq_base.specs.Names.{same_name, number_of, AreDistinct}
 use Rattle.cq_theory.specs.declared.lookup.Symbol.{Symbol}
 use Rattle.cq_theory.specs.declared.lookup.Symbol.TheVariants as symbol
-use Rattle.cq_theory.specs.declared.lookup.TermRefusal.{TermRefusal}
-use Rattle.cq_theory.specs.declared.lookup.TermRefusal.TheVariants.{Unknown, WrongCount, WrongSort, Reserved, TooLarge}
-use Rattle.cq_theory.specs.declared.lookup.TheoryRefusal.TheVariants as theory_refusal
-use Rattle.cq_theory.specs.declared.lookup.ArrowRefusal.TheVariants.{Missing}
+use Rattle.cq_theory.specs.declared.refusal.TermRefusal.{TermRefusal}
+use Rattle.cq_theory.specs.declared.refusal.TermRefusal.TheVariants.{Unknown, WrongCount, WrongSort, Reserved, TooLarge}
+use Rattle.cq_theory.specs.declared.refusal.TheoryRefusal.TheVariants as theory_refusal
+use Rattle.cq_theory.specs.declared.refusal.ArrowRefusal.TheVariants.{Missing}
 use Rattle.cq_theory.specs.declared.presentation.Equation.{Equation}
 use Rattle.cq_theory.specs.declared.presentation.Presentation.{Presentation}
 use Rattle.cq_theory.specs.declared.presentation.Sort.{Sort}

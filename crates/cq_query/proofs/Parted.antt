@@ -11,8 +11,8 @@ use Rattle.std.proofs.lemmas.Option.{get_or_from_slice_get}
 use Rattle.cq_base.specs.declared.name.Name.{Name}
 use Rattle.cq_base.specs.Names.{same_name, number_of, AreDistinct}
 use Rattle.cq_base.proofs.Numbers.{position-cons, AreDistinct-more}
-use Rattle.cq_theory.specs.declared.lookup.TheoryRefusal.{TheoryRefusal}
-use Rattle.cq_theory.specs.declared.lookup.TheoryRefusal.TheVariants.{TooLarge, WrongSort, Unknown}
+use Rattle.cq_theory.specs.declared.refusal.TheoryRefusal.{TheoryRefusal}
+use Rattle.cq_theory.specs.declared.refusal.TheoryRefusal.TheVariants.{TooLarge, WrongSort, Unknown}
 use Rattle.cq_theory.specs.SchemaData.{SchemaData as Schema}
 use Rattle.cq_theory.specs.Schema.{IsSchema}
 use Rattle.cq_theory.specs.Canonical.{below}

@@ -1,6 +1,6 @@
 -- The first fault of the parts of a query, and the query that they give.
 use Rattle.std.specs.Prelude.{length, Option, option_map}
-use Rattle.cq_theory.specs.declared.lookup.ArrowRefusal.{ArrowRefusal}
+use Rattle.cq_theory.specs.declared.refusal.ArrowRefusal.{ArrowRefusal}
 use Rattle.cq_theory.specs.SchemaData.{SchemaData as Schema}
 use Rattle.cq_theory.specs.ArrowRefusals.{of_arrow, first_missing}
 use Rattle.cq_theory.specs.Resolve.{or_else}

@@ -12,11 +12,8 @@ use crate::rows::{Layout, push_rows};
 use crate::sorts::build_generators;
 use cq_base::{Seq, number_at};
 use cq_terms::push_entries;
-use cq_theory::{Algebra, Presentation, Sheet, SizeRefusal, has_long_sides};
+use cq_theory::{Algebra, MOST_GENERATORS, Presentation, Sheet, SizeRefusal, has_long_sides};
 use std::alloc::{AllocError, Global};
-
-/// The most generators of a presentation.
-const MOST_GENERATORS: u32 = 16_000_000;
 
 impl Query {
     /// The presentation of coeval, over tables of the target: a generator for each row and each variable of its

@@ -13,8 +13,8 @@ use Rattle.cq_base.specs.declared.name.Name.{Name}
 use Rattle.cq_base.specs.declared.raw.Raw.{Raw}
 use Rattle.cq_base.specs.Names.{number_of, same_name}
 use Rattle.cq_base.proofs.Numbers.{position-cons}
-use Rattle.cq_theory.specs.declared.lookup.TermRefusal.TheVariants as refusal
-use Rattle.cq_theory.specs.declared.lookup.TheoryRefusal.TheVariants as theory_refusal
+use Rattle.cq_theory.specs.declared.refusal.TermRefusal.TheVariants as refusal
+use Rattle.cq_theory.specs.declared.refusal.TheoryRefusal.TheVariants as theory_refusal
 use Rattle.cq_theory.specs.declared.presentation.Equation.{Equation}
 use Rattle.cq_theory.specs.declared.presentation.Equation.TheVariants as equation
 use Rattle.cq_theory.specs.declared.presentation.Presentation.{Presentation}

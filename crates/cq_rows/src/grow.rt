@@ -11,13 +11,14 @@ ghost use Rattle.cq_rows.specs.Rows as rows;
 ghost use Rattle.cq_rows.specs.Entries.{rows_of};
 ghost use Rattle.cq_rows.specs.Stage.{IsStage};
 ghost use Rattle.cq_rows.specs.Saturated as saturated;
-ghost use Rattle.cq_rows.specs.declared.grow.RowsRefusal.TheVariants.{TooManyRows, Memory};
+ghost use Rattle.cq_rows.specs.declared.refusal.RowsRefusal.TheVariants.{TooManyRows, Memory};
 
 use crate::ahead::{is_wide, weight};
 use crate::entries::Entries;
 use crate::fill::{all_filled, count_live, fill};
 use crate::origin::Origin;
 use crate::outline::Outline;
+use crate::refusal::RowsRefusal;
 use crate::settle::settle;
 use cq_base::Seq;
 use cq_tables::Tables;
@@ -45,24 +46,6 @@ impl Drop for Partial {
             generator_rows: _,
             closed: _,
         } = self;
-    }
-}
-
-/// Why there are no rows.
-#[derive(Clone, Copy, Debug, PartialEq, Eq)]
-pub enum RowsRefusal {
-    /// A stage ended with more than 200,000 live rows, or one would, whatever equations join.
-    TooManyRows,
-    Memory,
-}
-
-impl From<AllocError> for RowsRefusal {
-    ghost use Rattle.cq_rows.specs.declared.grow.RowsRefusal.TheVariants.{Memory};
-
-    ghost from_gives = { λ _ e. e ≡ Memory };
-
-    fn from(_error: AllocError) -> RowsRefusal {
-        RowsRefusal::Memory
     }
 }
 

@@ -9,10 +9,12 @@ mod join;
 mod merge;
 mod origin;
 mod outline;
+mod refusal;
 mod renamings;
 mod settle;
 mod unread;
 mod waiting;
 
-pub use grow::{MOST_ROWS, Partial, RowsRefusal, saturate, saturate_over};
+pub use grow::{MOST_ROWS, Partial, saturate, saturate_over};
 pub use outline::Outline;
+pub use refusal::RowsRefusal;

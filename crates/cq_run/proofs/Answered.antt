@@ -4,13 +4,13 @@ use Rattle.cq_io.specs.FolderData.{FolderData}
 use Rattle.cq_import.specs.Folders.{Keeps}
 use Rattle.cq_io.specs.Counts.{Rose}
 use Rattle.cq_io.specs.Reads.{IsReadOf}
-use Rattle.cq_io.specs.declared.folder.ReadRefusal.{ReadRefusal}
-use Rattle.cq_io.specs.declared.folder.ReadRefusal.TheVariants as refused
+use Rattle.cq_io.specs.declared.refusal.ReadRefusal.{ReadRefusal}
+use Rattle.cq_io.specs.declared.refusal.ReadRefusal.TheVariants as refused
 use Rattle.cq_program.specs.Folders.{Raised, Told}
 use Rattle.cq_program.specs.Named.{listed_as}
 use Rattle.cq_program.specs.Program.{Lacks}
-use Rattle.cq_environment.specs.declared.reason.ReadCause.{ReadCause}
-use Rattle.cq_environment.specs.declared.reason.ReadCause.TheVariants.{Absent, TooLong, Failed}
+use Rattle.cq_environment.specs.declared.refusal.ReadCause.{ReadCause}
+use Rattle.cq_environment.specs.declared.refusal.ReadCause.TheVariants.{Absent, TooLong, Failed}
 use Rattle.cq_run.specs.Ask.{depth_asked, file_asked}
 use Rattle.cq_run.specs.Answer.{Answers, IsRefusalOf, Judges, SaysRead, SaysUnread}
 use Rattle.cq_run.specs.Clause.{IsCauseOf, IsTextIn, IsTextOf, IsUnread, LacksText, file_limit}

@@ -12,8 +12,8 @@ use Rattle.cq_program.proofs.Breaches.{means_is_there}
 use Rattle.cq_program.specs.Folders.{Raised, Told}
 use Rattle.cq_program.specs.Program as program
 use Rattle.cq_program.specs.Program.{Lacks, Listing}
-use Rattle.cq_environment.specs.declared.reason.ReadCause.{ReadCause}
-use Rattle.cq_environment.specs.declared.reason.ReadCause.TheVariants.{Absent, TooLong, Failed}
+use Rattle.cq_environment.specs.declared.refusal.ReadCause.{ReadCause}
+use Rattle.cq_environment.specs.declared.refusal.ReadCause.TheVariants.{Absent, TooLong, Failed}
 use Rattle.cq_run.proofs.OneTranscript.{one_tree}
 use Rattle.cq_run.specs.Ask.{depth_asked, only_asked}
 use Rattle.cq_run.specs.Choice.{is_of, kept_by}

@@ -13,8 +13,8 @@ use Rattle.cq_parse.specs.declared.refusal.ParseRefusal.TheVariants as grammatic
 use Rattle.cq_parse.specs.Parsed.{IsRefused, RefusedWith}
 use Rattle.cq_io.specs.FolderData.{FolderData}
 use Rattle.cq_program.specs.Folders.{Told}
-use Rattle.cq_program.specs.Judging.{RefusesProgram}
-use Rattle.cq_program.specs.Stop.{Halts, refusal_at}
+use Rattle.cq_program.specs.Judging.{TellsProgram}
+use Rattle.cq_program.specs.Stop.{TellsHalt, refusal_at}
 use Rattle.cq_program.specs.declared.stops.Fault.{Fault}
 use Rattle.cq_program.specs.declared.stops.Fault.TheVariants as fault
 use Rattle.cq_program.specs.declared.stops.Halt.{Halt}
@@ -45,7 +45,7 @@ by_tree depth before after tokens tree answer.Memory is only judged = tt
 
 -- what is wrong with a declaration, told
 by_fault : (depth : ℕ) (before after : FolderData) (tree : Program) (wrong : Fault) (a : Answer)
-    → RefusesProgram depth before after tree (refusal_at wrong) → SaysFault wrong a → JudgesProgram depth before after tree a
+    → TellsProgram depth before after tree (refusal_at wrong) → SaysFault wrong a → JudgesProgram depth before after tree a
 by_fault depth before after tree (fault.Broken place reason) (answer.Accepted instances) tells bad = absurd bad
 by_fault depth before after tree (fault.Broken place reason) (answer.Unread line) tells bad = absurd bad
 by_fault depth before after tree (fault.Broken place reason) (answer.Refused line) tells says =
@@ -59,9 +59,9 @@ by_fault depth before after tree (fault.Unread file cause) answer.Memory tells s
 
 -- where a program stops, told
 pub by_stop : (depth : ℕ) (before after : FolderData) (tree : Program) (h : Halt) (stop : Stop) (a : Answer) → h ≡ halt.Stopped stop
-    → Halts depth before after tree h → SaysFault stop.fault a → JudgesProgram depth before after tree a
+    → TellsHalt depth before after tree h → SaysFault stop.fault a → JudgesProgram depth before after tree a
 by_stop depth before after tree h stop a is halts says =
-    let halted : Halts depth before after tree (halt.Stopped stop) = subst (Halts depth before after tree) is halts in
+    let halted : TellsHalt depth before after tree (halt.Stopped stop) = subst (TellsHalt depth before after tree) is halts in
     by_fault depth before after tree stop.fault a halted.1 says
 
 -- what is told of a refusal is its line

@@ -9,7 +9,7 @@ use Rattle.cq_parse.specs.declared.refusal.ParseRefusal.{ParseRefusal}
 use Rattle.cq_parse.specs.declared.refusal.ParseRefusal.TheVariants as grammatical
 use Rattle.cq_program.specs.Program as program
 use Rattle.cq_program.specs.Program.{Listing}
-use Rattle.cq_program.specs.Stop.{Halts, MeetRules, StopsAt}
+use Rattle.cq_program.specs.Stop.{TellsHalt, MeetRules, StopsAt}
 use Rattle.cq_program.specs.declared.stops.Halt.{Halt}
 use Rattle.cq_program.specs.declared.stops.Halt.TheVariants as halt
 use Rattle.cq_program.specs.declared.stops.Stop.{Stop}
@@ -50,9 +50,9 @@ stop_of_meaning depth told tree listings a means =
 
 -- a program that stops
 pub stop_of_halt : (depth : ℕ) (before after : FolderData) (tree : Program) (h : Halt) (stop : Stop) (a : Answer) (made : Option Stop)
-    → h ≡ halt.Stopped stop → Halts depth before after tree h → made ≡ Some stop → HasStop (λ t. t ≡ tree) depth before.files a made
+    → h ≡ halt.Stopped stop → TellsHalt depth before after tree h → made ≡ Some stop → HasStop (λ t. t ≡ tree) depth before.files a made
 stop_of_halt depth before after tree h stop a made is halts same =
-    let halted : Halts depth before after tree (halt.Stopped stop) = subst (Halts depth before after tree) is halts in
+    let halted : TellsHalt depth before after tree (halt.Stopped stop) = subst (TellsHalt depth before after tree) is halts in
     let at : StopsAt depth before.files tree stop = halted.0 in
     subst (HasStop (λ t. t ≡ tree) depth before.files a) (sym same) (tree, refl, at)
 

@@ -2,13 +2,13 @@
 use Rattle.std.specs.Prelude.{◌≡◌, ℕ, List, map}
 use Rattle.cq_export.specs.Held.{files_held}
 use Rattle.cq_io.specs.FolderData.{FolderData}
-use Rattle.cq_io.specs.declared.folder.ReadRefusal.{ReadRefusal}
-use Rattle.cq_io.specs.declared.folder.ReadRefusal.TheVariants as refused
+use Rattle.cq_io.specs.declared.refusal.ReadRefusal.{ReadRefusal}
+use Rattle.cq_io.specs.declared.refusal.ReadRefusal.TheVariants as refused
 use Rattle.cq_program.specs.Folders.{Told}
 use Rattle.cq_program.specs.Named.{listed_as}
 use Rattle.cq_program.specs.Program.{Listing}
-use Rattle.cq_environment.specs.declared.reason.ReadCause.{ReadCause}
-use Rattle.cq_environment.specs.declared.reason.ReadCause.TheVariants.{Absent, TooLong, Failed}
+use Rattle.cq_environment.specs.declared.refusal.ReadCause.{ReadCause}
+use Rattle.cq_environment.specs.declared.refusal.ReadCause.TheVariants.{Absent, TooLong, Failed}
 use Rattle.cq_run.specs.Ask.{depth_asked}
 use Rattle.cq_run.specs.Clause.{IsTextOf, IsUnreadLine}
 use Rattle.cq_run.specs.Files.{files_of}

@@ -15,8 +15,8 @@ use Rattle.cq_io.specs.Reads.{IsLonger}
 use Rattle.cq_io.specs.Writes.{Appends, AppendsSome, LacksRoom}
 use Rattle.cq_program.specs.Folders.{Raised, Told}
 use Rattle.cq_program.specs.Program.{Listing}
-use Rattle.cq_environment.specs.declared.reason.ReadCause.{ReadCause}
-use Rattle.cq_environment.specs.declared.reason.ReadCause.TheVariants.{Absent, TooLong, Failed}
+use Rattle.cq_environment.specs.declared.refusal.ReadCause.{ReadCause}
+use Rattle.cq_environment.specs.declared.refusal.ReadCause.TheVariants.{Absent, TooLong, Failed}
 use Rattle.cq_run.specs.Ask.{depth_asked, only_asked}
 use Rattle.cq_run.specs.Files.{files_of}
 use Rattle.cq_run.specs.Lines.{usage_line, read_line}

@@ -2,8 +2,8 @@
 use Rattle.std.specs.Prelude.{ℕ, List, [], ◌++◌, codes}
 use Rattle.cq_base.specs.declared.place.Place.{Place}
 use Rattle.cq_environment.specs.Lines.{line_of}
-use Rattle.cq_environment.specs.declared.reason.ReadCause.{ReadCause}
-use Rattle.cq_environment.specs.declared.reason.ReadCause.TheVariants.{Absent, TooLong, Failed}
+use Rattle.cq_environment.specs.declared.refusal.ReadCause.{ReadCause}
+use Rattle.cq_environment.specs.declared.refusal.ReadCause.TheVariants.{Absent, TooLong, Failed}
 
 abbrev pub usage_line : List ℕ
 usage_line = codes "usage: cqlrun run FILE [--depth K] [--only csv|cql]\n"

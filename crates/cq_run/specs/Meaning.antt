@@ -12,7 +12,7 @@ use Rattle.cq_parse.specs.declared.refusal.ParseRefusal.{ParseRefusal}
 use Rattle.cq_parse.specs.declared.refusal.ParseRefusal.TheVariants as grammatical
 use Rattle.cq_parse.specs.Parsed.{RefusedWith}
 use Rattle.cq_io.specs.FolderData.{FolderData}
-use Rattle.cq_environment.specs.declared.reason.ReadCause.{ReadCause}
+use Rattle.cq_environment.specs.declared.refusal.ReadCause.{ReadCause}
 use Rattle.cq_environment.specs.declared.reason.Reason.{Reason}
 use Rattle.cq_program.specs.Folders.{Raised, Told}
 use Rattle.cq_environment.specs.Lines.{line_of, reason_line}

@@ -21,3 +21,13 @@ pub record Scene : Type 0 where
   pub folder : FolderData
   pub out : Drain
   pub outlets : Outlets
+
+-- the sink, the lists of exporters, and all of them, by what a contract sees of each
+abbrev pub drain_of : Option (List ℕ) → ℕ → Option ℕ → Drain
+drain_of held faults spare = record { held = held; faults = faults; spare = spare }
+
+abbrev pub outlets_of : List Account → List Account → Outlets
+outlets_of exporters spoiled = record { exporters = exporters; spoiled = spoiled }
+
+abbrev pub scene_of : FolderData → Drain → Outlets → Scene
+scene_of folder out outlets = record { folder = folder; out = out; outlets = outlets }

@@ -5,6 +5,7 @@ ghost use Rattle.cq_program.specs.Named.{listed_as};
 ghost use Rattle.cq_run.specs.Asked.{IsReply};
 ghost use Rattle.cq_run.specs.Clause.{RunGives, Succeeds};
 ghost use Rattle.cq_run.specs.Files.{files_of};
+ghost use Rattle.cq_run.specs.Scene.{drain_of, outlets_of, scene_of};
 ghost use Rattle.cq_run.specs.Summary.{shown_in};
 ghost use Rattle.cq_run.specs.Writing.{IsMeant, Publishes, Replied, Stage, Tells};
 ghost use Rattle.cq_words.specs.Ask.{ask_of};
@@ -53,28 +54,20 @@ pub fn run<F: Folder, K: Sink>(
 ) -> Status
     ensures files { (F.state folder.new).files ≡ (F.state folder.old).files }
     ensures gives { RunGives (reads (map string_bytes words.now))
-        (record {
-          folder = F.state folder.old;
-          out = record { held = K.held out.old; faults = K.faults out.old; spare = K.spare out.old };
-          outlets = record { exporters = map account exporters.old.items; spoiled = map account spoiled.old.items };
-        })
-        (record {
-          folder = F.state folder.new;
-          out = record { held = K.held out.new; faults = K.faults out.new; spare = K.spare out.new };
-          outlets = record { exporters = map account exporters.new.items; spoiled = map account spoiled.new.items };
-        })
+        (scene_of (F.state folder.old)
+        (drain_of (K.held out.old) (K.faults out.old) (K.spare out.old))
+        (outlets_of (map account exporters.old.items) (map account spoiled.old.items)))
+        (scene_of (F.state folder.new)
+        (drain_of (K.held out.new) (K.faults out.new) (K.spare out.new))
+        (outlets_of (map account exporters.new.items) (map account spoiled.new.items)))
         result }
     ensures complete { Succeeds (reads (map string_bytes words.now))
-        (record {
-          folder = F.state folder.old;
-          out = record { held = K.held out.old; faults = K.faults out.old; spare = K.spare out.old };
-          outlets = record { exporters = map account exporters.old.items; spoiled = map account spoiled.old.items };
-        })
-        (record {
-          folder = F.state folder.new;
-          out = record { held = K.held out.new; faults = K.faults out.new; spare = K.spare out.new };
-          outlets = record { exporters = map account exporters.new.items; spoiled = map account spoiled.new.items };
-        })
+        (scene_of (F.state folder.old)
+        (drain_of (K.held out.old) (K.faults out.old) (K.spare out.old))
+        (outlets_of (map account exporters.old.items) (map account spoiled.old.items)))
+        (scene_of (F.state folder.new)
+        (drain_of (K.held out.new) (K.faults out.new) (K.spare out.new))
+        (outlets_of (map account exporters.new.items) (map account spoiled.new.items)))
         result }
 {
     match read_words(alloc, words) {
@@ -96,8 +89,8 @@ pub fn run<F: Folder, K: Sink>(
 
 /// Writes the line that is due, with the status that the run then has.
 fn tell<K: Sink>(out: &mut K, line: &[u8], wanted: Status) -> Status
-    ensures { Tells wanted result (record { held = K.held out.old; faults = K.faults out.old; spare = K.spare out.old })
-        (record { held = K.held out.new; faults = K.faults out.new; spare = K.spare out.new }) line.now }
+    ensures { Tells wanted result (drain_of (K.held out.old) (K.faults out.old) (K.spare out.old))
+        (drain_of (K.held out.new) (K.faults out.new) (K.spare out.new)) line.now }
 {
     match out.write_all(line) {
         Ok(()) => wanted,
@@ -116,10 +109,10 @@ fn publish<K: Sink>(
 ) -> Status
     requires { IsMeant (map listed_as instances.items) }
     ensures { Publishes (ask_of request.entry) (map listed_as instances.items)
-        (record { held = K.held out.old; faults = K.faults out.old; spare = K.spare out.old })
-        (record { held = K.held out.new; faults = K.faults out.new; spare = K.spare out.new })
-        (record { exporters = map account exporters.old.items; spoiled = map account spoiled.old.items })
-        (record { exporters = map account exporters.new.items; spoiled = map account spoiled.new.items })
+        (drain_of (K.held out.old) (K.faults out.old) (K.spare out.old))
+        (drain_of (K.held out.new) (K.faults out.new) (K.spare out.new))
+        (outlets_of (map account exporters.old.items) (map account spoiled.old.items))
+        (outlets_of (map account exporters.new.items) (map account spoiled.new.items))
         result }
 {
     match request {
@@ -152,8 +145,8 @@ fn answer_question<K: Sink>(
 ) -> Status
     requires { IsMeant (map listed_as instances.now) }
     ensures { Replied (IsReply name.now left.now right.now (map listed_as instances.now))
-        (record { held = K.held out.old; faults = K.faults out.old; spare = K.spare out.old })
-        (record { held = K.held out.new; faults = K.faults out.new; spare = K.spare out.new })
+        (drain_of (K.held out.old) (K.faults out.old) (K.spare out.old))
+        (drain_of (K.held out.new) (K.faults out.new) (K.spare out.new))
         result }
 {
     match reply_to(alloc, instances, name, left, right) {
@@ -172,10 +165,10 @@ fn export_all<K: Sink>(
     out: &mut K,
 ) -> Status
     ensures { Stage (files_of (map listed_as instances.items)) (shown_in view (map listed_as instances.items))
-        (record { held = K.held out.old; faults = K.faults out.old; spare = K.spare out.old })
-        (record { held = K.held out.new; faults = K.faults out.new; spare = K.spare out.new })
-        (record { exporters = map account exporters.old.items; spoiled = map account spoiled.old.items })
-        (record { exporters = map account exporters.new.items; spoiled = map account spoiled.new.items })
+        (drain_of (K.held out.old) (K.faults out.old) (K.spare out.old))
+        (drain_of (K.held out.new) (K.faults out.new) (K.spare out.new))
+        (outlets_of (map account exporters.old.items) (map account spoiled.old.items))
+        (outlets_of (map account exporters.new.items) (map account spoiled.new.items))
         result }
 {
     let output = output_of(alloc, view, instances.as_slice());
@@ -196,10 +189,10 @@ fn export<K: Sink>(
     output: &Output,
 ) -> Status
     ensures { Stage (files_held output.now.files) output.now.shown.items
-        (record { held = K.held out.old; faults = K.faults out.old; spare = K.spare out.old })
-        (record { held = K.held out.new; faults = K.faults out.new; spare = K.spare out.new })
-        (record { exporters = map account exporters.old.items; spoiled = map account spoiled.old.items })
-        (record { exporters = map account exporters.new.items; spoiled = map account spoiled.new.items })
+        (drain_of (K.held out.old) (K.faults out.old) (K.spare out.old))
+        (drain_of (K.held out.new) (K.faults out.new) (K.spare out.new))
+        (outlets_of (map account exporters.old.items) (map account spoiled.old.items))
+        (outlets_of (map account exporters.new.items) (map account spoiled.new.items))
         result }
 {
     let Ok(()) = spoiled.reserve(exporters.len()) else {

@@ -2,7 +2,7 @@
 use Rattle.std.proofs.Common.{ℕ, zero, suc, Bool, true, false, not, List, [], ◌∷◌, Option, Some, None, ◌≡◌, ◌+◌, ◌≤◌, ◌||◌, map, refl, sym, ap, ◌∙◌, arith}
 use Rattle.std.specs.Prelude.{cond, slice_get, nat_lt, option_map}
 use Rattle.std.proofs.lemmas.Bool.Decides.{nat_tests}
-use Rattle.cq_theory.specs.declared.lookup.TermRefusal.{TermRefusal}
+use Rattle.cq_theory.specs.declared.refusal.TermRefusal.{TermRefusal}
 use Rattle.cq_theory.specs.Resolve.{in_part, first_fault}
 use Rattle.cq_theory.proofs.DeclaredParts.{or_else_none}
 

@@ -9,7 +9,7 @@ use Rattle.std.proofs.lemmas.Bool.{eqb-true}
 use Rattle.cq_base.specs.declared.name.Name.{Name}
 use Rattle.cq_base.specs.Names.{number_of}
 use Rattle.cq_base.proofs.Numbers.{number_of-within}
-use Rattle.cq_theory.specs.declared.lookup.TermRefusal.TheVariants.{Unknown, WrongSort, TooLarge}
+use Rattle.cq_theory.specs.declared.refusal.TermRefusal.TheVariants.{Unknown, WrongSort, TooLarge}
 use Rattle.cq_theory.specs.declared.schema.Edge.{Edge}
 use Rattle.cq_theory.specs.declared.schema.PathEq.{PathEq}
 use Rattle.cq_theory.specs.SchemaData.{SchemaData as Schema}

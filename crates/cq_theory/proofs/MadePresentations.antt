@@ -11,8 +11,8 @@ use Rattle.cq_base.specs.declared.name.Name.{Name}
 use Rattle.cq_base.specs.declared.raw.Raw.{Raw}
 use Rattle.cq_base.specs.Names.{number_of, AreDistinct}
 use Rattle.cq_base.proofs.Numbers.{number_of-within}
-use Rattle.cq_theory.specs.declared.lookup.TermRefusal.TheVariants as term_refusal
-use Rattle.cq_theory.specs.declared.lookup.TheoryRefusal.TheVariants.{Unknown, TooLarge}
+use Rattle.cq_theory.specs.declared.refusal.TermRefusal.TheVariants as term_refusal
+use Rattle.cq_theory.specs.declared.refusal.TheoryRefusal.TheVariants.{Unknown, TooLarge}
 use Rattle.cq_theory.specs.declared.presentation.Equation.{Equation}
 use Rattle.cq_theory.specs.declared.presentation.Sort.{Sort}
 use Rattle.cq_theory.specs.declared.presentation.Sort.TheVariants.{Plain, Entity}

@@ -7,8 +7,8 @@ use Rattle.std.proofs.lemmas.List.Elements.{All-nil, All-cons, All-map}
 use Rattle.cq_base.specs.declared.name.Name.{Name}
 use Rattle.cq_base.specs.Names.{number_of, AreDistinct}
 use Rattle.cq_base.proofs.Numbers.{number_of-within}
-use Rattle.cq_theory.specs.declared.lookup.TheoryRefusal.{TheoryRefusal}
-use Rattle.cq_theory.specs.declared.lookup.TheoryRefusal.TheVariants.{Unknown, Reserved, Memory}
+use Rattle.cq_theory.specs.declared.refusal.TheoryRefusal.{TheoryRefusal}
+use Rattle.cq_theory.specs.declared.refusal.TheoryRefusal.TheVariants.{Unknown, Reserved, Memory}
 use Rattle.cq_theory.specs.declared.parts.TypesideParts.{TypesideParts}
 use Rattle.cq_theory.specs.declared.typeside.Fun.{Fun}
 use Rattle.cq_theory.specs.TypesideData.{TypesideData as Typeside}

@@ -1,11 +1,11 @@
 -- Why parts make no mapping or query.
 use Rattle.std.specs.Prelude.{List, [], ◌∷◌, if◌then◌else◌, Option, Some, None}
 use Rattle.cq_base.specs.declared.name.Name.{Name}
-use Rattle.cq_theory.specs.declared.lookup.TheoryRefusal.{TheoryRefusal}
-use Rattle.cq_theory.specs.declared.lookup.TheoryRefusal.TheVariants as theory_refusal
-use Rattle.cq_theory.specs.declared.lookup.ArrowRefusal.{ArrowRefusal}
-use Rattle.cq_theory.specs.declared.lookup.ArrowRefusal.TheVariants.{Duplicate, Unknown, WrongCount, WrongSort, Reserved, TooLarge, Missing}
-use Rattle.cq_theory.specs.declared.lookup.ArrowRefusal.TheVariants.{Memory}
+use Rattle.cq_theory.specs.declared.refusal.TheoryRefusal.{TheoryRefusal}
+use Rattle.cq_theory.specs.declared.refusal.TheoryRefusal.TheVariants as theory_refusal
+use Rattle.cq_theory.specs.declared.refusal.ArrowRefusal.{ArrowRefusal}
+use Rattle.cq_theory.specs.declared.refusal.ArrowRefusal.TheVariants.{Duplicate, Unknown, WrongCount, WrongSort, Reserved, TooLarge, Missing}
+use Rattle.cq_theory.specs.declared.refusal.ArrowRefusal.TheVariants.{Memory}
 use Rattle.cq_theory.specs.Paths.{is_among}
 
 -- the same refusal, of a mapping or a query

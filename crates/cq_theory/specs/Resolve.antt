@@ -13,12 +13,12 @@ use Rattle.cq_theory.specs.declared.presentation.Sort.{Sort}
 use Rattle.cq_theory.specs.declared.presentation.Sort.TheVariants.{Plain, Entity}
 use Rattle.cq_theory.specs.declared.lookup.Symbol.{Symbol}
 use Rattle.cq_theory.specs.declared.lookup.Symbol.TheVariants.{Function, Key, Attribute}
-use Rattle.cq_theory.specs.declared.lookup.TermRefusal.{TermRefusal}
-use Rattle.cq_theory.specs.declared.lookup.TermRefusal.TheVariants.{Unknown, WrongCount, WrongSort, Reserved, TooLarge, Memory}
-use Rattle.cq_theory.specs.declared.lookup.TheoryRefusal.{TheoryRefusal}
-use Rattle.cq_theory.specs.declared.lookup.TheoryRefusal.TheVariants.{Unknown as UnknownIn, WrongCount as WrongCountIn}
-use Rattle.cq_theory.specs.declared.lookup.TheoryRefusal.TheVariants.{WrongSort as WrongSortIn, Reserved as ReservedIn}
-use Rattle.cq_theory.specs.declared.lookup.TheoryRefusal.TheVariants.{TooLarge as TooLargeIn, Memory as OutOfMemory}
+use Rattle.cq_theory.specs.declared.refusal.TermRefusal.{TermRefusal}
+use Rattle.cq_theory.specs.declared.refusal.TermRefusal.TheVariants.{Unknown, WrongCount, WrongSort, Reserved, TooLarge, Memory}
+use Rattle.cq_theory.specs.declared.refusal.TheoryRefusal.{TheoryRefusal}
+use Rattle.cq_theory.specs.declared.refusal.TheoryRefusal.TheVariants.{Unknown as UnknownIn, WrongCount as WrongCountIn}
+use Rattle.cq_theory.specs.declared.refusal.TheoryRefusal.TheVariants.{WrongSort as WrongSortIn, Reserved as ReservedIn}
+use Rattle.cq_theory.specs.declared.refusal.TheoryRefusal.TheVariants.{TooLarge as TooLargeIn, Memory as OutOfMemory}
 use Rattle.cq_theory.specs.SchemaData.{SchemaData as Schema}
 use Rattle.cq_theory.specs.TypesideData.{TypesideData as Typeside}
 use Rattle.cq_theory.specs.declared.typeside.Fun.{Fun}

@@ -8,10 +8,10 @@ use Rattle.cq_base.specs.declared.raw.Raw.TheOpen.{Raw-F, Word, Text, App}
 use Rattle.cq_base.specs.declared.raw.Raw.TheFolds.{fold-Raw, para-Raw}
 use Rattle.cq_theory.specs.declared.lookup.Symbol.{Symbol}
 use Rattle.cq_theory.specs.declared.lookup.Symbol.TheVariants.{Key, Attribute}
-use Rattle.cq_theory.specs.declared.lookup.TermRefusal.{TermRefusal}
-use Rattle.cq_theory.specs.declared.lookup.TermRefusal.TheVariants as term_refusal
-use Rattle.cq_theory.specs.declared.lookup.TheoryRefusal.{TheoryRefusal}
-use Rattle.cq_theory.specs.declared.lookup.TheoryRefusal.TheVariants.{Unknown, WrongSort}
+use Rattle.cq_theory.specs.declared.refusal.TermRefusal.{TermRefusal}
+use Rattle.cq_theory.specs.declared.refusal.TermRefusal.TheVariants as term_refusal
+use Rattle.cq_theory.specs.declared.refusal.TheoryRefusal.{TheoryRefusal}
+use Rattle.cq_theory.specs.declared.refusal.TheoryRefusal.TheVariants.{Unknown, WrongSort}
 use Rattle.cq_theory.specs.declared.parts.ObsPart.{ObsPart}
 use Rattle.cq_theory.specs.declared.parts.SchemaParts.{SchemaParts}
 use Rattle.cq_theory.specs.declared.presentation.Sort.{Sort}

@@ -3,8 +3,8 @@ use Rattle.std.specs.Prelude.{ℕ, Bool, List, [], ◌+◌, ◌||◌, if◌then�
 use Rattle.std.specs.List.{list_any}
 use Rattle.cq_base.specs.declared.name.Name.{Name}
 use Rattle.cq_base.specs.Names.{number_of}
-use Rattle.cq_theory.specs.declared.lookup.TheoryRefusal.{TheoryRefusal}
-use Rattle.cq_theory.specs.declared.lookup.TheoryRefusal.TheVariants.{Unknown, Reserved}
+use Rattle.cq_theory.specs.declared.refusal.TheoryRefusal.{TheoryRefusal}
+use Rattle.cq_theory.specs.declared.refusal.TheoryRefusal.TheVariants.{Unknown, Reserved}
 use Rattle.cq_theory.specs.declared.parts.TypesideParts.{TypesideParts}
 use Rattle.cq_theory.specs.declared.typeside.Fun.{Fun}
 use Rattle.cq_theory.specs.TypesideData.{TypesideData as Typeside}

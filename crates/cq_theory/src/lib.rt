@@ -24,6 +24,7 @@ pub mod lookup;
 pub mod parts;
 pub mod path;
 pub mod presentation;
+pub mod refusal;
 pub mod route;
 pub mod schema;
 pub mod sizes;
@@ -38,13 +39,14 @@ pub use beginnings::{
 };
 pub use constant::{Con, is_reserved};
 pub use groups::{Groups, empty_groups, sealed};
-pub use lookup::{ArrowRefusal, SizeRefusal, Symbol, TermRefusal, TheoryRefusal, resolve};
+pub use lookup::{Symbol, resolve};
 pub use parts::{
     ArrowImage, ArrowPart, ColimitParts, MappingParts, ObsPart, PresentationParts, SchemaParts,
     TypesideParts,
 };
 pub use path::Path;
-pub use presentation::{Equation, Presentation, Sort};
+pub use presentation::{Equation, MOST_GENERATORS, Presentation, Sort};
+pub use refusal::{ArrowRefusal, SizeRefusal, TermRefusal, TheoryRefusal};
 pub use route::{Route, resolve_path};
 pub use schema::{Edge, ObsEq, PathEq, Schema};
 pub use sizes::{has_long_sides, is_long_entity, is_long_type, is_long_value};

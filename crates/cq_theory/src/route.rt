@@ -5,9 +5,9 @@ ghost use Rattle.cq_theory.specs.Routes.{entity_ends as ends_at_entity, attribut
 ghost use Rattle.cq_theory.specs.Routes.{path_ends as ends_of, path_symbols, path_fault as fault_of_path};
 ghost use Rattle.cq_theory.specs.Routes.{ends_or_first, routed};
 
-use crate::lookup::TermRefusal;
 use crate::lookup::paths::{count_keys, has_unknown_name, path_end, path_keys, path_start};
 use crate::presentation::Sort;
+use crate::refusal::TermRefusal;
 use crate::schema::{Edge, Schema};
 use cq_base::{Name, Seq};
 use std::alloc::{AllocError, Global};

@@ -9,12 +9,13 @@ ghost use Rattle.cq_theory.specs.SchemaParts.{rest_fault, completed, schema_faul
 ghost use Rattle.cq_theory.specs.Resolve.{or_else, constant_of, text_constant, symbol_of, sort_named};
 
 use crate::constant::Con;
+use crate::lookup::Symbol;
 use crate::lookup::observations::add_observations;
 use crate::lookup::paths::add_path_eqs;
 use crate::lookup::schema_parts::{add_attributes, add_entities, add_keys, declared_names};
-use crate::lookup::{Symbol, TheoryRefusal};
 use crate::parts::{ObsPart, SchemaParts};
 use crate::presentation::Sort;
+use crate::refusal::TheoryRefusal;
 use crate::term::TypeTerm;
 use crate::typeside::Typeside;
 use cq_base::{Hashing, Name, Names, Seq};

@@ -6,9 +6,9 @@ ghost use Rattle.cq_base.specs.Names.{number_of};
 ghost use Rattle.cq_theory.specs.Typeside.{IsTypeside, constant_names, function_names, constant_type};
 
 use crate::constant::{Con, is_reserved};
-use crate::lookup::TheoryRefusal;
 use crate::lookup::typeside_parts::{add_constants, add_functions, add_types, find_open_type};
 use crate::parts::TypesideParts;
+use crate::refusal::TheoryRefusal;
 use cq_base::{Name, Names, Seq};
 use std::alloc::Global;
 use std::marker::Model;

@@ -9,15 +9,15 @@ use Rattle.cq_clash.specs.Clash.{Tells, TellsClash}
 use Rattle.cq_io.specs.Content.{File, find_file}
 use Rattle.cq_io.specs.FolderData.{FolderData}
 use Rattle.cq_io.specs.Reads.{IsReadOf}
-use Rattle.cq_io.specs.declared.folder.ReadRefusal.{ReadRefusal}
-use Rattle.cq_io.specs.declared.folder.ReadRefusal.TheVariants as refused
+use Rattle.cq_io.specs.declared.refusal.ReadRefusal.{ReadRefusal}
+use Rattle.cq_io.specs.declared.refusal.ReadRefusal.TheVariants as refused
 use Rattle.cq_known.specs.Spelled.{IsSpelledFrom}
 use Rattle.cq_known.specs.declared.unknown.Unknown.{Unknown as Found}
 use Rattle.cq_lex.specs.Tokens as lexed
 use Rattle.cq_lex.specs.declared.token.Token.{Token}
 use Rattle.cq_place.specs.Shown.{shown_at}
 use Rattle.cq_program.specs.Folders.{Told}
-use Rattle.cq_environment.specs.declared.reason.ReadCause.{ReadCause}
+use Rattle.cq_environment.specs.declared.refusal.ReadCause.{ReadCause}
 use Rattle.cq_environment.specs.declared.reason.Reason.{Reason}
 use Rattle.cq_environment.specs.declared.reason.Reason.TheVariants.{Inconsistent, Unknown}
 use Rattle.cq_program.specs.Stop.{MeetRules, StopsAt}

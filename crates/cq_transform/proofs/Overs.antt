@@ -3,7 +3,7 @@ use Rattle.std.proofs.Common.{List, [], Some, not, ◌≡◌, ◌||◌}
 use Rattle.std.specs.Prelude.{is_none, option_map, if◌then◌else◌}
 use Rattle.cq_base.specs.declared.name.Name.{Name}
 use Rattle.cq_base.specs.declared.raw.Raw.{Raw}
-use Rattle.cq_theory.specs.declared.lookup.TermRefusal.TheVariants.{Unknown, WrongCount, WrongSort}
+use Rattle.cq_theory.specs.declared.refusal.TermRefusal.TheVariants.{Unknown, WrongCount, WrongSort}
 use Rattle.cq_theory.specs.Declaring.{first_part_fault, duplicate_or}
 use Rattle.cq_theory.specs.Resolve.{has_wrong_count, are_of_one_sort, in_part}
 use Rattle.cq_theory.specs.SchemaData.{SchemaData as Schema}

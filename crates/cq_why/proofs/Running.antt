@@ -4,7 +4,7 @@ use Rattle.std.specs.Prelude.{IfSome, Vec}
 use Rattle.std.specs.declared.alloc.Global.{Global}
 use Rattle.cq_io.specs.FolderData.{FolderData}
 use Rattle.cq_io.specs.Reads.{IsReadOf}
-use Rattle.cq_io.specs.declared.folder.ReadRefusal.{ReadRefusal}
+use Rattle.cq_io.specs.declared.refusal.ReadRefusal.{ReadRefusal}
 use Rattle.cq_program.specs.Named.{listed_as}
 use Rattle.cq_program.specs.declared.declarations.Named.{Named}
 use Rattle.cq_program.specs.declared.stops.Stop.{Stop}

@@ -2,6 +2,7 @@
 ghost use Rattle.std.specs.Prelude.{◌≡◌, map, string_bytes};
 ghost use Rattle.cq_asked.specs.Asked.{run_words};
 ghost use Rattle.cq_words.specs.Reads.{reads};
+ghost use Rattle.cq_run.specs.Scene.{drain_of};
 ghost use Rattle.cq_run.specs.Writing.{Tells};
 ghost use Rattle.cq_why.specs.Clause.{WhyGives};
 
@@ -25,8 +26,8 @@ pub fn why<F: Folder + Listing, K: Sink>(
 ) -> Status
     ensures files { (F.state folder.new).files ≡ (F.state folder.old).files }
     ensures gives { WhyGives (reads (run_words (map string_bytes words.now))) (F.state folder.old)
-        (record { held = K.held out.old; faults = K.faults out.old; spare = K.spare out.old })
-        (record { held = K.held out.new; faults = K.faults out.new; spare = K.spare out.new })
+        (drain_of (K.held out.old) (K.faults out.old) (K.spare out.old))
+        (drain_of (K.held out.new) (K.faults out.new) (K.spare out.new))
         result }
 {
     match reply_to(alloc, words, folder) {
@@ -37,8 +38,8 @@ pub fn why<F: Folder + Listing, K: Sink>(
 
 /// Writes a text, with the status that the run then has.
 fn tell<K: Sink>(out: &mut K, text: &[u8], wanted: Status) -> Status
-    ensures { Tells wanted result (record { held = K.held out.old; faults = K.faults out.old; spare = K.spare out.old })
-        (record { held = K.held out.new; faults = K.faults out.new; spare = K.spare out.new }) text.now }
+    ensures { Tells wanted result (drain_of (K.held out.old) (K.faults out.old) (K.spare out.old))
+        (drain_of (K.held out.new) (K.faults out.new) (K.spare out.new)) text.now }
 {
     match out.write_all(text) {
         Ok(()) => wanted,

@@ -1,7 +1,7 @@
 //! Why the rows of a presentation don't close within a depth.
 ghost use Rattle.std.specs.Prelude.{List, ℕ, ◌≡◌, ◌≤◌, ◌++◌, Err, IfOk, OnOk, slice_get};
 ghost use Rattle.cq_rows.specs.Saturated.{IsSaturated, SomeWide};
-ghost use Rattle.cq_rows.specs.declared.grow.RowsRefusal.TheVariants.{TooManyRows};
+ghost use Rattle.cq_rows.specs.declared.refusal.RowsRefusal.TheVariants.{TooManyRows};
 ghost use Rattle.cq_theory.specs.Presentation.{IsPresentation};
 ghost use Rattle.cq_witness.specs.Depth.{edge_source, end_text, first_key as first_key_of};
 ghost use Rattle.cq_witness.specs.Depth.{first_step as step_of_term, new_text, other_text};

@@ -10,7 +10,8 @@ ghost use Rattle.cq_program.specs.Posed.{an_inclusion};
 ghost use Rattle.cq_program.specs.Colimits.{colimit_breach, colimit_given, colimit_posed, first_apart};
 ghost use Rattle.cq_program.specs.Colimits.{get_mapping_posed, get_schema_posed, included, named_schemas, part_named};
 ghost use Rattle.cq_program.specs.Colimits.{parts_used, posed_colimit};
-ghost use Rattle.cq_environment.specs.Environment.{Answers, AreSettled, Refuses, Tells, colimit_meant, environment_of};
+ghost use Rattle.cq_environment.specs.Environment.{Answers, AreSettled, Tells, TellsChecked};
+ghost use Rattle.cq_environment.specs.Environment.{colimit_meant, environment_of};
 ghost use Rattle.cq_environment.specs.Environment.{IsPartPrinted, part_meant};
 ghost use Rattle.cq_program.specs.Views.{useds_meant};
 ghost use Rattle.cq_environment.specs.Meanings.{Environment as Meanings, SchemaMeant, meant_by, schema_used};
@@ -118,7 +119,7 @@ fn push_schema(
     ensures given { OnOk result ((part : SchemaMeant)
         × (schema_used (environment_of env.now.names.entries) used.now ≡ Ok part)
         × (useds_meant parts.new.items ≡ useds_meant parts.old.items ++ (used.now, part) ∷ [])) }
-    ensures refused { IfErr result (λ refusal. Refuses refusal
+    ensures refused { IfErr result (λ refusal. TellsChecked refusal
         (schema_used (environment_of env.now.names.entries) used.now)) }
 {
     let part = env.schema(used)?;
@@ -160,7 +161,7 @@ fn make_colimit(
     ensures inclusions { IfOk result (λ made. made.inclusions
         ≡ all_inclusions typeside.value (named_schemas (useds_meant parts.now)) (literal_parts literal.now)) }
     ensures preserves { IfOk result (λ made. All Preserves made.inclusions) }
-    ensures refused { (name : TheName) → IfErr result (λ refusal. Refuses refusal
+    ensures refused { (name : TheName) → IfErr result (λ refusal. TellsChecked refusal
         (colimit_given place literal.now name typeside.value (useds_meant parts.now))) }
 {
     let named = name_schemas(alloc, parts)?;

@@ -6,7 +6,7 @@ ghost use Rattle.cq_program.specs.Posed.{a_made, an_eval};
 ghost use Rattle.cq_environment.specs.Environment.{IsModelled, Tells, meant};
 ghost use Rattle.cq_eval.specs.declared.refusal.EvalRefusal.TheVariants.{TooManyAnswers as HasMany, TooLarge, Memory};
 ghost use Rattle.cq_environment.specs.declared.reason.Reason.TheVariants.{TooManyAnswers, Oversized};
-ghost use Rattle.cq_program.specs.Judging.{Withholds};
+ghost use Rattle.cq_program.specs.Judging.{TellsUnmade};
 ghost use Rattle.cq_program.specs.Program.{Stands};
 
 use crate::made::{mean_model, share_instance};
@@ -31,7 +31,7 @@ pub fn mean_eval(
     requires over { instance.now.schema ≡ query.now.source }
     ensures stands { IfOk result (λ meaning. Stands (an_eval name query.now instance.now.tables) (meant meaning)) }
     ensures modelled { IfOk result (λ meaning. IsModelled (meant meaning)) }
-    ensures withholds { (depth : ℕ) → IfErr result (Withholds depth place
+    ensures refused { (depth : ℕ) → IfErr result (TellsUnmade depth place
         (an_eval name query.now instance.now.tables)) }
 {
     let made = query.query(alloc)?;
@@ -50,7 +50,7 @@ fn mean_eval_made(
     requires over { instance.now.schema ≡ query.now.source }
     ensures stands { IfOk result (λ meaning. Stands (an_eval name query.now instance.now.tables) (meant meaning)) }
     ensures modelled { IfOk result (λ meaning. IsModelled (meant meaning)) }
-    ensures withholds { (depth : ℕ) → IfErr result (Withholds depth place
+    ensures refused { (depth : ℕ) → IfErr result (TellsUnmade depth place
         (an_eval name query.now instance.now.tables)) }
 {
     query.is_well_sorted();
@@ -102,7 +102,7 @@ pub fn mean_coeval(
     ensures stands { IfOk result (λ meaning. Stands
         (a_made name query.now.source (coeval_of query.now instance.now.tables)) (meant meaning)) }
     ensures modelled { IfOk result (λ meaning. IsModelled (meant meaning)) }
-    ensures withholds { IfErr result (Withholds depth place
+    ensures refused { IfErr result (TellsUnmade depth place
         (a_made name query.now.source (coeval_of query.now instance.now.tables))) }
 {
     let made = query.query(alloc)?;
@@ -123,7 +123,7 @@ fn mean_coeval_made(
     ensures stands { IfOk result (λ meaning. Stands
         (a_made name query.now.source (coeval_of query.now instance.now.tables)) (meant meaning)) }
     ensures modelled { IfOk result (λ meaning. IsModelled (meant meaning)) }
-    ensures withholds { IfErr result (Withholds depth place
+    ensures refused { IfErr result (TellsUnmade depth place
         (a_made name query.now.source (coeval_of query.now instance.now.tables))) }
 {
     query.is_well_sorted();

@@ -7,7 +7,7 @@ ghost use Rattle.cq_program.specs.Posed.{a_made};
 ghost use Rattle.cq_program.specs.Gluing.{pushed_out};
 ghost use Rattle.cq_environment.specs.Environment.{IsModelled, meant, transform_meant};
 ghost use Rattle.cq_program.specs.Posing.{AreSpan};
-ghost use Rattle.cq_program.specs.Judging.{Withholds};
+ghost use Rattle.cq_program.specs.Judging.{TellsUnmade};
 ghost use Rattle.cq_program.specs.Program.{Stands};
 
 use crate::made::{mean_model, typeside_of};
@@ -34,7 +34,7 @@ pub fn mean_coproduct(
     ensures stands { IfOk result (λ meaning. Stands
         (a_made name schema.value (coproduct_of (map (λ part. part.value.presentation) parts.now))) (meant meaning)) }
     ensures modelled { IfOk result (λ meaning. IsModelled (meant meaning)) }
-    ensures withholds { IfErr result (Withholds depth place
+    ensures refused { IfErr result (TellsUnmade depth place
         (a_made name schema.value (coproduct_of (map (λ part. part.value.presentation) parts.now)))) }
 {
     schema.is_well_sorted();
@@ -68,7 +68,7 @@ pub fn mean_pushout(
     ensures stands { IfOk result (λ meaning. Stands (pushed_out (transform_meant left.now) (transform_meant right.now))
         (meant meaning)) }
     ensures modelled { IfOk result (λ meaning. IsModelled (meant meaning)) }
-    ensures withholds { IfErr result (Withholds depth place
+    ensures refused { IfErr result (TellsUnmade depth place
         (pushed_out (transform_meant left.now) (transform_meant right.now))) }
 {
     let first: &Transform = &left.transform;

@@ -3,7 +3,7 @@ ghost use Rattle.std.specs.Prelude.{◌≡◌, ◌++◌, ◌∷◌, [], IfOk, If
 ghost use Rattle.cq_base.specs.declared.name.Name.{Name as TheName};
 ghost use Rattle.cq_environment.specs.Meanings.{InstanceMeant, instance_used};
 ghost use Rattle.cq_program.specs.Gluing.{coproduct_posed, first_misfit, operands_used, pushout_posed};
-ghost use Rattle.cq_environment.specs.Environment.{Answers, AreSettled, Refuses, environment_of};
+ghost use Rattle.cq_environment.specs.Environment.{Answers, AreSettled, TellsChecked, environment_of};
 ghost use Rattle.cq_program.specs.Views.{operands_meant};
 ghost use Rattle.cq_program.specs.Posing.{IsGrounded, IsPosed, posed_as};
 
@@ -72,7 +72,7 @@ fn push_operand(
     ensures given { OnOk result ((part : InstanceMeant)
         × (instance_used (environment_of env.now.names.entries) used.now ≡ Ok part)
         × (operands_meant operands.new.items ≡ operands_meant operands.old.items ++ (used.now.place, part) ∷ [])) }
-    ensures refused { IfErr result (λ refusal. Refuses refusal
+    ensures refused { IfErr result (λ refusal. TellsChecked refusal
         (instance_used (environment_of env.now.names.entries) used.now)) }
 {
     let part = instance_of(env, used)?;

@@ -5,7 +5,7 @@ ghost use Rattle.cq_import.specs.Folders.{Keeps, Raises};
 ghost use Rattle.cq_theory.specs.Presentation.{IsPresentation};
 ghost use Rattle.cq_program.specs.Checks.{a_folder};
 ghost use Rattle.cq_program.specs.Folders.{IsImportOf, OfFolder, Reads};
-ghost use Rattle.cq_program.specs.Posing.{IsPosed, IsStated, RefusesReading, TellsImport, posed_as, stated_as};
+ghost use Rattle.cq_program.specs.Posing.{IsPosed, IsStated, TellsReading, TellsImport, posed_as, stated_as};
 
 use crate::imports::stating::{FolderImport, Format};
 use crate::statement::{Stated, Statement};
@@ -27,7 +27,7 @@ pub fn read_stated<F: Folder>(
     ensures reads { IfOk result (λ s. Reads (F.state folder.old).files (stated_as stated) (posed_as s)) }
     ensures well_sorted { IfOk result IsPosed }
     ensures keeps { Keeps (F.state folder.old) (F.state folder.new) }
-    ensures refuses { IfErr result (RefusesReading place (F.state folder.old) (F.state folder.new) (stated_as stated)) }
+    ensures refused { IfErr result (TellsReading place (F.state folder.old) (F.state folder.new) (stated_as stated)) }
 {
     match stated {
         Stated::AtOnce(statement) => Ok(statement),
@@ -46,7 +46,7 @@ fn read_folder<F: Folder>(
         (a_folder files.format files.name files.schema.value files.dir) (posed_as s)) }
     ensures well_sorted { IfOk result IsPosed }
     ensures keeps { Keeps (F.state folder.old) (F.state folder.new) }
-    ensures refuses { IfErr result (RefusesReading place (F.state folder.old) (F.state folder.new)
+    ensures refused { IfErr result (TellsReading place (F.state folder.old) (F.state folder.new)
         (a_folder files.format files.name files.schema.value files.dir)) }
 {
     match import_files(alloc, &files, folder) {

@@ -3,7 +3,7 @@ ghost use Rattle.std.specs.Prelude.{◌≤◌, IfOk, IfErr};
 ghost use Rattle.cq_theory.specs.Presentation.{IsPresentation};
 ghost use Rattle.cq_program.specs.Program.{Stands};
 ghost use Rattle.cq_environment.specs.Environment.{IsModelled, meant};
-ghost use Rattle.cq_program.specs.Judging.{Withholds};
+ghost use Rattle.cq_program.specs.Judging.{TellsUnmade};
 ghost use Rattle.cq_program.specs.Posed.{a_presentation};
 
 use crate::made::{share_instance, tell_clash};
@@ -27,7 +27,7 @@ pub fn mean_presentation(
     requires depth { depth ≤ 64 }
     ensures stands { IfOk result (λ meaning. Stands (a_presentation name schema.value presentation) (meant meaning)) }
     ensures modelled { IfOk result (λ meaning. IsModelled (meant meaning)) }
-    ensures withholds { IfErr result (Withholds depth place (a_presentation name schema.value presentation)) }
+    ensures refused { IfErr result (TellsUnmade depth place (a_presentation name schema.value presentation)) }
 {
     schema.is_well_sorted();
     let over = schema.clone()?;

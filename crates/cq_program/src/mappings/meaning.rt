@@ -2,7 +2,7 @@
 ghost use Rattle.std.specs.Prelude.{◌≡◌, ◌≤◌, IfOk, IfErr};
 ghost use Rattle.cq_program.specs.Program.{Stands};
 ghost use Rattle.cq_environment.specs.Environment.{IsModelled, meant};
-ghost use Rattle.cq_program.specs.Judging.{Withholds};
+ghost use Rattle.cq_program.specs.Judging.{TellsUnmade};
 ghost use Rattle.cq_environment.specs.Meanings.{mapping};
 ghost use Rattle.cq_program.specs.Posed.{a_mapping, an_identity};
 
@@ -27,7 +27,7 @@ pub fn mean_mapping(
     requires depth { depth ≤ 64 }
     ensures stands { IfOk result (λ meaning. Stands (a_mapping source target mapping) (meant meaning)) }
     ensures modelled { IfOk result (λ meaning. IsModelled (meant meaning)) }
-    ensures withholds { IfErr result (Withholds depth place (a_mapping source target mapping)) }
+    ensures refused { IfErr result (TellsUnmade depth place (a_mapping source target mapping)) }
 {
     match check_mapping(alloc, &mapping, depth) {
         Ok(()) => Ok(share_mapping(alloc, source, target, mapping)?),

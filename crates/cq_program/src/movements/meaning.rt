@@ -7,7 +7,7 @@ ghost use Rattle.cq_environment.specs.Environment.{transform_meant};
 ghost use Rattle.cq_environment.specs.Meanings.{transform as meant_transform};
 ghost use Rattle.cq_program.specs.Posing.{IsMovement, IsMoving, IsMovingAlong, IsMovingAround, carried};
 ghost use Rattle.cq_program.specs.Carrying.{carried_as};
-ghost use Rattle.cq_program.specs.Judging.{Withholds};
+ghost use Rattle.cq_program.specs.Judging.{TellsUnmade};
 ghost use Rattle.cq_program.specs.MovedImages.{AreAround, AreImages, AreMoved, HasImages, TellsLong};
 ghost use Rattle.cq_program.specs.Program.{Stands};
 
@@ -28,7 +28,7 @@ pub fn mean_move(alloc: Global, place: Place, moving: Moving) -> Result<Meaning,
     requires { IsMoving (move_meant moving) }
     ensures stands { IfOk result (λ meaning. Stands (a_move (move_meant moving)) (meant meaning)) }
     ensures modelled { IfOk result (λ meaning. IsModelled (meant meaning)) }
-    ensures withholds { (depth : ℕ) → IfErr result (Withholds depth place (a_move (move_meant moving))) }
+    ensures refused { (depth : ℕ) → IfErr result (TellsUnmade depth place (a_move (move_meant moving))) }
 {
     let start: &Instance = &moving.ends.start.instance;
     is_over_schema(start);

@@ -4,7 +4,7 @@ ghost use Rattle.cq_mapping.specs.Duties.{Preserves};
 ghost use Rattle.cq_mapping.specs.Images.{sigma as moved};
 ghost use Rattle.cq_program.specs.Posed.{a_delta, a_made};
 ghost use Rattle.cq_environment.specs.Environment.{IsModelled, meant};
-ghost use Rattle.cq_program.specs.Judging.{Withholds};
+ghost use Rattle.cq_program.specs.Judging.{TellsUnmade};
 ghost use Rattle.cq_program.specs.Program.{Stands};
 
 use crate::made::{mean_model, share_instance};
@@ -28,7 +28,7 @@ pub fn mean_delta(
     requires over { instance.now.schema ≡ mapping.now.target }
     ensures stands { IfOk result (λ meaning. Stands (a_delta name mapping.now instance.now.tables) (meant meaning)) }
     ensures modelled { IfOk result (λ meaning. IsModelled (meant meaning)) }
-    ensures withholds { (depth : ℕ) → IfErr result (Withholds depth place
+    ensures refused { (depth : ℕ) → IfErr result (TellsUnmade depth place
         (a_delta name mapping.now instance.now.tables)) }
 {
     match delta(alloc, mapping, instance) {
@@ -52,7 +52,7 @@ pub fn mean_sigma(
     ensures stands { IfOk result (λ meaning. Stands
         (a_made name mapping.now.target (moved mapping.now instance.now.presentation)) (meant meaning)) }
     ensures modelled { IfOk result (λ meaning. IsModelled (meant meaning)) }
-    ensures withholds { IfErr result (Withholds depth place
+    ensures refused { IfErr result (TellsUnmade depth place
         (a_made name mapping.now.target (moved mapping.now instance.now.presentation))) }
 {
     mapping.is_well_sorted();

@@ -6,7 +6,7 @@ ghost use Rattle.cq_base.specs.declared.place.Place.{Place as ThePlace};
 ghost use Rattle.cq_environment.specs.Meanings.{query as meant_query};
 ghost use Rattle.cq_program.specs.Posed.{a_composite, a_mapping_query, a_query};
 ghost use Rattle.cq_environment.specs.Environment.{IsModelled, meant};
-ghost use Rattle.cq_program.specs.Judging.{Withholds};
+ghost use Rattle.cq_program.specs.Judging.{TellsUnmade};
 ghost use Rattle.cq_program.specs.Program.{Stands};
 
 use crate::duties::tell_unmet;
@@ -33,7 +33,7 @@ pub fn mean_query(
     requires depth { depth ≤ 64 }
     ensures stands { IfOk result (λ meaning. Stands (a_query source target query) (meant meaning)) }
     ensures modelled { IfOk result (λ meaning. IsModelled (meant meaning)) }
-    ensures withholds { IfErr result (Withholds depth place (a_query source target query)) }
+    ensures refused { IfErr result (TellsUnmade depth place (a_query source target query)) }
 {
     match check_query(alloc, &query, depth) {
         Ok(()) => Ok(share_query(alloc, source, target, query)?),
@@ -87,7 +87,7 @@ pub fn mean_composite(
     ensures stands { IfOk result (λ meaning. Stands
         (a_composite source target first.now second.now) (meant meaning)) }
     ensures modelled { IfOk result (λ meaning. IsModelled (meant meaning)) }
-    ensures withholds { (depth : ℕ) → IfErr result (Withholds depth place
+    ensures refused { (depth : ℕ) → IfErr result (TellsUnmade depth place
         (a_composite source target first.now second.now)) }
 {
     match LazyQuery::compose(alloc, first, second) {
@@ -107,7 +107,7 @@ pub fn mean_mapping_query(
     requires preserves { Preserves mapping.now }
     ensures stands { IfOk result (λ meaning. Stands (a_mapping_query source target mapping.now) (meant meaning)) }
     ensures modelled { IfOk result (λ meaning. IsModelled (meant meaning)) }
-    ensures withholds { (depth : ℕ) (place : ThePlace) → IfErr result (Withholds depth place
+    ensures refused { (depth : ℕ) (place : ThePlace) → IfErr result (TellsUnmade depth place
         (a_mapping_query source target mapping.now)) }
 {
     let query = mapping_query(alloc, mapping)?;

@@ -2,7 +2,7 @@
 ghost use Rattle.std.specs.Prelude.{◌≡◌, ◌⊎◌, IfOk, IfErr, Some, None};
 ghost use Rattle.cq_theory.specs.ArrowRefusals.{of_arrow as refusal_of_arrow, first_missing};
 
-use crate::lookup::{ArrowRefusal, TheoryRefusal};
+use crate::refusal::{ArrowRefusal, TheoryRefusal};
 use cq_base::{Name, Names};
 
 /// The same refusal, of a mapping or a query.

@@ -7,10 +7,11 @@ ghost use Rattle.cq_theory.specs.Resolved.{resolved, type_term_in, entity_term_i
 ghost use Rattle.cq_theory.specs.Resolved.{constant_term, word_term, symbol_term};
 
 use crate::constant::Con;
+use crate::lookup::Symbol;
 use crate::lookup::faults::term_fault;
-use crate::lookup::{Symbol, TermRefusal};
 use crate::path::Path;
 use crate::presentation::{Equation, Sort};
+use crate::refusal::TermRefusal;
 use crate::schema::Schema;
 use crate::term::{EntTerm, Term, TypeTerm};
 use cq_base::{Name, Names, Raw, Seq};

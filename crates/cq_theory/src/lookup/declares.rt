@@ -2,7 +2,7 @@
 ghost use Rattle.std.specs.Prelude.{◌≡◌, ◌-◌, ◌<◌, ◌^◌, ◌⊎◌, ◌++◌, ◌∷◌, [], true, IfOk, IfErr, None, length, is_some};
 ghost use Rattle.cq_base.specs.Names.{number_of};
 
-use crate::lookup::TheoryRefusal;
+use crate::refusal::TheoryRefusal;
 use cq_base::{Name, Names};
 
 /// Adds the name that a part declares to its table.

@@ -6,8 +6,8 @@ ghost use Rattle.cq_theory.specs.Resolve.{has_reserved as reserved_in};
 ghost use Rattle.cq_theory.specs.Resolve.{in_part, are_of_one_sort};
 
 use crate::lookup::passes::{has_reserved, has_unknown, has_wrong_count, sort_of_raw};
-use crate::lookup::{TermRefusal, TheoryRefusal};
 use crate::presentation::Sort;
+use crate::refusal::{TermRefusal, TheoryRefusal};
 use crate::schema::Schema;
 use cq_base::{Names, Raw};
 

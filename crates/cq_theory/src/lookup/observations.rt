@@ -10,14 +10,15 @@ ghost use Rattle.cq_theory.specs.SchemaParts.{is_unknown_entity as unknown_entit
 ghost use Rattle.cq_theory.specs.SchemaParts.{have_one_type as one_type, observation_fault_over, observation_fault};
 ghost use Rattle.cq_theory.specs.SchemaParts.{made_observation_over, made_observation};
 
+use crate::lookup::Symbol;
 use crate::lookup::builds::{build, type_term};
 use crate::lookup::faults::{in_part_of, is_too_large};
 use crate::lookup::passes::{
     entity_of_sort, has_reserved, has_unknown, has_wrong_count, sort_of_raw,
 };
-use crate::lookup::{Symbol, TermRefusal, TheoryRefusal};
 use crate::parts::ObsPart;
 use crate::presentation::Sort;
+use crate::refusal::{TermRefusal, TheoryRefusal};
 use crate::schema::{ObsEq, Schema};
 use crate::term::TypeTerm;
 use cq_base::{Name, Names, Raw};

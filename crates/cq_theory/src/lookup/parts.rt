@@ -11,16 +11,13 @@ ghost use Rattle.cq_theory.specs.Parts.{first_generator_fault, generator_names, 
 use crate::lookup::builds::make_equation;
 use crate::lookup::faults::{have_one_sort, in_part_of, sorted_sides_rule, unsorted_sides_rule};
 use crate::lookup::typed::typed_term;
-use crate::lookup::{TermRefusal, TheoryRefusal};
 use crate::parts::PresentationParts;
-use crate::presentation::{Equation, Presentation, Sort};
+use crate::presentation::{Equation, MOST_GENERATORS, Presentation, Sort};
+use crate::refusal::{TermRefusal, TheoryRefusal};
 use crate::schema::Schema;
 use crate::term::Term;
 use cq_base::{Name, Names, Raw, Seq};
 use std::alloc::{AllocError, Global};
-
-/// The most generators of a presentation.
-const MOST_GENERATORS: u32 = 16_000_000;
 
 /// Adds the name of generator `part` to the names, and gives its sort.
 fn add_generator(

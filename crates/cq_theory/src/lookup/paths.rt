@@ -12,7 +12,7 @@ ghost use Rattle.cq_theory.specs.Paths.{key_path_symbols, path_eq_fault as fault
 ghost use Rattle.std.specs.Prelude.{slice_get, nat_lt, ◌-◌};
 
 use crate::lookup::faults::in_part_of;
-use crate::lookup::{TermRefusal, TheoryRefusal};
+use crate::refusal::{TermRefusal, TheoryRefusal};
 use crate::schema::{PathEq, Schema};
 use cq_base::{Name, Names, Seq};
 use std::alloc::{AllocError, Global};

@@ -12,10 +12,10 @@ ghost use Rattle.cq_theory.specs.SchemaParts.{entities_fault, key_ends_fault, ke
 ghost use Rattle.cq_theory.specs.SchemaParts.{attribute_ends_fault, attribute_fault, attributes_fault, entity_named};
 ghost use Rattle.cq_theory.specs.SchemaParts.{type_named, made_key, made_attribute, part_names};
 
-use crate::lookup::TheoryRefusal;
 use crate::lookup::declares::declare;
 use crate::lookup::passes::{entity_of_sort, type_of_sort};
 use crate::presentation::Sort;
+use crate::refusal::TheoryRefusal;
 use crate::schema::{Edge, Schema};
 use crate::typeside::Typeside;
 use cq_base::{Name, Names};

@@ -7,8 +7,8 @@ ghost use Rattle.cq_theory.specs.TypesideParts.{function_fault, types_fault, con
 ghost use Rattle.cq_theory.specs.TypesideParts.{has_unknown_type, type_number, made_constant, made_function};
 
 use crate::constant::is_reserved;
-use crate::lookup::TheoryRefusal;
 use crate::lookup::declares::declare;
+use crate::refusal::TheoryRefusal;
 use crate::typeside::Fun;
 use cq_base::{Name, Names, Seq};
 use std::alloc::Global;

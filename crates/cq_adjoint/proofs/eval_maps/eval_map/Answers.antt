@@ -1,6 +1,6 @@
 use Rattle.std.proofs.Common.{ℕ, List, true, ◌≡◌, ◌⊎◌, Vec, Global, map, IfOk, IfErr, sym, ap, subst, ◌∙◌}
 use Rattle.std.proofs.lemmas.Option.{slice_get-get_or}
-use Rattle.cq_theory.specs.declared.lookup.SizeRefusal.TheVariants.{TooLarge, Memory}
+use Rattle.cq_theory.specs.declared.refusal.SizeRefusal.TheVariants.{TooLarge, Memory}
 use Rattle.cq_instance.specs.InstanceData.{InstanceData}
 use Rattle.cq_instance.specs.declared.transform.Transform.{Transform}
 use Rattle.cq_query.specs.QueryData.{QueryData as Query}

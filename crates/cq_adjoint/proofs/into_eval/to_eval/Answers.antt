@@ -1,5 +1,5 @@
 use Rattle.std.proofs.Common.{ℕ, List, true, ◌≡◌, ◌≤◌, ◌+◌, ◌⊎◌, Vec, Global, map, length, IfOk, IfErr, sym, ap, subst, ◌∙◌, arith}
-use Rattle.cq_theory.specs.declared.lookup.SizeRefusal.TheVariants.{TooLarge, Memory}
+use Rattle.cq_theory.specs.declared.refusal.SizeRefusal.TheVariants.{TooLarge, Memory}
 use Rattle.cq_theory.specs.declared.value.Sheet.{Sheet}
 use Rattle.std.proofs.lemmas.Option.{slice_get-get_or}
 use Rattle.cq_instance.specs.InstanceData.{InstanceData}

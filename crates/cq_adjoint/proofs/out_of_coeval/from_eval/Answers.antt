@@ -1,5 +1,5 @@
 use Rattle.std.proofs.Common.{ℕ, List, true, ◌≡◌, ◌⊎◌, Vec, Global, map, IfOk, IfErr, sym, subst, ◌∙◌}
-use Rattle.cq_theory.specs.declared.lookup.SizeRefusal.TheVariants.{TooLarge, Memory}
+use Rattle.cq_theory.specs.declared.refusal.SizeRefusal.TheVariants.{TooLarge, Memory}
 use Rattle.cq_theory.specs.declared.term.TypeTerm.{TypeTerm}
 use Rattle.cq_instance.specs.InstanceData.{InstanceData}
 use Rattle.cq_instance.specs.Spelling.{AreNullsSpelled, null_term_of, null_terms_of, term_among}

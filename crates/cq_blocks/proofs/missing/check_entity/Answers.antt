@@ -1,5 +1,5 @@
 use Rattle.std.proofs.Common.{ℕ, List, None, Some, ◌≡◌, ◌⊎◌, IfOk, IfErr, subst}
-use Rattle.cq_theory.specs.declared.lookup.ArrowRefusal.TheVariants.{Memory}
+use Rattle.cq_theory.specs.declared.refusal.ArrowRefusal.TheVariants.{Memory}
 use Rattle.cq_theory.specs.Groups.{positions}
 use Rattle.cq_theory.specs.Groups.{edge_sources}
 use Rattle.cq_blocks.specs.Blocks.{missing_in}

@@ -1,7 +1,7 @@
 use Rattle.std.proofs.lemmas.Grind.{common_steps}
 use Rattle.std.proofs.lemmas.List.FromFn.{length-map-range_with_len}
 use Rattle.std.proofs.Common.{◌≡◌, ◌⊎◌, Some, length, ap, ◌∙◌, arith, rules}
-use Rattle.cq_theory.specs.declared.lookup.TheoryRefusal.TheVariants.{Memory}
+use Rattle.cq_theory.specs.declared.refusal.TheoryRefusal.TheVariants.{Memory}
 use Rattle.cq_blocks.specs.Blocks.{variables_fault}
 use Rattle.cq_blocks.proofs.Scoping.{inside, tabled_more, rest_more, refused_either}
 use Rattle.cq_blocks.proofs.scopes.check_variables.Goals as goal

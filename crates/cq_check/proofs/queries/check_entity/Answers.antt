@@ -1,7 +1,7 @@
 use Rattle.std.proofs.Common.{ℕ, Some, ◌≡◌, ◌∙◌, length, ap, sym, subst, arith}
 use Rattle.std.specs.Prelude.{slice_get}
 use Rattle.cq_check.specs.Answers.{IsWellSorted, IsDerived, IsTooDeep, IsTooWide, AreMetOf, frozen_over, duty_equation}
-use Rattle.cq_check.specs.declared.duties.CheckRefusal.TheVariants.{NotPreserved, Depth, TooManyRows}
+use Rattle.cq_check.specs.declared.refusal.CheckRefusal.TheVariants.{NotPreserved, Depth, TooManyRows}
 use Rattle.cq_check.proofs.Lists.{item_at}
 use Rattle.cq_check.proofs.Numbered.{one_more_met, first_unmet, first_too_deep, first_too_wide}
 use Rattle.cq_check.proofs.QueryDuties.{duty_read, duties_counted, one_sort, same_refusal}

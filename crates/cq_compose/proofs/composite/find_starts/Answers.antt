@@ -11,15 +11,15 @@ use Rattle.cq_compose.proofs.composite.find_starts.Goals as goal
 pub overflow_add-total : goal.overflow_add-total
 overflow_add-total c = omega (arith, c.loop-var.invariant.few, c.is_well_sorted.ensures.few c.var-item.result.1, c.width_at-width.ensures)
 
-pub returns-then-total-gt16000000 : goal.returns-then-total-gt16000000
-returns-then-total-gt16000000 c =
+pub returns-then-total : goal.returns-then-total
+returns-then-total c =
     let Q = c.args.first.now in
     let vars = c.args.vars.now in
     let i : ℕ = c.loop-var.var-index in
     let grown : c.loop-var.total + c.width_at-width.result ≡ start_in c.args.first.now c.args.vars.now (c.loop-var.var-index + 1) =
     (λ j. c.loop-var.invariant.total j + c.width_at-width.ensures j) ∙ ap (λ (v : Name × ℕ). start_in Q vars i + length (variables_at Q v.1)) c.var-item.is
     ∙ sym (start_more Q vars i c.var-item.result c.loop-var-test.true) in
-    omega (arith, grown, sum_of_first (λ (v : Name × ℕ). length (variables_at Q v.1)) vars (i + 1), c.if-total-gt16000000.true)
+    omega (arith, grown, sum_of_first (λ (v : Name × ℕ). length (variables_at Q v.1)) vars (i + 1), c.if-total.true)
 
 pub loop-var-preserved : goal.loop-var-preserved
 loop-var-preserved c =
@@ -30,7 +30,7 @@ loop-var-preserved c =
       total = (λ j. c.loop-var.invariant.total j + c.width_at-width.ensures j) ∙ ap (λ (v : Name × ℕ). start_in Q vars i + length (variables_at Q v.1)) c.var-item.is
           ∙ sym (start_more Q vars i c.var-item.result c.loop-var-test.true);
       starts = c.in_ok-push.ensures.items ∙ (λ j. c.loop-var.invariant.starts j ++ c.loop-var.invariant.total j ∷ []) ∙ sym (map_below_more (start_in Q vars) i);
-      few = omega (arith, c.if-total-gt16000000.false);
+      few = omega (arith, c.if-total.false);
     }
 
 pub returns : goal.returns

@@ -1,7 +1,7 @@
 use Rattle.std.proofs.Common.{◌≡◌, ◌+◌, ◌∙◌, Err, refl, sym, subst, ap, arith}
 use Rattle.std.specs.Prelude.{IfOk}
 use Rattle.cq_rows.specs.Saturated.{IsSaturated, SomeWide}
-use Rattle.cq_rows.specs.declared.grow.RowsRefusal.{RowsRefusal}
+use Rattle.cq_rows.specs.declared.refusal.RowsRefusal.{RowsRefusal}
 use Rattle.cq_growth.specs.Limits.{TellsGrowth}
 use Rattle.cq_growth.proofs.Growing.{tells_passed, tells_kept}
 use Rattle.cq_growth.proofs.limits.last_within.Goals as goal

@@ -5,7 +5,7 @@ use Rattle.cq_theory.specs.SchemaData.{SchemaData}
 use Rattle.cq_import.specs.declared.refusal.CsvRefusal.TheVariants.{TooLarge}
 use Rattle.cq_import.specs.Context.{sheet_in}
 use Rattle.cq_import.specs.Entries.{is_null, presented2, sheets2_fault}
-use Rattle.cq_import.specs.Faults.{Refuses}
+use Rattle.cq_import.specs.Faults.{Tells}
 use Rattle.cq_import.specs.Rows.{rows_of}
 use Rattle.cq_import.proofs.WellFormed2.{if_presented2, many2_refused, present2_made, present2_passed, present2_refused}
 use Rattle.cq_import.proofs.presenting_entries.present_entries.Goals as goal
@@ -81,6 +81,6 @@ returns-clause-refused c =
     let result = c.present_all.result in
     let same = ap (λ (t : List ℕ). length (filter is_null (rows_of t))) c.as_slice-text.ensures.value in
     let fits : c.in-Some.total + length (filter is_null (rows_of bytes)) ≤ 16000000 = omega (arith, found.2, c.args.entries.now.nulls_are, c.if-nulls-total.false, same) in
-    subst (λ (t : List ℕ). IfErr result (λ r. Refuses r (sheets2_fault S sheets (rows_of t) (string_bytes c.args.entries.now.name)))) c.as_slice-text.ensures.value
-    (subst (λ (f : List ℕ). IfErr result (λ r. Refuses r (sheets2_fault S sheets (rows_of bytes) f))) c.as_str-file.ensures.value
+    subst (λ (t : List ℕ). IfErr result (λ r. Tells r (sheets2_fault S sheets (rows_of t) (string_bytes c.args.entries.now.name)))) c.as_slice-text.ensures.value
+    (subst (λ (f : List ℕ). IfErr result (λ r. Tells r (sheets2_fault S sheets (rows_of bytes) f))) c.as_str-file.ensures.value
     (present2_refused S sheets (rows_of bytes) file c.in-Some.total found.1 fits result c.present_all.ensures.refused))

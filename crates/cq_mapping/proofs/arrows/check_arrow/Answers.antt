@@ -1,6 +1,6 @@
 use Rattle.std.proofs.Common.{List, Some, None, ◌≡◌, option_map, subst, sym, ap, inr, ◌∙◌}
 use Rattle.cq_base.specs.declared.name.Name.{Name}
-use Rattle.cq_theory.specs.declared.lookup.TheoryRefusal.{TheoryRefusal}
+use Rattle.cq_theory.specs.declared.refusal.TheoryRefusal.{TheoryRefusal}
 use Rattle.cq_theory.specs.Resolve.{in_part}
 use Rattle.cq_mapping.specs.MappingParts.{arrow_fault, arrow_fault_over}
 use Rattle.cq_mapping.proofs.arrows.check_arrow.Goals as goal

@@ -6,7 +6,7 @@ use Rattle.cq_environment.specs.declared.moved.Moved.{Moved}
 use Rattle.cq_environment.specs.Meanings.{Environment, Meant, binding}
 use Rattle.cq_environment.specs.Environment.{AreSettled, WillSettle, environment_of, meant}
 use Rattle.cq_environment.specs.Moves.{moved_of}
-use Rattle.cq_program.specs.Judging.{RefusesDecl}
+use Rattle.cq_program.specs.Judging.{TellsDecl}
 use Rattle.cq_program.specs.Program.{Declares}
 use Rattle.cq_program.proofs.Poses.{fresh}
 use Rattle.cq_program.proofs.Settled.{AreSettled-more}
@@ -45,9 +45,9 @@ returns-clause-settled g c =
     (AreSettled-more before d.name m (binding d m).2 c.requires.settled (fresh before d declares.stated declares.checked) settled
     (declared_known told before d m c.requires.settled declares))
 
-pub returns-in_err-meaning-clause-refuses : goal.returns-in_err-meaning-clause-refuses
-returns-in_err-meaning-clause-refuses g c =
+pub returns-in_err-meaning-clause-refused : goal.returns-in_err-meaning-clause-refused
+returns-in_err-meaning-clause-refused g c =
     let p = err_from_is_err_and c.from_residual-in_err-meaning.result c.from_residual-in_err-meaning.ensures.1 in
     rw (p.1, p.2)
-    (subst (λ (env : Environment). RefusesDecl c.args.depth (g.F.Folder.state c.args.folder.now) (g.F.Folder.state c.judge.new.folder) env c.args.decl.now c.in_err-meaning.field-0.0)
-    c.in_ok-make_used.ensures c.in_err-meaning.ensures.refuses)
+    (subst (λ (env : Environment). TellsDecl c.args.depth (g.F.Folder.state c.args.folder.now) (g.F.Folder.state c.judge.new.folder) env c.args.decl.now c.in_err-meaning.field-0.0)
+    c.in_ok-make_used.ensures c.in_err-meaning.ensures.refused)

@@ -11,10 +11,10 @@ returns-in-Ok-clause-stops g c = stop_of_meaning c.args.depth _ c.args.program.n
 
 pub returns-in-Err-Stopped-clause-judges : goal.returns-in-Err-Stopped-clause-judges
 returns-in-Err-Stopped-clause-judges g c =
-    by_stop c.args.depth _ _ c.args.program.now _ c.in-Err-Stopped.stop c.stopped.result.answer c.in-Err-Stopped.field-0-is c.in-Err-Stopped.ensures.halts
+    by_stop c.args.depth _ _ c.args.program.now _ c.in-Err-Stopped.stop c.stopped.result.answer c.in-Err-Stopped.field-0-is c.in-Err-Stopped.ensures.refused
     c.stopped.ensures.says
 
 pub returns-in-Err-Stopped-clause-stops : goal.returns-in-Err-Stopped-clause-stops
 returns-in-Err-Stopped-clause-stops g c =
     stop_of_halt c.args.depth _ _ c.args.program.now _ c.in-Err-Stopped.stop c.stopped.result.answer c.stopped.result.stop c.in-Err-Stopped.field-0-is
-    c.in-Err-Stopped.ensures.halts c.stopped.ensures.stop
+    c.in-Err-Stopped.ensures.refused c.stopped.ensures.stop

@@ -1,6 +1,6 @@
 use Rattle.std.proofs.Common.{Bool, ◌≡◌, ◌⊎◌, Some, None, IfOk, IfErr, subst}
 use Rattle.cq_base.specs.declared.name.Name.{Name}
-use Rattle.cq_theory.specs.declared.lookup.TheoryRefusal.TheVariants.{Memory}
+use Rattle.cq_theory.specs.declared.refusal.TheoryRefusal.TheVariants.{Memory}
 use Rattle.cq_theory.specs.Resolve.{first_fault}
 use Rattle.cq_theory.specs.Paths.{path_eq_fault}
 use Rattle.cq_theory.proofs.schema.find_path_eqs.Goals as goal

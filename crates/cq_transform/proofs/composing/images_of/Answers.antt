@@ -1,5 +1,5 @@
 use Rattle.std.proofs.Common.{List, true, ◌≡◌, ◌⊎◌, sym, subst, ◌∙◌}
-use Rattle.cq_theory.specs.declared.lookup.SizeRefusal.TheVariants.{TooLarge, Memory}
+use Rattle.cq_theory.specs.declared.refusal.SizeRefusal.TheVariants.{TooLarge, Memory}
 use Rattle.cq_instance.specs.declared.transform.Image.{Image}
 use Rattle.cq_transform.specs.Composing.{composed_images, has_long}
 use Rattle.cq_transform.proofs.composing.images_of.Goals as goal

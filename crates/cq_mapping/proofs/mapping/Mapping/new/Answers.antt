@@ -1,7 +1,7 @@
 use Rattle.std.proofs.lemmas.Grind.{common_steps}
 use Rattle.std.proofs.Common.{◌≡◌, ◌⊎◌, Some, ◌∙◌, ap, length, subst, arith, rules}
 use Rattle.cq_theory.specs.Schema.{IsSchema}
-use Rattle.cq_theory.specs.declared.lookup.ArrowRefusal.TheVariants.{Memory}
+use Rattle.cq_theory.specs.declared.refusal.ArrowRefusal.TheVariants.{Memory}
 use Rattle.cq_mapping.specs.MappingParts.{mapping_fault}
 use Rattle.cq_mapping.proofs.MadeMappings.{new_fault, new_made, new_is, new_refused, refused_after}
 use Rattle.cq_mapping.proofs.mapping.Mapping.new.Goals as goal

@@ -31,8 +31,8 @@ returns-clause-stands c =
 pub mean_model-requires-clause-modelled : goal.mean_model-requires-clause-modelled
 mean_model-requires-clause-modelled c = are_term_models c.coeval-answer.result c.coeval-answer.ensures.listed
 
-pub returns-clause-withholds : goal.returns-clause-withholds
-returns-clause-withholds c =
+pub returns-clause-refused : goal.returns-clause-refused
+returns-clause-refused c =
     let Q : QueryData = c.args.query.now in
     let M : Tables = c.args.instance.now.tables in
     let is : IsWellFormed Q.target M = subst (λ (S : SchemaData). IsWellFormed S M) c.requires.over c.is_instance.ensures.well_formed in
@@ -40,4 +40,4 @@ returns-clause-withholds c =
     coeval_answers Q M c.args.depth c.coeval-answer.result c.is_well_sorted.ensures is c.coeval-answer.ensures in
     let typeside : c.deref-2.result.now ≡ Q.source.typeside =
     c.deref-2.ensures ∙ ap (λ (S : SchemaData). S.typeside) (c.behind-query.view_is ∙ c.deref.ensures) ∙ ap (λ (R : QueryData). R.source.typeside) c.query.view_is in
-    c.mean_model.ensures.withholds Q.source (coeval_of Q M) c.args.depth typeside of
+    c.mean_model.ensures.refused Q.source (coeval_of Q M) c.args.depth typeside of

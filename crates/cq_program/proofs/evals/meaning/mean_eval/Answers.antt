@@ -3,7 +3,7 @@ use Rattle.cq_query.specs.QueryData.{QueryData}
 use Rattle.cq_query.specs.Duties.{Sound}
 use Rattle.cq_program.specs.Posed.{an_eval}
 use Rattle.cq_environment.specs.Environment.{meant}
-use Rattle.cq_program.specs.Judging.{Withholds}
+use Rattle.cq_program.specs.Judging.{TellsUnmade}
 use Rattle.cq_program.specs.Program.{Stands}
 use Rattle.cq_program.proofs.evals.meaning.mean_eval.Goals as goal
 
@@ -18,7 +18,7 @@ returns-clause-stands c =
     subst (λ (Q : QueryData). IfOk c.mean_eval_made.result (λ meaning. Stands (an_eval c.args.name Q c.args.instance.now.tables) (meant meaning))) (c.deref.ensures ∙ c.in_ok-made.ensures)
     c.mean_eval_made.ensures.stands
 
-pub returns-clause-withholds : goal.returns-clause-withholds
-returns-clause-withholds c = λ depth.
-    subst (λ (Q : QueryData). IfErr c.mean_eval_made.result (Withholds depth c.args.place (an_eval c.args.name Q c.args.instance.now.tables))) (c.deref.ensures ∙ c.in_ok-made.ensures)
-    (c.mean_eval_made.ensures.withholds depth)
+pub returns-clause-refused : goal.returns-clause-refused
+returns-clause-refused c = λ depth.
+    subst (λ (Q : QueryData). IfErr c.mean_eval_made.result (TellsUnmade depth c.args.place (an_eval c.args.name Q c.args.instance.now.tables))) (c.deref.ensures ∙ c.in_ok-made.ensures)
+    (c.mean_eval_made.ensures.refused depth)

@@ -34,8 +34,8 @@ returns-clause-stands c =
 pub mean_model-requires-clause-modelled : goal.mean_model-requires-clause-modelled
 mean_model-requires-clause-modelled c = are_term_models c.coproduct-answer.result c.coproduct-answer.ensures.listed
 
-pub returns-clause-withholds : goal.returns-clause-withholds
-returns-clause-withholds c =
+pub returns-clause-refused : goal.returns-clause-refused
+returns-clause-refused c =
     let S : SchemaData = c.args.schema.value in
     let parts : List Presentation = map (λ part. part.value.presentation) c.args.parts.now in
     let schema : IsSchema S = subst IsSchema c.deref.ensures c.is_well_sorted.ensures in
@@ -43,4 +43,4 @@ returns-clause-withholds c =
     let of : IsAnswerOf S (coproduct_of parts) c.args.depth c.coproduct-answer.result =
     answer_of S (coproduct_of parts) c.args.depth c.coproduct-answer.result schema (coproduct_is S parts all) c.coproduct-answer.ensures in
     let typeside : c.deref-3.result.now ≡ S.typeside = c.deref-3.ensures ∙ ap (λ (T : SchemaData). T.typeside) (c.behind-over.view_is ∙ c.deref-2.ensures ∙ c.in_ok-over.ensures.cases) in
-    c.mean_model.ensures.withholds S (coproduct_of parts) c.args.depth typeside of
+    c.mean_model.ensures.refused S (coproduct_of parts) c.args.depth typeside of

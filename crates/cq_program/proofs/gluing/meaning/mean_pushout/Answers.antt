@@ -11,7 +11,7 @@ use Rattle.cq_push.proofs.Beside.{presented_in}
 use Rattle.cq_program.specs.Posed.{Posed, a_made}
 use Rattle.cq_program.specs.Gluing.{pushed_out}
 use Rattle.cq_environment.specs.Environment.{meant, transform_meant}
-use Rattle.cq_program.specs.Judging.{IsAnswerOf, Withholds}
+use Rattle.cq_program.specs.Judging.{IsAnswerOf, TellsUnmade}
 use Rattle.cq_program.specs.Program.{Stands}
 use Rattle.cq_program.proofs.Answered.{are_term_models, answer_of, clash_named}
 use Rattle.cq_program.proofs.GluedPresentations.{goes_as, pushout_is}
@@ -72,8 +72,8 @@ returns-clause-stands c =
 pub mean_model-requires-clause-modelled : goal.mean_model-requires-clause-modelled
 mean_model-requires-clause-modelled c = are_term_models c.pushout-answer.result c.pushout-answer.ensures.listed
 
-pub returns-clause-withholds : goal.returns-clause-withholds
-returns-clause-withholds c =
+pub returns-clause-refused : goal.returns-clause-refused
+returns-clause-refused c =
     let f = transform_meant c.args.left.now in
     let g = transform_meant c.args.right.now in
     let start : InstanceData = c.deref-start.result.now in
@@ -91,4 +91,4 @@ returns-clause-withholds c =
     let posed : a_made c.in_ok-name.name start.schema P ≡ pushed_out f g =
     λ i. a_made (c.in_ok-name.ensures.cases i) ((c.deref-start.ensures i).schema)
     (pushout_of (c.deref-first.ensures i) (c.deref-second.ensures i) ((c.deref-into_left.ensures i).presentation) ((c.deref-into_right.ensures i).presentation)) in
-    subst (λ (p : Posed). IfErr c.mean_model.result (Withholds c.args.depth c.args.place p)) posed (c.mean_model.ensures.withholds start.schema P c.args.depth c.typeside_of.ensures of)
+    subst (λ (p : Posed). IfErr c.mean_model.result (TellsUnmade c.args.depth c.args.place p)) posed (c.mean_model.ensures.refused start.schema P c.args.depth c.typeside_of.ensures of)

@@ -1,5 +1,5 @@
 use Rattle.std.proofs.Common.{◌∙◌, refl}
-use Rattle.cq_theory.specs.declared.lookup.TheoryRefusal.TheVariants as refusals
+use Rattle.cq_theory.specs.declared.refusal.TheoryRefusal.TheVariants as refusals
 use Rattle.cq_theory.specs.Parts.{presentation_fault, presented}
 use Rattle.cq_theory.specs.declared.parts.PresentationParts.{PresentationParts}
 use Rattle.cq_parts.specs.Parts.{instance_parts, instance_places}

@@ -1,6 +1,6 @@
 use Rattle.std.proofs.Common.{ap, ◌∙◌, refl}
 use Rattle.cq_mapping.specs.MappingData.{MappingData}
-use Rattle.cq_theory.specs.declared.lookup.ArrowRefusal.TheVariants as refusals
+use Rattle.cq_theory.specs.declared.refusal.ArrowRefusal.TheVariants as refusals
 use Rattle.cq_mapping.specs.MappingParts.{mapping_fault, mapping_made}
 use Rattle.cq_parts.specs.Parts.{mapping_parts, mapping_places}
 use Rattle.cq_program.specs.Posed.{arrow_breach}

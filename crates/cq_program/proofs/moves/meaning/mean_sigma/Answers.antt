@@ -32,8 +32,8 @@ returns-clause-stands c =
 pub mean_model-requires-clause-modelled : goal.mean_model-requires-clause-modelled
 mean_model-requires-clause-modelled c = are_term_models c.sigma-answer.result c.sigma-answer.ensures.listed
 
-pub returns-clause-withholds : goal.returns-clause-withholds
-returns-clause-withholds c =
+pub returns-clause-refused : goal.returns-clause-refused
+returns-clause-refused c =
     let F : MappingData = c.args.mapping.now in
     let P : Presentation = c.args.instance.now.presentation in
     let is : IsPresentation F.source P = subst (λ (S : SchemaData). IsPresentation S P) c.requires.over c.is_instance.ensures.presented in
@@ -41,4 +41,4 @@ returns-clause-withholds c =
     sigma_answers F P c.args.depth c.sigma-answer.result c.is_well_sorted.ensures is c.sigma-answer.ensures in
     let typeside : c.deref-2.result.now ≡ F.target.typeside =
     c.deref-2.ensures ∙ ap (λ (S : SchemaData). S.typeside) (c.behind-mapping.view_is ∙ c.deref.ensures) ∙ ap (λ (G : MappingData). G.target.typeside) c.mapping.view_is in
-    c.mean_model.ensures.withholds F.target (sigma F P) c.args.depth typeside of
+    c.mean_model.ensures.refused F.target (sigma F P) c.args.depth typeside of

@@ -1,6 +1,6 @@
 use Rattle.std.proofs.Common.{ap, ◌∙◌, refl}
 use Rattle.cq_query.specs.QueryData.{QueryData}
-use Rattle.cq_theory.specs.declared.lookup.ArrowRefusal.TheVariants as refusals
+use Rattle.cq_theory.specs.declared.refusal.ArrowRefusal.TheVariants as refusals
 use Rattle.cq_query.specs.QueryParts.{query_fault, query_made}
 use Rattle.cq_parts.specs.Parts.{query_parts, query_places}
 use Rattle.cq_program.specs.Posed.{arrow_breach}

@@ -1,5 +1,5 @@
 use Rattle.std.proofs.Common.{◌∙◌, refl, ap}
-use Rattle.cq_theory.specs.declared.lookup.TheoryRefusal.TheVariants as refusals
+use Rattle.cq_theory.specs.declared.refusal.TheoryRefusal.TheVariants as refusals
 use Rattle.cq_theory.specs.SchemaData.{SchemaData}
 use Rattle.cq_theory.specs.SchemaParts.{schema_fault, schema_made}
 use Rattle.cq_parts.specs.Parts.{schema_parts, schema_places}

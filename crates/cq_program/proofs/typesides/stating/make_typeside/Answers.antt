@@ -1,5 +1,5 @@
 use Rattle.std.proofs.Common.{◌∙◌, refl}
-use Rattle.cq_theory.specs.declared.lookup.TheoryRefusal.TheVariants as refusals
+use Rattle.cq_theory.specs.declared.refusal.TheoryRefusal.TheVariants as refusals
 use Rattle.cq_theory.specs.TypesideParts.{typeside_fault, typeside_made}
 use Rattle.cq_parts.specs.Parts.{typeside_parts, typeside_places}
 use Rattle.cq_program.specs.Posed.{part_breach}

@@ -2,7 +2,7 @@ use Rattle.std.proofs.Common.{List, ◌≡◌, ◌⊎◌, Some, None, IfOk, IfEr
 use Rattle.cq_base.specs.declared.name.Name.{Name}
 use Rattle.cq_theory.specs.Resolve.{in_part}
 use Rattle.cq_theory.specs.SchemaParts.{observation_fault, observation_fault_over, made_observation, made_observation_over}
-use Rattle.cq_theory.specs.declared.lookup.TheoryRefusal.TheVariants.{Memory}
+use Rattle.cq_theory.specs.declared.refusal.TheoryRefusal.TheVariants.{Memory}
 use Rattle.cq_theory.proofs.lookup.observations.add_observation.Goals as goal
 
 pub returns-clause-ok : goal.returns-clause-ok
